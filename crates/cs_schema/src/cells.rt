@@ -1,0 +1,239 @@
+//! Cells, and lists of them.
+ghost use Rattle.std.specs.Prelude.{◌≡◌, ◌==◌, ◌<◌, ◌≤◌, [], ◌∷◌, ◌++◌, take, length, slice_get, Some, refl, IfOk, IsTrue, ◌↔◌, OnOk, OnErr};
+ghost use Rattle.std.specs.Option.{option_cmp};
+ghost use Rattle.std.specs.Ordering.{as_partial_cmp, eq_by_cmp};
+ghost use Rattle.std.specs.Cmp.{eq_by_cmp_equiv, partial_equiv_from_equiv, partial_order_from_total};
+ghost use Rattle.cs_schema.specs.Values.{value_cmp, value_eq, value_kind, values, kind_of, IsOfKind};
+ghost use Rattle.cs_schema.specs.ValueOrder.{value_cmp_total};
+ghost use Rattle.cs_schema.specs.Rows.{cell};
+
+use crate::{Kind, Word};
+use std::alloc::{AllocError, Global};
+use std::cmp::Ordering;
+
+/// A cell.
+#[derive(Drop)]
+pub enum Value {
+    Int(i64),
+    Text(Word),
+}
+
+impl Value {
+    /// The kind of the cell.
+    pub fn kind(&self) -> Kind
+        ensures { result ≡ value_kind self.now }
+    {
+        match self {
+            Value::Int(_) => Kind::Int,
+            Value::Text(_) => Kind::Text,
+        }
+    }
+
+    /// The same cell once more.
+    pub fn copy(&self) -> Value
+        ensures { result ≡ self.now }
+    {
+        match self {
+            Value::Int(int) => Value::Int(*int),
+            Value::Text(text) => Value::Text(text.copy()),
+        }
+    }
+}
+
+impl PartialEq for Value {
+    ghost eq = { value_eq };
+
+    ghost laws = { partial_equiv_from_equiv (eq_by_cmp_equiv value_cmp_total) };
+
+    fn eq(&self, other: &Self) -> bool {
+        self.cmp(other).is_eq()
+    }
+}
+
+impl Eq for Value {
+    ghost laws = { eq_by_cmp_equiv value_cmp_total };
+}
+
+impl PartialOrd for Value {
+    ghost partial_cmp = { as_partial_cmp value_cmp };
+
+    ghost laws = { partial_order_from_total value_cmp_total };
+
+    fn partial_cmp(&self, other: &Self) -> Option<Ordering> {
+        Some(self.cmp(other))
+    }
+}
+
+/// Ints by number, texts by their bytes, an int before a text.
+impl Ord for Value {
+    ghost cmp = { value_cmp };
+
+    ghost total = { value_cmp_total };
+
+    ghost matches_partial_cmp = { λ v w. refl };
+
+    ghost matches_eq = { λ v w. refl };
+
+    fn cmp(&self, other: &Self) -> Ordering {
+        match (self, other) {
+            (Value::Int(int), Value::Int(other)) => int.cmp(other),
+            (Value::Int(_), Value::Text(_)) => Ordering::Less,
+            (Value::Text(_), Value::Int(_)) => Ordering::Greater,
+            (Value::Text(text), Value::Text(other)) => text.cmp(other),
+        }
+    }
+}
+
+/// The cells of a column, of one kind.
+#[derive(Drop)]
+pub enum Cells {
+    Ints(Vec<i64>),
+    Texts(Vec<Word>),
+}
+
+impl Cells {
+    /// No cells of a kind.
+    pub fn new(alloc: Global, kind: Kind) -> Cells
+        ensures kind { kind_of result ≡ kind }
+        ensures cells { values result ≡ [] }
+    {
+        match kind {
+            Kind::Int => Cells::Ints(Vec::new(alloc)),
+            Kind::Text => Cells::Texts(Vec::new(alloc)),
+        }
+    }
+
+    /// The kind of all of them.
+    pub fn kind(&self) -> Kind
+        ensures { result ≡ kind_of self.now }
+    {
+        match self {
+            Cells::Ints(_) => Kind::Int,
+            Cells::Texts(_) => Kind::Text,
+        }
+    }
+
+    /// How many cells these are.
+    pub fn len(&self) -> usize
+        ensures { result ≡ length (values self.now) }
+    {
+        match self {
+            Cells::Ints(ints) => ints.len(),
+            Cells::Texts(texts) => texts.len(),
+        }
+    }
+
+    /// Whether there are none.
+    pub fn is_empty(&self) -> bool
+        ensures { result ≡ (length (values self.now) == 0) }
+    {
+        self.len() == 0
+    }
+
+    /// A copy of the cell at a place.
+    pub fn cell(&self, at: usize) -> Value
+        requires { at < length (values self.now) }
+        ensures value { slice_get (values self.now) at ≡ Some result }
+        ensures of_kind { IsOfKind (kind_of self.now) result }
+    {
+        match self {
+            Cells::Ints(ints) => Value::Int(ints[at]),
+            Cells::Texts(texts) => Value::Text(texts[at].copy()),
+        }
+    }
+
+    /// How the cell at a place stands to a value.
+    pub fn compare(&self, at: usize, value: &Value) -> Ordering
+        requires { at < length (values self.now) }
+        ensures { result ≡ option_cmp value_cmp (slice_get (values self.now) at) (Some value.now) }
+    {
+        match (self, value) {
+            (Cells::Ints(ints), Value::Int(int)) => ints[at].cmp(int),
+            (Cells::Ints(_), Value::Text(_)) => Ordering::Less,
+            (Cells::Texts(_), Value::Int(_)) => Ordering::Greater,
+            (Cells::Texts(texts), Value::Text(text)) => texts[at].cmp(text),
+        }
+    }
+
+    /// How the cell at a place stands to a cell of another column.
+    pub fn compare_cell(&self, at: usize, other: &Cells, other_at: usize) -> Ordering
+        requires here { at < length (values self.now) }
+        requires there { other_at < length (values other.now) }
+        ensures { result ≡ option_cmp value_cmp (slice_get (values self.now) at) (slice_get (values other.now) other_at) }
+    {
+        match (self, other) {
+            (Cells::Ints(ints), Cells::Ints(others)) => ints[at].cmp(&others[other_at]),
+            (Cells::Ints(_), Cells::Texts(_)) => Ordering::Less,
+            (Cells::Texts(_), Cells::Ints(_)) => Ordering::Greater,
+            (Cells::Texts(texts), Cells::Texts(others)) => texts[at].cmp(&others[other_at]),
+        }
+    }
+
+    /// Whether the cell at a place is the same as a cell of another column.
+    pub fn same(&self, at: usize, other: &Cells, other_at: usize) -> bool
+        requires here { at < length (values self.now) }
+        requires there { other_at < length (values other.now) }
+        ensures { IsTrue result ↔ (slice_get (values self.now) at ≡ slice_get (values other.now) other_at) }
+    {
+        self.compare_cell(at, other, other_at).is_eq()
+    }
+
+    /// Adds a copy of a cell of another column of this kind at the end. A refusal changes nothing.
+    pub fn push_cell(&mut self, other: &Cells, at: usize) -> Result<(), AllocError>
+        requires kind { kind_of other.now ≡ kind_of self.old }
+        requires there { at < length (values other.now) }
+        ensures kind { kind_of self.new ≡ kind_of self.old }
+        ensures ok { OnOk result (values self.new ≡ values self.old ++ cell (values other.now) at ∷ []) }
+        ensures err { OnErr result (values self.new ≡ values self.old) }
+    {
+        match (self, other) {
+            (Cells::Ints(ints), Cells::Ints(others)) => ints.push(others[at])?,
+            (Cells::Texts(texts), Cells::Texts(others)) => texts.push(others[at].copy())?,
+            (Cells::Ints(_), Cells::Texts(_)) => {}
+            (Cells::Texts(_), Cells::Ints(_)) => {}
+        }
+        Ok(())
+    }
+
+    /// Adds a cell of their kind at the end. A refusal changes nothing.
+    pub fn push(&mut self, value: Value) -> Result<(), AllocError>
+        requires { value_kind value ≡ kind_of self.old }
+        ensures kind { kind_of self.new ≡ kind_of self.old }
+        ensures ok { OnOk result (values self.new ≡ values self.old ++ value ∷ []) }
+        ensures err { OnErr result (values self.new ≡ values self.old) }
+    {
+        match (self, value) {
+            (Cells::Ints(ints), Value::Int(int)) => ints.push(int)?,
+            (Cells::Texts(texts), Value::Text(text)) => texts.push(text)?,
+            (Cells::Ints(_), Value::Text(_)) => {}
+            (Cells::Texts(_), Value::Int(_)) => {}
+        }
+        Ok(())
+    }
+
+    /// Moves the cells of another column of this kind to the end. A refusal changes nothing.
+    pub fn append(&mut self, other: Cells) -> Result<(), AllocError>
+        requires { kind_of other ≡ kind_of self.old }
+        ensures kind { kind_of self.new ≡ kind_of self.old }
+        ensures ok { OnOk result (values self.new ≡ values self.old ++ values other) }
+        ensures err { OnErr result (values self.new ≡ values self.old) }
+    {
+        match (self, other) {
+            (Cells::Ints(ints), Cells::Ints(mut more)) => ints.append(&mut more),
+            (Cells::Texts(texts), Cells::Texts(mut more)) => texts.append(&mut more),
+            (Cells::Ints(_), Cells::Texts(_)) => Ok(()),
+            (Cells::Texts(_), Cells::Ints(_)) => Ok(()),
+        }
+    }
+
+    /// Leaves only the cells before a place.
+    pub fn truncate(&mut self, count: usize)
+        ensures kind { kind_of self.new ≡ kind_of self.old }
+        ensures cells { values self.new ≡ take count (values self.old) }
+    {
+        match self {
+            Cells::Ints(ints) => ints.truncate(count),
+            Cells::Texts(texts) => texts.truncate(count),
+        }
+    }
+}

@@ -1,0 +1,139 @@
+//! The catalogs of small stores, for tests and for the program's own demonstration.
+
+/// Two columns of ints in two orders on two sites, with no join: each site alone holds the table.
+pub const TWO_ORDERS: &str = r#"version = 1
+table = "t"
+key = "id"
+sites = 2
+[[column]]
+name = "id"
+kind = "int"
+[[column]]
+name = "v"
+kind = "int"
+[[projection]]
+name = "a"
+columns = ["id", "v"]
+codes = [4, 4]
+sort = ["id"]
+cuts = []
+sites = [1]
+joins = []
+[[projection]]
+name = "b"
+columns = ["id", "v"]
+codes = [4, 4]
+sort = ["v"]
+cuts = []
+sites = [2]
+joins = []
+"#;
+
+/// Three columns, one of texts; the second projection lacks the key and is cut in two. Each joins to the other.
+pub const CITIES: &str = r#"version = 1
+table = "t"
+key = "id"
+sites = 3
+[[column]]
+name = "id"
+kind = "int"
+[[column]]
+name = "city"
+kind = "text"
+[[column]]
+name = "v"
+kind = "int"
+[[projection]]
+name = "a"
+columns = ["id", "city", "v"]
+codes = [3, 1, 4]
+sort = ["id"]
+cuts = []
+sites = [1]
+joins = ["b"]
+[[projection]]
+name = "b"
+columns = ["city", "v"]
+codes = [1, 4]
+sort = ["city"]
+cuts = ["m"]
+sites = [2, 3]
+joins = ["a"]
+"#;
+
+/// Two columns in three projections of two segments each, on six sites, with no join.
+pub const THREE_PROJECTIONS: &str = r#"version = 1
+table = "t"
+key = "id"
+sites = 6
+[[column]]
+name = "id"
+kind = "int"
+[[column]]
+name = "v"
+kind = "int"
+[[projection]]
+name = "a"
+columns = ["id", "v"]
+codes = [3, 4]
+sort = ["id"]
+cuts = [3]
+sites = [1, 2]
+joins = []
+[[projection]]
+name = "b"
+columns = ["id", "v"]
+codes = [4, 1]
+sort = ["v"]
+cuts = [15]
+sites = [3, 4]
+joins = []
+[[projection]]
+name = "c"
+columns = ["id", "v"]
+codes = [4, 3]
+sort = ["v", "id"]
+cuts = [25]
+sites = [5, 6]
+joins = []
+"#;
+
+/// Three columns of ints, of which two projections hold a part each and join to each other, and a third holds all.
+pub const SPLIT_COLUMNS: &str = r#"version = 1
+table = "t"
+key = "id"
+sites = 3
+[[column]]
+name = "id"
+kind = "int"
+[[column]]
+name = "v"
+kind = "int"
+[[column]]
+name = "w"
+kind = "int"
+[[projection]]
+name = "a"
+columns = ["id", "v"]
+codes = [4, 4]
+sort = ["id"]
+cuts = []
+sites = [1]
+joins = ["b"]
+[[projection]]
+name = "b"
+columns = ["w"]
+codes = [4]
+sort = ["w"]
+cuts = []
+sites = [2]
+joins = ["a"]
+[[projection]]
+name = "c"
+columns = ["id", "v", "w"]
+codes = [4, 4, 3]
+sort = ["w"]
+cuts = []
+sites = [3]
+joins = []
+"#;
