@@ -1,0 +1,14 @@
+pub mod Distances
+pub mod GreatestCut
+pub mod RowsAtCuts
+pub mod AliveLemmas
+pub mod WholeRows
+pub mod FirstLosses
+pub mod BitSets
+pub mod Arrays
+pub mod Bounded
+pub mod Reached
+pub mod PlanLemmas
+pub mod LossTails
+pub mod RowSetLemmas
+pub mod OnePlan

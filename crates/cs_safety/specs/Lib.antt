@@ -1,0 +1,12 @@
+pub mod Paths
+pub mod Safety
+pub mod PlanData
+pub mod PlanView
+pub mod SafetyCuts
+pub mod SafetyFault
+pub mod SafetyLaws
+pub mod NumberSets
+pub mod Reach
+pub mod PlanTests
+pub mod LossSearch
+pub mod RowSets

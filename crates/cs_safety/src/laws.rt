@@ -1,0 +1,22 @@
+//! Laws over the definitions: each function does nothing, and its contract is the law.
+ghost use Rattle.cs_safety.specs.SafetyLaws.{WholeIsSafeByRows, FirstUnsafeIsOne, PlanIsOne, CutsDecide};
+
+/// A loss that leaves a suitable projection is safe by rows.
+pub fn whole_is_safe_by_rows()
+    ensures { WholeIsSafeByRows }
+{}
+
+/// A catalog has at most one first unsafe loss.
+pub fn first_unsafe_is_one()
+    ensures { FirstUnsafeIsOne }
+{}
+
+/// A loss has at most one plan.
+pub fn plan_is_one()
+    ensures { PlanIsOne }
+{}
+
+/// A row stands just where the row of the greatest cuts not above its cells stands.
+pub fn cuts_decide()
+    ensures { CutsDecide }
+{}

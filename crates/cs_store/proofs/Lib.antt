@@ -1,0 +1,5 @@
+pub mod FileSetLemmas
+mod LoadLemmas
+mod MemoryLemmas
+mod PlanLemmas
+mod SaveLemmas

@@ -1,0 +1,6 @@
+pub mod Fault
+pub mod FileSet
+pub mod Load
+pub mod Memory
+pub mod Plan
+pub mod Save
