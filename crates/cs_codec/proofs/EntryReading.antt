@@ -1,0 +1,143 @@
+-- Reading the entries of bitmaps: what every column with the text has in common.
+use Rattle.std.proofs.Common.{◌≡◌, ℕ, ◌+◌, ◌<◌, ◌≤◌, Bool, List, [], ◌∷◌, ◌++◌, length, drop, Some, None, refl, sym, ap, subst, ◌∙◌, append_assoc, arith, inl, inr}
+use Rattle.std.specs.Prelude.{flat_map}
+use Rattle.std.specs.List.{AllByRecursion}
+use Rattle.std.specs.Ordering.{is_eq}
+use Rattle.std.specs.declared.cmp.Ordering.{Ordering}
+use Rattle.std.specs.declared.cmp.Ordering.TheVariants.{Equal}
+use Rattle.std.proofs.lemmas.Bool.{cases_lt}
+use Rattle.std.proofs.lemmas.List.{append-nil, length-drop, drop_all}
+use Rattle.cs_codec.specs.Cells.{number, BeginsOne, StandsAt, NoneStandsAt, NumberStandsAt}
+use Rattle.cs_codec.specs.CellLaws.{number_begins_one}
+use Rattle.cs_codec.specs.Encodings.{IsColumn, IsShort}
+use Rattle.cs_codec.specs.Cells.{IsTest}
+use Rattle.cs_codec.specs.Texts.{distinct_values, bitmap_lengths, bitmap_text, bitmaps_text}
+use Rattle.cs_codec.specs.BitmapLaws.{bitmap_lengths_fit, bitmap_count_fits, holds_distinct, no_bitmap}
+use Rattle.cs_codec.specs.BitmapReading.{ReadsNumbers, EntryAt, ReadsEntry, NoBitmaps}
+use Rattle.cs_codec.proofs.BitmapKeys.{In, to_distinct}
+
+-- the values that were read, those still to be read, and what is known of the first ones
+pub record EntriesAt {C : Type 0} (bytes : C → List ℕ) (is_cell : C → Type 0) (eq : C → C → Bool) (cmp : C → C → Ordering) (text : List ℕ) (at : ℕ) (Known : List C → List C → Type 0) (xs : List C) : Type 0 where
+  pub done : List C
+  pub rest : List C
+  pub all : done ++ rest ≡ distinct_values cmp xs
+  pub parts : drop at text ≡ flat_map (bitmap_text bytes eq xs) rest
+  pub hold : AllByRecursion is_cell rest
+  pub known : Known done xs
+
+-- so it is with every column that has the text
+abbrev pub EntriesSoFar : {C : Type 0} → (C → List ℕ) → (C → Type 0) → (C → C → Bool) → (C → C → Ordering) → List ℕ → ℕ → ℕ → (List C → List C → Type 0) → Type 0
+EntriesSoFar {C} bytes is_cell eq cmp text rows at Known = (xs : List C) → IsColumn (bitmaps_text bytes eq cmp) IsShort is_cell text rows xs → EntriesAt bytes is_cell eq cmp text at Known xs
+
+pub entries_begin : {C : Type 0} (bytes : C → List ℕ) (is_cell : C → Type 0) (eq : C → C → Bool) (cmp : C → C → Ordering) (text : List ℕ) (rows : ℕ) (Known : List C → List C → Type 0) → ((xs : List C) → Known [] xs) → EntriesSoFar bytes is_cell eq cmp text rows 0 Known
+entries_begin bytes is_cell eq cmp text rows Known none = λ xs h. record { done = []; rest = distinct_values cmp xs; all = refl; parts = h.text_is; hold = holds_distinct is_cell cmp xs h.cells_hold; known = none xs }
+
+-- the value that comes next
+pub record NextEntry {C : Type 0} (bytes : C → List ℕ) (is_cell : C → Type 0) (eq : C → C → Bool) (cmp : C → C → Ordering) (text : List ℕ) (at : ℕ) (done xs : List C) : Type 0 where
+  pub x : C
+  pub rest : List C
+  pub all : done ++ x ∷ rest ≡ distinct_values cmp xs
+  pub entry : EntryAt bytes is_cell text at x (bitmap_lengths eq x xs) (flat_map (bitmap_text bytes eq xs) rest)
+  pub hold : AllByRecursion is_cell rest
+
+module _ {C : Type 0} (bytes : C → List ℕ) (is_cell : C → Type 0) (eq : C → C → Bool) (cmp : C → C → Ordering) (text : List ℕ) (rows at : ℕ) (Known : List C → List C → Type 0) where
+  next_entry : (xs : List C) → length xs ≤ 1048576 → at < length text → (h : EntriesAt bytes is_cell eq cmp text at Known xs) → NextEntry bytes is_cell eq cmp text at h.done xs
+  next_entry xs short lt h = by_rest h.rest h.all h.parts h.hold
+    where
+      by_rest : (rest : List C) → h.done ++ rest ≡ distinct_values cmp xs → drop at text ≡ flat_map (bitmap_text bytes eq xs) rest → AllByRecursion is_cell rest → NextEntry bytes is_cell eq cmp text at h.done xs
+      by_rest [] a p q = absurd (omega (arith, ap (λ (z : List ℕ). length z) p, length-drop at text))
+      by_rest (x ∷ rest) a p q =
+          let regroup : (a b c d : List ℕ) → (a ++ b ++ c) ++ d ≡ a ++ (b ++ (c ++ d)) = λ a b c d. simp append_assoc in
+          record {
+            x = x;
+            rest = rest;
+            all = a;
+            entry = record {
+              holds = q.0;
+              few = bitmap_count_fits eq x xs short;
+              fit = bitmap_lengths_fit eq x xs short;
+              parts = p ∙ regroup (bytes x) (number (length (bitmap_lengths eq x xs))) (flat_map number (bitmap_lengths eq x xs)) (flat_map (bitmap_text bytes eq xs) rest);
+            };
+            hold = q.1;
+          }
+
+  module _ (so_far : EntriesSoFar bytes is_cell eq cmp text rows at Known) where
+    -- some text is left and no entry stands there
+    pub no_entry : (numbers : List ℕ) → at < length text → ReadsEntry bytes is_cell text at numbers None → NoBitmaps bytes is_cell eq cmp text rows
+    no_entry numbers lt none xs h =
+        let next = next_entry xs h.list_fits lt (so_far xs h) in
+        none next.x (bitmap_lengths eq next.x xs) (flat_map (bitmap_text bytes eq xs) next.rest) next.entry
+
+    -- one more entry is read
+    pub one_more_entry : (numbers : List ℕ) (found : C × ℕ) (Now : List C → List C → Type 0) → at < length text → ReadsEntry bytes is_cell text at numbers (Some found) → ((xs done : List C) (x : C) → IsColumn (bitmaps_text bytes eq cmp) IsShort is_cell text rows xs → found.0 ≡ x → numbers ≡ bitmap_lengths eq x xs → Known done xs → Now (done ++ x ∷ []) xs) → EntriesSoFar bytes is_cell eq cmp text rows found.1 Now
+    one_more_entry numbers found Now lt reads step = λ xs h.
+        let now = so_far xs h in
+        let next = next_entry xs h.list_fits lt now in
+        let same = reads.3 next.x (bitmap_lengths eq next.x xs) (flat_map (bitmap_text bytes eq xs) next.rest) next.entry in
+        record {
+          done = now.done ++ next.x ∷ [];
+          rest = next.rest;
+          all = append_assoc now.done (next.x ∷ []) next.rest ∙ next.all;
+          parts = same.2;
+          hold = next.hold;
+          known = step xs now.done next.x h same.0 same.1 now.known;
+        }
+
+    -- nothing is left, so all values were read
+    pub all_done : length text ≤ at → (xs : List C) → IsColumn (bitmaps_text bytes eq cmp) IsShort is_cell text rows xs → Known (distinct_values cmp xs) xs
+    all_done ge xs h =
+        let now = so_far xs h in
+        let none : now.rest ≡ [] = by_rest now.rest (sym (drop_all at text ge) ∙ now.parts) in
+        let done : now.done ≡ distinct_values cmp xs = sym (append-nil now.done) ∙ ap (λ (z : List C). now.done ++ z) (sym none) ∙ now.all in
+        subst (λ (z : List C). Known z xs) done now.known
+      where
+        by_rest : (rest : List C) → [] ≡ flat_map (bitmap_text bytes eq xs) rest → rest ≡ []
+        by_rest [] e = refl
+        by_rest (x ∷ rest) e = absurd (no_bitmap bytes eq xs x (flat_map (bitmap_text bytes eq xs) rest) e)
+
+-- ---- one entry
+
+pub no_value : {C : Type 0} (bytes : C → List ℕ) (is_cell : C → Type 0) (text : List ℕ) (at : ℕ) (numbers : List ℕ) → NoneStandsAt bytes is_cell text at → ReadsEntry bytes is_cell text at numbers None
+no_value bytes is_cell text at numbers none = λ x ls rest e. none x (number (length ls) ++ (flat_map number ls ++ rest)) e.holds e.parts
+
+module _ {C : Type 0} (bytes : C → List ℕ) (is_cell : C → Type 0) (one : BeginsOne bytes is_cell) (text : List ℕ) (at : ℕ) (v : C) (end : ℕ) (found : StandsAt bytes is_cell text at v end) where
+  value_is : (x : C) (ls rest : List ℕ) → EntryAt bytes is_cell text at x ls rest → (v ≡ x) × (drop end text ≡ number (length ls) ++ (flat_map number ls ++ rest))
+  value_is x ls rest e = one v x (drop end text) (number (length ls) ++ (flat_map number ls ++ rest)) found.holds e.holds (sym found.parts ∙ e.parts)
+
+  pub no_count : (numbers : List ℕ) → ((n : ℕ) (rest : List ℕ) → drop end text ≡ number n ++ rest → ⊥) → ReadsEntry bytes is_cell text at numbers None
+  no_count numbers none = λ x ls rest e. none (length ls) (flat_map number ls ++ rest) (value_is x ls rest e).1
+
+  module _ (count : ℕ) (counted : NumberStandsAt text end count) where
+    count_is : (x : C) (ls rest : List ℕ) → EntryAt bytes is_cell text at x ls rest → (count ≡ length ls) × (drop (end + 4) text ≡ flat_map number ls ++ rest)
+    count_is x ls rest e = number_begins_one count (length ls) (drop (end + 4) text) (flat_map number ls ++ rest) counted.fits e.few (sym counted.parts ∙ (value_is x ls rest e).1)
+
+    pub no_lengths : (numbers : List ℕ) → ReadsNumbers text (end + 4) count numbers None → ReadsEntry bytes is_cell text at numbers None
+    no_lengths numbers none = λ x ls rest e. let c = count_is x ls rest e in none ls rest (sym c.0) e.fit c.1
+
+    pub entry_read : (numbers : List ℕ) (stop : ℕ) → ReadsNumbers text (end + 4) count numbers (Some stop) → ReadsEntry bytes is_cell text at numbers (Some (v, stop))
+    entry_read numbers stop reads =
+        let later = reads.0 in
+        let ends = found.end_is in (
+          omega arith,
+          reads.1,
+          found.holds,
+          λ x ls rest e.
+              let c = count_is x ls rest e in
+              let same = reads.2 ls rest (sym c.0) e.fit c.1 in
+              ((value_is x ls rest e).0, same.0, same.1),
+        )
+
+no_values : {C : Type 0} (cmp : C → C → Ordering) (tie : (x y : C) → cmp x y ≡ Equal → x ≡ y) (xs : List C) → 0 < length xs → distinct_values cmp xs ≡ [] → ⊥
+no_values cmp tie [] lt e = omega arith
+no_values {C} cmp tie (x ∷ xs) lt e = subst (λ (z : List C). In x z) e (to_distinct cmp tie x (x ∷ xs) (inl refl))
+
+-- some cells have some text
+pub some_text : {C : Type 0} (bytes : C → List ℕ) (is_cell : C → Type 0) (eq : C → C → Bool) (t : IsTest eq) (cmp : C → C → Ordering) (ties : (x y : C) → eq x y ≡ is_eq (cmp x y)) (text : List ℕ) (rows : ℕ) (xs : List C) → 0 < rows → IsColumn (bitmaps_text bytes eq cmp) IsShort is_cell text rows xs → 0 < length text
+some_text {C} bytes is_cell eq t cmp ties text rows xs lt h = elim (cases_lt 0 (length text)) [
+  | inl some ↦ some
+  | inr ge ↦ absurd (no_values cmp (λ x y e. t.exact x y (ties x y ∙ ap is_eq e)) xs (omega (arith, h.rows_are)) (none_left (distinct_values cmp xs) (sym (drop_all 0 text ge) ∙ h.text_is)))
+]
+  where
+    none_left : (rest : List C) → [] ≡ flat_map (bitmap_text bytes eq xs) rest → rest ≡ []
+    none_left [] e = refl
+    none_left (x ∷ rest) e = absurd (no_bitmap bytes eq xs x (flat_map (bitmap_text bytes eq xs) rest) e)

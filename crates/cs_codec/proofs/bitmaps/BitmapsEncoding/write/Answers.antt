@@ -1,0 +1,7 @@
+use Rattle.std.proofs.Common.{◌∙◌}
+use Rattle.std.proofs.lemmas.Result.{IfOk-weaker}
+use Rattle.cs_codec.proofs.BitmapEntries.{part_text}
+use Rattle.cs_codec.proofs.bitmaps.BitmapsEncoding.write.Goals as goal
+
+pub returns : goal.returns
+returns g c = IfOk-weaker c.text_of.result _ _ (λ out e. λ x h. e ∙ part_text g.C.Cell.bytes g.C.PartialEq.eq (record { itself = g.met.C.Eq.laws.refl; exact = g.met.C.Cell.exact }) g.C.Ord.cmp g.met.C.Ord.total g.met.C.Ord.matches_eq c.args.part.now x h) c.text_of.ensures

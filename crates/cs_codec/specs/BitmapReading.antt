@@ -1,0 +1,35 @@
+-- What is read of a text of bitmaps.
+use Rattle.std.specs.Prelude.{◌≡◌, ℕ, ◌≤◌, ◌^◌, ◌<◌, Bool, List, ◌++◌, length, drop, flat_map, Option, Some, None}
+use Rattle.std.specs.List.{AllByRecursion}
+use Rattle.std.specs.declared.cmp.Ordering.{Ordering}
+use Rattle.cs_codec.specs.Cells.{number}
+use Rattle.cs_codec.specs.Encodings.{IsColumn, IsShort}
+use Rattle.cs_codec.specs.Bitmaps.{AreNumbers}
+use Rattle.cs_codec.specs.Texts.{bitmaps_text}
+
+-- so many numbers stand there up to the end, or no so many
+abbrev pub ReadsNumbers : List ℕ → ℕ → ℕ → List ℕ → Option ℕ → Type 0
+ReadsNumbers bytes start count numbers None = (ls rest : List ℕ) → length ls ≡ count → AreNumbers ls → drop start bytes ≡ flat_map number ls ++ rest → ⊥
+ReadsNumbers bytes start count numbers (Some end) = (start ≤ end) × (end ≤ length bytes) × ((ls rest : List ℕ) → length ls ≡ count → AreNumbers ls → drop start bytes ≡ flat_map number ls ++ rest → (numbers ≡ ls) × (drop end bytes ≡ rest))
+
+-- The text goes on with the entry of a value, these lengths, and then the rest.
+pub record EntryAt {C : Type 0} (bytes : C → List ℕ) (is_cell : C → Type 0) (text : List ℕ) (start : ℕ) (x : C) (ls rest : List ℕ) : Type 0 where
+  pub holds : is_cell x
+  pub few : length ls < 2 ^ 32
+  pub fit : AreNumbers ls
+  pub parts : drop start text ≡ bytes x ++ (number (length ls) ++ (flat_map number ls ++ rest))
+
+-- the one entry that stands there, with its lengths and its end, or none stands there
+abbrev pub ReadsEntry : {C : Type 0} → (C → List ℕ) → (C → Type 0) → List ℕ → ℕ → List ℕ → Option (C × ℕ) → Type 0
+ReadsEntry {C} bytes is_cell text start numbers None = (x : C) (ls rest : List ℕ) → EntryAt bytes is_cell text start x ls rest → ⊥
+ReadsEntry {C} bytes is_cell text start numbers (Some found) = (start < found.1) × (found.1 ≤ length text) × is_cell found.0 × ((x : C) (ls rest : List ℕ) → EntryAt bytes is_cell text start x ls rest → (found.0 ≡ x) × (numbers ≡ ls) × (drop found.1 text ≡ rest))
+
+-- So many cells; and a column with this text has just these.
+pub record IsOnlyCandidate {C : Type 0} (bytes : C → List ℕ) (is_cell : C → Type 0) (eq : C → C → Bool) (cmp : C → C → Ordering) (text : List ℕ) (rows : ℕ) (cells : List C) : Type 0 where
+  pub rows_are : length cells ≡ rows
+  pub hold : AllByRecursion is_cell cells
+  pub only : (xs : List C) → IsColumn (bitmaps_text bytes eq cmp) IsShort is_cell text rows xs → cells ≡ xs
+
+-- No column of so many rows has this text as bitmaps.
+abbrev pub NoBitmaps : {C : Type 0} → (C → List ℕ) → (C → Type 0) → (C → C → Bool) → (C → C → Ordering) → List ℕ → ℕ → Type 0
+NoBitmaps {C} bytes is_cell eq cmp text rows = (cells : List C) → IsColumn (bitmaps_text bytes eq cmp) IsShort is_cell text rows cells → ⊥

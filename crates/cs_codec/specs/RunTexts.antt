@@ -1,0 +1,30 @@
+-- What stands in the text of runs.
+use Rattle.std.specs.Prelude.{◌≡◌, ℕ, ◌^◌, ◌<◌, ◌≤◌, Bool, List, ◌++◌, length, drop}
+use Rattle.cs_codec.specs.declared.runs.Run.{Run}
+use Rattle.cs_codec.specs.Cells.{number}
+use Rattle.cs_codec.specs.Runs.{expand, IsProper, written_from}
+use Rattle.cs_codec.specs.Runs.{RunsHold}
+
+-- A run stands in the text at `start`, with this position, up to `end`.
+pub record RunStandsAt {C : Type 0} (bytes : C → List ℕ) (is_cell : C → Type 0) (text : List ℕ) (start : ℕ) (run : Run C) (position end : ℕ) : Type 0 where
+  pub holds : is_cell run.value
+  pub position_fits : position < 2 ^ 32
+  pub count_fits : run.count < 2 ^ 32
+  pub parts : drop start text ≡ (bytes run.value ++ number position ++ number run.count) ++ drop end text
+  pub later : start < end
+  pub within : end ≤ length text
+
+-- No run stands there.
+abbrev pub NoRunStandsAt : {C : Type 0} → (C → List ℕ) → (C → Type 0) → List ℕ → ℕ → Type 0
+NoRunStandsAt {C} bytes is_cell text start = (run : Run C) (position : ℕ) (rest : List ℕ) → is_cell run.value → position < 2 ^ 32 → run.count < 2 ^ 32 → drop start text ≡ (bytes run.value ++ number position ++ number run.count) ++ rest → ⊥
+
+-- The text is that of these runs, which have so many cells.
+pub record AreRunsOf {C : Type 0} (bytes : C → List ℕ) (is_cell : C → Type 0) (eq : C → C → Bool) (text : List ℕ) (rows : ℕ) (runs : List (Run C)) : Type 0 where
+  pub text_is : text ≡ written_from bytes 1 runs
+  pub rows_are : length (expand runs) ≡ rows
+  pub proper : IsProper eq runs
+  pub hold : RunsHold is_cell runs
+
+-- The text is that of no runs with so many cells.
+abbrev pub NoRunsOf : {C : Type 0} → (C → List ℕ) → (C → Type 0) → (C → C → Bool) → List ℕ → ℕ → Type 0
+NoRunsOf {C} bytes is_cell eq text rows = (runs : List (Run C)) → AreRunsOf bytes is_cell eq text rows runs → ⊥

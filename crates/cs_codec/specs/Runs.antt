@@ -1,0 +1,35 @@
+-- Lists of runs, and the lists of cells that they stand for.
+use Rattle.std.specs.Prelude.{◌≡◌, ℕ, ◌+◌, ◌<◌, ◌≤◌, Bool, false, List, [], ◌∷◌, ◌++◌, length, replicate}
+use Rattle.cs_codec.specs.declared.runs.Run.{Run}
+use Rattle.cs_codec.specs.Cells.{number}
+
+-- the cells of the runs, one after the other
+abbrev pub expand : {C : Type 0} → List (Run C) → List C
+expand [] = []
+expand (r ∷ rs) = replicate r.count r.value ++ expand rs
+
+-- the first run, if any, has another value
+abbrev pub BeginsOther : {C : Type 0} → (C → C → Bool) → C → List (Run C) → Type 0
+BeginsOther eq x [] = Unit {0}
+BeginsOther eq x (r ∷ rs) = eq x r.value ≡ false
+
+-- no run is empty, and no two neighbours have one value
+abbrev pub IsProper : {C : Type 0} → (C → C → Bool) → List (Run C) → Type 0
+IsProper eq [] = Unit {0}
+IsProper eq (r ∷ rs) = (0 < r.count) × BeginsOther eq r.value rs × IsProper eq rs
+
+-- the runs' values, positions and counts, where the first begins at position p
+abbrev pub written_from : {C : Type 0} → (C → List ℕ) → ℕ → List (Run C) → List ℕ
+written_from bytes p [] = []
+written_from bytes p (r ∷ rs) = (bytes r.value ++ number p ++ number r.count) ++ written_from bytes (p + r.count) rs
+
+-- what a part of a column keeps of its runs
+pub record AreRuns {C : Type 0} (eq : C → C → Bool) (runs : List (Run C)) (count : ℕ) : Type 0 where
+  pub proper : IsProper eq runs
+  pub short : length (expand runs) ≤ 1048576
+  pub count_is : count ≡ length (expand runs)
+
+-- each run's value is a cell
+abbrev pub RunsHold : {C : Type 0} → (C → Type 0) → List (Run C) → Type 0
+RunsHold is_cell [] = Unit {0}
+RunsHold is_cell (r ∷ rs) = is_cell r.value × RunsHold is_cell rs

@@ -1,0 +1,96 @@
+//! The positions of one value, by the lengths of their runs.
+ghost use Rattle.std.specs.Prelude.{◌≡◌, ◌≤◌, ◌<◌, ◌+◌, ◌-◌, ◌++◌, [], ◌∷◌, IfOk, OnOk, OnErr, length};
+ghost use Rattle.cs_codec.specs.Bitmaps.{glued, total, with_run};
+
+use std::alloc::{AllocError, Global};
+use std::marker::Model;
+
+/// The lengths of a bitmap's maximal runs up to its last one, zeros first. A contract sees the lengths.
+#[derive(Drop)]
+pub struct Bitmap {
+    pub(crate) lengths: Vec<u32>,
+    pub(crate) end: u32,
+}
+
+impl Model for Bitmap {
+    ghost use Rattle.std.specs.Prelude.{List, ℕ};
+
+    ghost Value = { List ℕ };
+
+    ghost use Rattle.cs_codec.specs.Bitmaps.{IsBitmap};
+
+    ghost view = { λ bitmap. bitmap.lengths.items };
+
+    ghost invariant = { λ bitmap. IsBitmap bitmap.lengths.items bitmap.end };
+}
+
+/// Adds so many zeros and so many ones after them to the lengths of a bitmap.
+fn push_run(lengths: &mut Vec<u32>, zeros: u32, ones: u32) -> Result<(), AllocError>
+    requires { total lengths.old.items + ones ≤ 1048576 }
+    ensures ok { OnOk result (lengths.new.items ≡ with_run lengths.old.items zeros ones) }
+    ensures err { OnErr result (lengths.new.items ≡ lengths.old.items) }
+{
+    let len = lengths.len();
+    if zeros == 0 && len > 0 {
+        lengths[len - 1] += ones;
+        return Ok(());
+    }
+    lengths.extend_from_slice(&[zeros, ones])
+}
+
+impl Bitmap {
+    /// The bitmap without ones.
+    pub(crate) fn new(alloc: Global) -> Bitmap
+        ensures { result ≡ [] }
+    {
+        Bitmap {
+            lengths: Vec::new(alloc),
+            end: 0,
+        }
+    }
+
+    /// Adds a one at a position behind all of them.
+    pub(crate) fn add(&mut self, position: u32) -> Result<(), AllocError>
+        requires below { total self.old ≤ position }
+        requires short { position < 1048576 }
+        requires few { length self.old < 4194303 }
+        ensures { OnOk result (self.new ≡ glued self.old (position - total self.old) (0 ∷ 1 ∷ [])) }
+    {
+        let gap = position - self.end;
+        push_run(&mut self.lengths, gap, 1)?;
+        self.end = position + 1;
+        Ok(())
+    }
+
+    /// Adds, to this bitmap of the first `offset` positions, the one of the next positions, whose last one is before
+    /// `end`.
+    pub(crate) fn follow(&mut self, offset: u32, other: &[u32], end: u32) -> Result<(), AllocError>
+        requires below { total self.old ≤ offset }
+        requires some { 2 ≤ length other.now }
+        requires end { offset + total other.now ≡ end }
+        requires short { end ≤ 1048576 }
+        requires few { length self.old + length other.now ≤ 4194304 }
+        ensures { OnOk result (self.new ≡ glued self.old (offset - total self.old) other.now) }
+    {
+        let gap = offset - self.end + other[0];
+        push_run(&mut self.lengths, gap, other[1])?;
+        self.end = offset + other[0] + other[1];
+        self.lengths.extend_from_slice(&other[2..])?;
+        self.end = end;
+        Ok(())
+    }
+
+    /// This bitmap after `offset` zeros.
+    pub(crate) fn shifted(self, offset: u32) -> Bitmap
+        requires some { 1 ≤ length self }
+        requires short { offset + total self ≤ 1048576 }
+        ensures { result ≡ glued [] offset self }
+    {
+        let mut lengths = self.lengths;
+        lengths[0] += offset;
+        Bitmap {
+            lengths,
+            end: self.end + offset,
+        }
+    }
+}

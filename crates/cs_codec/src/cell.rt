@@ -1,0 +1,118 @@
+//! Cells as bytes: an integer in eight, in two's complement, the highest first; a text as its length and its bytes.
+ghost use Rattle.std.specs.Prelude.{◌≡◌, ℕ, ◌+◌, ◌≤◌, List, ◌++◌, OnOk, OnErr, IfSome, IfNone, true, IfOk, length, ◌<◌};
+ghost use Rattle.cs_codec.specs.Cells.{number, int_cell, IsInt, text_cell, IsText, StandsAt, NoneStandsAt, BeginsOne};
+ghost use Rattle.cs_codec.specs.CellLaws.{int_exact, int_begins_one, text_exact, text_begins_one, int_some_bytes, text_some_bytes};
+
+use crate::numbers::u64_at;
+use cs_schema::Word;
+use std::alloc::AllocError;
+use std::str;
+
+/// What a column holds: values with an order, each with bytes of its own.
+pub trait Cell: Ord + Drop {
+    /// The bytes that stand for it.
+    ghost bytes: { Self → List ℕ };
+
+    /// Holds of the values of the type.
+    ghost is_cell: { Self → Type 0 };
+
+    /// Appends the cell's bytes. A refusal changes nothing.
+    fn write(&self, out: &mut Vec<u8>) -> Result<(), AllocError>
+        ensures ok { OnOk result (out.new.items ≡ out.old.items ++ bytes self.now) }
+        ensures err { OnErr result (out.new.items ≡ out.old.items) };
+
+    /// The cell that stands at `at`, and its end.
+    fn read(text: &[u8], at: usize) -> Option<(Self, usize)>
+        ensures found { IfSome result (λ found. StandsAt bytes is_cell text.now at found.0 found.1) }
+        ensures none { IfNone result (NoneStandsAt bytes is_cell text.now at) };
+
+    /// The same cell once more.
+    fn copy(&self) -> Self
+        ensures { result ≡ self.now };
+
+    /// Cells that compare as equal are one.
+    ghost exact: { (x y : Self) → Self.eq x y ≡ true → x ≡ y };
+
+    /// Each cell has some bytes.
+    ghost some_bytes: { (x : Self) → 0 < length (bytes x) };
+
+    /// No two cells begin one text.
+    ghost begins_one: { BeginsOne bytes is_cell };
+}
+
+impl Cell for i64 {
+    ghost bytes = { int_cell };
+
+    ghost is_cell = { IsInt };
+
+    #[inline]
+    fn write(&self, out: &mut Vec<u8>) -> Result<(), AllocError> {
+        let value = *self;
+        out.extend_from_slice(&value.cast_unsigned().to_be_bytes())
+    }
+
+    #[inline]
+    fn read(text: &[u8], at: usize) -> Option<(i64, usize)> {
+        let bits = u64_at(text, at)?;
+        Some((bits.cast_signed(), at + 8))
+    }
+
+    #[inline]
+    fn copy(&self) -> i64 {
+        *self
+    }
+
+    ghost exact = { int_exact };
+
+    ghost some_bytes = { int_some_bytes };
+
+    ghost begins_one = { int_begins_one };
+}
+
+impl Cell for Word {
+    ghost bytes = { text_cell };
+
+    ghost is_cell = { IsText };
+
+    #[inline]
+    fn write(&self, out: &mut Vec<u8>) -> Result<(), AllocError> {
+        let text = self.as_str().as_bytes();
+        out.push(text.len() as u8)?;
+        let added = out.extend_from_slice(text);
+        if added.is_err() {
+            out.pop();
+        }
+        added
+    }
+
+    #[inline]
+    fn read(text: &[u8], at: usize) -> Option<(Word, usize)> {
+        if at >= text.len() {
+            return None;
+        }
+        let start = at + 1;
+        let len = text[at] as usize;
+        if text.len() - start < len {
+            return None;
+        }
+        let end = start + len;
+        let Ok(valid) = str::from_utf8(&text[start..end]) else {
+            return None;
+        };
+        let Ok(word) = Word::new(valid) else {
+            return None;
+        };
+        Some((word, end))
+    }
+
+    #[inline]
+    fn copy(&self) -> Word {
+        self.copy()
+    }
+
+    ghost exact = { text_exact };
+
+    ghost some_bytes = { text_some_bytes };
+
+    ghost begins_one = { text_begins_one };
+}

@@ -1,0 +1,244 @@
+//! Columns of ascending integers as differences.
+ghost use Rattle.std.specs.Prelude.{◌≡◌, ℕ, ℤ, ◌+◌, ◌-◌, ◌*◌, ◌^◌, ◌≤◌, ◌<◌, ◌≤ℤ◌, ◌↔◌, IsTrue, List, ◌++◌, length, drop, IfOk, OnOk, IfSome, IfNone, negsuc, pos};
+ghost use Rattle.cs_codec.specs.Encodings.{IsShort};
+ghost use Rattle.cs_codec.specs.Cells.{IsInt};
+ghost use Rattle.cs_codec.specs.Texts.{groups, short, differences_text};
+ghost use Rattle.cs_codec.specs.Differences.{item, NeverFallsShort, GroupsStandAt, NoGroupsStandAt, ValueStandsAt, NoValueStandsAt};
+ghost use Rattle.cs_codec.specs.DifferenceLaws.{differences_one_list};
+
+use crate::cell::Cell;
+use crate::encoding::{CodecFault, Encoding};
+use crate::numbers::{read_number, write_number};
+use cs_schema::Code;
+use std::alloc::{AllocError, Global};
+use std::marker::Model;
+
+/// One position of each so many has its value in full.
+const BLOCK: u32 = 128;
+
+/// What stands for some integers of a column, none of which is below the one before it: the first one, the differences
+/// to the ones before them, the last one, and how many they are. A contract sees the integers.
+#[derive(Drop)]
+pub struct DifferencesPart {
+    first: i64,
+    gaps: Vec<u64>,
+    last: i64,
+    count: u32,
+}
+
+impl Model for DifferencesPart {
+    ghost use Rattle.std.specs.Prelude.{List, ℤ};
+
+    ghost Value = { List ℤ };
+
+    ghost use Rattle.cs_codec.specs.Rises.{rising, IsRise};
+
+    ghost view = { λ part. rising part.count part.first part.gaps.items };
+
+    ghost invariant = { λ part. IsRise part.count part.first part.gaps.items part.last };
+}
+
+impl DifferencesPart {
+    /// The part that stands for these integers.
+    fn of(alloc: Global, cells: &[i64]) -> Result<DifferencesPart, AllocError>
+        requires { NeverFallsShort cells.now }
+        ensures { IfOk result (λ part. part ≡ cells.now) }
+    {
+        let Some((first, rest)) = cells.split_first() else {
+            return Ok(DifferencesPart {
+                first: 0,
+                gaps: Vec::new(alloc),
+                last: 0,
+                count: 0,
+            });
+        };
+        let mut gaps = Vec::with_capacity(alloc, rest.len())?;
+        let mut last = *first;
+        for value in rest {
+            gaps.push(value.abs_diff(last))?;
+            last = *value;
+        }
+        Ok(DifferencesPart {
+            first: *first,
+            gaps,
+            last,
+            count: cells.len() as u32,
+        })
+    }
+
+    fn followed_by(self, other: DifferencesPart) -> Result<DifferencesPart, AllocError>
+        requires { NeverFallsShort (self ++ other) }
+        ensures { IfOk result (λ part. part ≡ self ++ other) }
+    {
+        if self.count == 0 {
+            return Ok(other);
+        }
+        if other.count == 0 {
+            return Ok(self);
+        }
+        let mut gaps = self.gaps;
+        gaps.push(other.first.abs_diff(self.last))?;
+        gaps.extend_from_slice(&other.gaps)?;
+        Ok(DifferencesPart {
+            first: self.first,
+            gaps,
+            last: other.last,
+            count: self.count + other.count,
+        })
+    }
+
+    /// Whether the other integers may come next.
+    fn goes_on(&self, other: &DifferencesPart) -> bool
+        ensures { IsTrue result ↔ NeverFallsShort (self.now ++ other.now) }
+    {
+        if self.count + other.count > 1_048_576 {
+            return false;
+        }
+        if self.count == 0 || other.count == 0 {
+            return true;
+        }
+        if other.first < self.last {
+            return false;
+        }
+        true
+    }
+
+    fn text(&self, alloc: Global) -> Result<Vec<u8>, AllocError>
+        ensures { IfOk result (λ out. out.items ≡ differences_text self.now) }
+    {
+        let mut out = Vec::with_capacity(alloc, self.count as usize)?;
+        if self.count == 0 {
+            return Ok(out);
+        }
+        write_number(&mut out, 1)?;
+        self.first.write(&mut out)?;
+        let mut position: u32 = 1;
+        let mut value = self.first;
+        for gap in &self.gaps {
+            position += 1;
+            let Some(next) = value.checked_add_unsigned(*gap) else {
+                unreachable!()
+            };
+            value = next;
+            if position % BLOCK == 1 {
+                write_number(&mut out, position)?;
+                value.write(&mut out)?;
+            } else {
+                write_short(&mut out, *gap)?;
+            }
+        }
+        Ok(out)
+    }
+}
+
+/// Writes a number in groups of seven bits, the low group first.
+fn write_short(out: &mut Vec<u8>, n: u64) -> Result<(), AllocError>
+    ensures { OnOk result (out.new.items ≡ out.old.items ++ short n) }
+{
+    let mut rest = n;
+    while rest >= 128 {
+        out.push((rest % 128 + 128) as u8)?;
+        rest /= 128;
+    }
+    out.push(rest as u8)?;
+    Ok(())
+}
+
+/// The number that stands at `at` in at most `more` + 1 groups, and its end.
+fn read_groups(bytes: &[u8], at: usize, more: u32) -> Option<(u64, usize)>
+    ensures found { IfSome result (λ found. GroupsStandAt more bytes.now at found.0 found.1) }
+    ensures none { IfNone result (NoGroupsStandAt more bytes.now at) }
+{
+    if at >= bytes.len() {
+        return None;
+    }
+    let byte = bytes[at];
+    if byte < 128 {
+        return Some((byte as u64, at + 1));
+    }
+    if more == 0 {
+        return None;
+    }
+    let low = (byte - 128) as u64;
+    let (high, end) = read_groups(bytes, at + 1, more - 1)?;
+    if high == 0 {
+        return None;
+    }
+    if high > (u64::MAX - low) / 128 {
+        return None;
+    }
+    Some((low + 128 * high, end))
+}
+
+/// The value that stands at `at` as that of a position, behind another value.
+fn read_value(bytes: &[u8], at: usize, position: u32, before: i64) -> Option<(i64, usize)>
+    ensures found { IfSome result (λ found. ValueStandsAt before position bytes.now at found.0 found.1) }
+    ensures none { IfNone result (NoValueStandsAt before position bytes.now at) }
+{
+    if position % BLOCK == 1 {
+        let number = read_number(bytes, at)?;
+        if number != position {
+            return None;
+        }
+        let (value, end) = i64::read(bytes, at + 4)?;
+        if value < before {
+            return None;
+        }
+        Some((value, end))
+    } else {
+        let (gap, end) = read_groups(bytes, at, 9)?;
+        let value = before.checked_add_unsigned(gap)?;
+        Some((value, end))
+    }
+}
+
+/// Columns of integers that never fall: the first of each 128 positions in full, the others as differences.
+pub struct Differences;
+
+impl Encoding<i64> for Differences {
+    const CODE: Code = Code::Differences;
+
+    type Part = DifferencesPart;
+
+    ghost text = { differences_text };
+
+    ghost fits = { NeverFallsShort };
+
+    ghost is_part = { λ part cells. part ≡ cells };
+
+    fn encode(alloc: Global, cells: &[i64]) -> Result<DifferencesPart, AllocError> {
+        DifferencesPart::of(alloc, cells)
+    }
+
+    fn can_join(left: &DifferencesPart, right: &DifferencesPart) -> bool {
+        left.goes_on(right)
+    }
+
+    fn join(left: DifferencesPart, right: DifferencesPart) -> Result<DifferencesPart, AllocError> {
+        left.followed_by(right)
+    }
+
+    fn write(alloc: Global, part: &DifferencesPart) -> Result<Vec<u8>, AllocError> {
+        part.text(alloc)
+    }
+
+    fn read(alloc: Global, bytes: &[u8], rows: u32) -> Result<Vec<i64>, CodecFault> {
+        let mut cells = Vec::with_capacity(alloc, bytes.len().min(rows as usize))?;
+        let mut at = 0;
+        let mut before = i64::MIN;
+        for done in 0..rows {
+            let Some((value, end)) = read_value(bytes, at, done + 1, before) else {
+                return Err(CodecFault::NotAText);
+            };
+            cells.push(value)?;
+            before = value;
+            at = end;
+        }
+        if at != bytes.len() {
+            return Err(CodecFault::NotAText);
+        }
+        Ok(cells)
+    }
+
+    ghost one_list = { differences_one_list };
+}

@@ -1,0 +1,79 @@
+//! A code of a column, with the laws that each code keeps.
+ghost use Rattle.std.specs.Prelude.{◌≡◌, ℕ, ◌≤◌, List, ◌++◌, length, IfOk, OnErr, IsErrOf};
+ghost use Rattle.std.specs.List.{AllByRecursion};
+ghost use Rattle.cs_codec.specs.Encodings.{JoinFits, TellsJoin, IsColumn, NoColumn, HasOneText, JoinsTo, Writes};
+ghost use Rattle.cs_codec.specs.declared.encoding.CodecFault.TheVariants.{Memory};
+
+use crate::cell::Cell;
+use cs_schema::Code;
+use std::alloc::{AllocError, AllocFailed, Global};
+
+/// Why a column could not be read.
+#[derive(Clone, Copy, Debug, PartialEq, Eq)]
+pub enum CodecFault {
+    /// Memory is wanting.
+    Memory,
+    /// The bytes are not the text of a list of this kind and length.
+    NotAText,
+}
+
+impl From<AllocError> for CodecFault {
+    ghost from_gives = { λ _ e. e ≡ Memory };
+
+    fn from(_e: AllocError) -> CodecFault {
+        CodecFault::Memory
+    }
+}
+
+impl<T: Drop> From<AllocFailed<T>> for CodecFault {
+    ghost from_gives = { λ _ e. e ≡ Memory };
+
+    fn from(_e: AllocFailed<T>) -> CodecFault {
+        CodecFault::Memory
+    }
+}
+
+/// One code at one kind of cell.
+pub trait Encoding<C: Cell> {
+    /// The code's number in a catalog.
+    const CODE: Code;
+
+    /// What stands for some cells of a column, and is joined with what stands for the next ones.
+    type Part: Drop;
+
+    /// The text of a list.
+    ghost text: { List C → List ℕ };
+
+    /// Which lists have a text.
+    ghost fits: { List C → Type 0 };
+
+    /// When a part stands for a list.
+    ghost is_part: { Self.Part → List C → Type 0 };
+
+    /// The part that stands for a list that fits.
+    fn encode(alloc: Global, cells: &[C]) -> Result<Self::Part, AllocError>
+        requires { fits cells.now }
+        ensures { IfOk result (λ part. is_part part cells.now) };
+
+    /// Whether the lists of both parts, one after the other, fit.
+    fn can_join(left: &Self::Part, right: &Self::Part) -> bool
+        ensures { TellsJoin fits is_part left.now right.now result };
+
+    /// The part that stands for both lists, one after the other. A refusal gives up both parts.
+    fn join(left: Self::Part, right: Self::Part) -> Result<Self::Part, AllocError>
+        requires { JoinFits fits is_part left right }
+        ensures { IfOk result (JoinsTo is_part left right) };
+
+    /// The text of the list that the part stands for.
+    fn write(alloc: Global, part: &Self::Part) -> Result<Vec<u8>, AllocError>
+        ensures { IfOk result (λ out. Writes text is_part part.now out.items) };
+
+    /// The list of so many cells that the bytes are the text of. `NotAText` where there is none.
+    fn read(alloc: Global, bytes: &[u8], rows: u32) -> Result<Vec<C>, CodecFault>
+        requires { rows ≤ 1048576 }
+        ensures found { IfOk result (λ cells. IsColumn text fits C.is_cell bytes.now rows cells.items) }
+        ensures not_a_text { result ≡ Err CodecFault.NotAText → NoColumn text fits C.is_cell bytes.now rows };
+
+    /// No two lists have one text.
+    ghost one_list: { HasOneText text fits C.is_cell };
+}

@@ -1,0 +1,20 @@
+//! Encodings of a column's cells by four codes: runs, bitmaps, differences and plain cells. A part of a column is
+//! encoded by itself and joined with the next one, and what is written of it is the one text of its list; `read`
+//! accepts just these texts.
+#![tactic(auto)]
+
+mod bitmap;
+mod bitmap_reading;
+pub mod bitmaps;
+pub mod cell;
+pub mod differences;
+pub mod encoding;
+pub mod numbers;
+pub mod plain;
+pub mod runs;
+
+pub use cell::Cell;
+pub use encoding::{CodecFault, Encoding};
+
+#[cfg(test)]
+mod tests;

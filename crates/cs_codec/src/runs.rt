@@ -1,0 +1,217 @@
+//! Runs of equal cells.
+ghost use Rattle.std.specs.Prelude.{◌≡◌, ℕ, ◌+◌, ◌≤◌, ◌<◌, List, [], ◌∷◌, ◌++◌, length, replicate, IfOk, OnOk};
+ghost use Rattle.cs_codec.specs.Encodings.{IsShort};
+ghost use Rattle.cs_codec.specs.Texts.{runs_text};
+ghost use Rattle.cs_codec.specs.RunTexts.{RunStandsAt, NoRunStandsAt, AreRunsOf, NoRunsOf};
+ghost use Rattle.cs_codec.specs.RunLaws.{runs_one_list};
+ghost use Rattle.std.specs.Prelude.{IfSome, IfNone, IsTrue, false};
+ghost use Rattle.cs_codec.specs.Runs.{expand, IsProper};
+
+use crate::cell::Cell;
+use crate::encoding::{CodecFault, Encoding};
+use crate::numbers::{read_number, write_number};
+use cs_schema::Code;
+use std::alloc::{AllocError, Global};
+use std::marker::Model;
+
+/// Neighbouring cells of one value.
+#[derive(Drop)]
+pub struct Run<C> {
+    pub value: C,
+    pub count: u32,
+}
+
+/// What stands for some cells of a column: their runs. A contract sees the cells.
+#[derive(Drop)]
+pub struct RunsPart<C: Cell> {
+    runs: Vec<Run<C>>,
+    count: u32,
+}
+
+impl<C: Cell> Model for RunsPart<C> {
+    ghost use Rattle.std.specs.Prelude.{List};
+
+    ghost Value = { List C };
+
+    ghost use Rattle.cs_codec.specs.Runs.{expand, AreRuns};
+
+    ghost view = { λ part. expand part.runs.items };
+
+    ghost invariant = { λ part. AreRuns C.eq part.runs.items part.count };
+}
+
+impl<C: Cell> RunsPart<C> {
+    /// The part that stands for these cells.
+    fn of(alloc: Global, cells: &[C]) -> Result<Self, AllocError>
+        requires { IsShort cells.now }
+        ensures { IfOk result (λ part. part ≡ cells.now) }
+    {
+        let mut runs = Vec::new(alloc);
+        for cell in cells {
+            push_run(&mut runs, cell, 1)?;
+        }
+        Ok(RunsPart {
+            runs,
+            count: cells.len() as u32,
+        })
+    }
+
+    fn followed_by(self, other: Self) -> Result<Self, AllocError>
+        requires { IsShort (self ++ other) }
+        ensures { IfOk result (λ part. part ≡ self ++ other) }
+    {
+        let mut runs = self.runs;
+        for run in &other.runs {
+            push_run(&mut runs, &run.value, run.count)?;
+        }
+        Ok(RunsPart {
+            runs,
+            count: self.count + other.count,
+        })
+    }
+
+    fn text(&self, alloc: Global) -> Result<Vec<u8>, AllocError>
+        ensures { IfOk result (λ out. out.items ≡ runs_text C.bytes C.eq self.now) }
+    {
+        let mut out = Vec::with_capacity(alloc, self.runs.len().saturating_mul(16))?;
+        let mut position = 1;
+        for run in &self.runs {
+            run.value.write(&mut out)?;
+            write_number(&mut out, position)?;
+            write_number(&mut out, run.count)?;
+            position += run.count;
+        }
+        Ok(out)
+    }
+}
+
+/// Adds so many cells of a value after the others, to the last run if that has the value.
+#[inline]
+fn push_run<C: Cell>(runs: &mut Vec<Run<C>>, value: &C, count: u32) -> Result<(), AllocError>
+    requires short { length (expand runs.old.items) + count ≤ 1048576 }
+    requires some { 0 < count }
+    requires proper { IsProper C.eq runs.old.items }
+    ensures cells { OnOk result (expand runs.new.items ≡ expand runs.old.items ++ replicate count value.now) }
+    ensures proper { OnOk result (IsProper C.eq runs.new.items) }
+{
+    let len = runs.len();
+    if len > 0 && runs[len - 1].value == *value {
+        runs[len - 1].count += count;
+        return Ok(());
+    }
+    let run = Run {
+        value: value.copy(),
+        count,
+    };
+    runs.push(run)?;
+    Ok(())
+}
+
+/// The run that stands at `at`, its position and its end.
+#[inline]
+fn read_run<C: Cell>(bytes: &[u8], at: usize) -> Option<(Run<C>, u32, usize)>
+    ensures found { IfSome result (λ found. RunStandsAt C.bytes C.is_cell bytes.now at found.0 found.1 found.2) }
+    ensures none { IfNone result (NoRunStandsAt C.bytes C.is_cell bytes.now at) }
+{
+    let (value, end) = C::read(bytes, at)?;
+    let position = read_number(bytes, end)?;
+    let count = read_number(bytes, end + 4)?;
+    Some((Run { value, count }, position, end + 8))
+}
+
+/// Whether a run may come after the others.
+#[inline]
+fn goes_on<C: Cell>(runs: &Vec<Run<C>>, run: &Run<C>) -> bool
+    ensures yes { IsTrue result → IsProper C.eq runs.now.items → IsProper C.eq (runs.now.items ++ run.now ∷ []) }
+    ensures no { result ≡ false → (rest : List (Run C)) → IsProper C.eq (runs.now.items ++ run.now ∷ rest) → ⊥ }
+{
+    let len = runs.len();
+    if run.count == 0 {
+        return false;
+    }
+    len == 0 || runs[len - 1].value != run.value
+}
+
+/// The runs that the bytes are the text of.
+fn read_runs<C: Cell>(alloc: Global, bytes: &[u8], rows: u32) -> Result<Vec<Run<C>>, CodecFault>
+    requires { rows ≤ 1048576 }
+    ensures found { IfOk result (λ runs. AreRunsOf C.bytes C.is_cell C.eq bytes.now rows runs.items) }
+    ensures not_a_text { result ≡ Err CodecFault.NotAText → NoRunsOf C.bytes C.is_cell C.eq bytes.now rows }
+{
+    let mut runs = Vec::new(alloc);
+    let mut count = 0;
+    let mut at = 0;
+    while at < bytes.len() {
+        let Some((run, position, end)) = read_run(bytes, at) else {
+            return Err(CodecFault::NotAText);
+        };
+        if position != count + 1 {
+            return Err(CodecFault::NotAText);
+        }
+        if run.count > rows - count {
+            return Err(CodecFault::NotAText);
+        }
+        if !goes_on(&runs, &run) {
+            return Err(CodecFault::NotAText);
+        }
+        count += run.count;
+        runs.push(run)?;
+        at = end;
+    }
+    if count != rows {
+        return Err(CodecFault::NotAText);
+    }
+    Ok(runs)
+}
+
+/// The cells of the runs.
+fn spread<C: Cell>(alloc: Global, runs: &[Run<C>], rows: u32) -> Result<Vec<C>, AllocError>
+    ensures { IfOk result (λ cells. cells.items ≡ expand runs.now) }
+{
+    let mut cells = Vec::with_capacity(alloc, rows as usize)?;
+    for run in runs {
+        for _ in 0..run.count {
+            cells.push(run.value.copy())?;
+        }
+    }
+    Ok(cells)
+}
+
+/// Columns as runs of equal cells: of each run the cell, its first position, from 1, and its length.
+pub struct Runs;
+
+impl<C: Cell> Encoding<C> for Runs {
+    const CODE: Code = Code::Runs;
+
+    type Part = RunsPart<C>;
+
+    ghost text = { runs_text C.bytes C.eq };
+
+    ghost fits = { IsShort };
+
+    ghost is_part = { λ part cells. part ≡ cells };
+
+    fn encode(alloc: Global, cells: &[C]) -> Result<RunsPart<C>, AllocError> {
+        RunsPart::of(alloc, cells)
+    }
+
+    fn can_join(left: &RunsPart<C>, right: &RunsPart<C>) -> bool {
+        u64::from(left.count) + u64::from(right.count) <= 1_048_576
+    }
+
+    fn join(left: RunsPart<C>, right: RunsPart<C>) -> Result<RunsPart<C>, AllocError> {
+        left.followed_by(right)
+    }
+
+    fn write(alloc: Global, part: &RunsPart<C>) -> Result<Vec<u8>, AllocError> {
+        part.text(alloc)
+    }
+
+    fn read(alloc: Global, bytes: &[u8], rows: u32) -> Result<Vec<C>, CodecFault> {
+        let runs = read_runs(alloc, bytes, rows)?;
+        Ok(spread(alloc, &runs, rows)?)
+    }
+
+    ghost one_list = { runs_one_list C.bytes C.is_cell C.eq
+        (record { itself = C.Eq.laws.refl; exact = C.exact }) C.begins_one };
+}

@@ -1,0 +1,77 @@
+-- One layer after others.
+use Rattle.std.proofs.Common.{◌≡◌, ℕ, ◌+◌, ◌<◌, ◌≤◌, List, [], ◌∷◌, ◌++◌, map, length, get_or, take, drop, refl, sym, ap, subst, ◌∙◌, arith}
+use Rattle.std.proofs.lemmas.List.{length-map, map_more, drop_more, drop-map, take-append-drop, map-append}
+use Rattle.cs_schema.specs.declared.kinds.Kind.{Kind}
+use Rattle.cs_schema.specs.declared.cells.Value.{Value}
+use Rattle.cs_schema.specs.Lists.{IsIn}
+use Rattle.cs_schema.specs.Order.{row_limit}
+use Rattle.cs_delta.specs.Image.{Change, Pair, applied}
+use Rattle.cs_delta.specs.Edits.{edited_from}
+use Rattle.cs_delta.specs.ItemView.{key_edits}
+use Rattle.cs_delta.specs.Layers.{ArePairs, AreLayers, IsLayerOf, HasWidth, HaveLength, IsMadeBy, key_of, edited_columns}
+use Rattle.cs_delta.specs.DeltaFile.{AllFit}
+use Rattle.cs_delta.specs.Image.{layered}
+use Rattle.cs_delta.proofs.PairColumns.{keys_applied, pairs_applied}
+use Rattle.cs_delta.proofs.MakeSteps.{drop_item}
+use Rattle.cs_delta.proofs.PairsKept.{kept_pairs, lengths_of}
+
+pub layered-push : (ls : List (List Change)) (l : List Change) (xs : List Pair) → layered (ls ++ l ∷ []) xs ≡ applied l (layered ls xs)
+layered-push [] l xs = refl
+layered-push (k ∷ ls) l xs = layered-push ls l (applied k xs)
+
+fit-push : (ls : List (List Change)) (l : List Change) (xs : List Pair) → AllFit ls xs → length (applied l (layered ls xs)) ≤ row_limit → AllFit (ls ++ l ∷ []) xs
+fit-push [] l xs h k = (k, tt)
+fit-push (m ∷ ls) l xs h k = (h.0, fit-push ls l (applied m xs) h.1 k)
+
+pub fit_last : (ls : List (List Change)) (l : List Change) (ms : List (List Change)) (xs : List Pair) → AllFit (ls ++ l ∷ ms) xs → length (applied l (layered ls xs)) ≤ row_limit
+fit_last [] l ms xs h = h.0
+fit_last (m ∷ ls) l ms xs h = fit_last ls l ms (applied m xs) h.1
+
+pub keys_after : (keys : List ℕ) (l : List Change) (xs : List Pair) → map key_of xs ≡ keys → map key_of (applied l xs) ≡ edited_from (key_edits l) 0 keys
+keys_after keys l xs e = keys_applied 0 l xs ∙ ap (λ (a : List ℕ). edited_from (key_edits l) 0 a) e
+
+pub count_after : (keys : List ℕ) (l : List Change) (xs : List Pair) → map key_of xs ≡ keys → length (applied l xs) ≡ length (edited_from (key_edits l) 0 keys)
+count_after keys l xs e = sym (length-map (applied l xs) key_of) ∙ ap length (keys_after keys l xs e)
+
+pub made_none : (keys : List ℕ) (columns : List (List Value)) → IsMadeBy keys columns [] keys columns
+made_none keys columns = record { pairs = λ xs p. p; few = λ xs e. tt; keys_are = λ xs e. e }
+
+pub made_more : (keys ks new : List ℕ) (columns cs vs : List (List Value)) (ls : List (List Change)) (l : List Change) → IsMadeBy keys columns ls ks cs → ((c : Change) → IsIn c l → HasWidth (length cs) c) → new ≡ edited_from (key_edits l) 0 ks → vs ≡ edited_columns l 0 cs → length new ≤ 1048576 → IsMadeBy keys columns (ls ++ l ∷ []) new vs
+made_more keys ks new columns cs vs ls l m wide ek ev few = record {
+  pairs = λ xs p.
+      let one = pairs_applied ks cs (layered ls xs) l wide (m.pairs xs p) in
+      let K : List ℕ → Type 0 = λ a. ArePairs a (edited_columns l 0 cs) (applied l (layered ls xs)) in
+      let V : List (List Value) → Type 0 = λ a. ArePairs new a (applied l (layered ls xs)) in
+      let X : List Pair → Type 0 = λ a. ArePairs new vs a in
+      subst X (sym (layered-push ls l xs)) (subst V (sym ev) (subst K (sym ek) one));
+  few = λ xs e. fit-push ls l xs (m.few xs e) (let c = count_after ks l (layered ls xs) (m.keys_are xs e) in let n = ap length ek in omega arith);
+  keys_are = λ xs e. ap (map key_of) (layered-push ls l xs) ∙ keys_after ks l (layered ls xs) (m.keys_are xs e) ∙ sym ek;
+}
+
+-- the columns after a layer are as long as its keys
+pub lengths_after : (keys new : List ℕ) (columns vs : List (List Value)) (l : List Change) → HaveLength (length keys) columns → ((c : Change) → IsIn c l → HasWidth (length columns) c) → new ≡ edited_from (key_edits l) 0 keys → vs ≡ edited_columns l 0 columns → HaveLength (length new) vs
+lengths_after keys new columns vs l h wide ek ev =
+    let one = lengths_of (edited_from (key_edits l) 0 keys) (edited_columns l 0 columns) _ (pairs_applied keys columns _ l wide (kept_pairs keys columns h)) in
+    let K : List ℕ → Type 0 = λ a. HaveLength (length a) (edited_columns l 0 columns) in
+    let V : List (List Value) → Type 0 = λ a. HaveLength (length new) a in
+    subst V (sym ev) (subst K (sym ek) one)
+
+pub layers_after : (kinds next : List Kind) (keys new : List ℕ) (l : List Change) (ls : List (List Change)) → next ≡ kinds → new ≡ edited_from (key_edits l) 0 keys → AreLayers kinds keys (l ∷ ls) → AreLayers next new ls
+layers_after kinds next keys new l ls e ek h =
+    let K : List ℕ → Type 0 = λ a. AreLayers kinds a ls in
+    let V : List Kind → Type 0 = λ a. AreLayers a new ls in
+    subst V (sym e) (subst K (sym ek) h.1)
+
+pub split_at : {A B : Type 0} (f : A → B) (xs : List A) (i : ℕ) (x : A) → i < length xs → x ≡ get_or xs i x → map f xs ≡ map f (take i xs) ++ f x ∷ map f (drop (i + 1) xs)
+split_at {A} {B} f xs i x l e =
+    sym (ap (map f) (take-append-drop i xs)) ∙ map-append f (take i xs) (drop i xs) ∙ ap (λ (a : List A). map f (take i xs) ++ map f a) (drop_item xs i x l e)
+
+pub too_many : (keys ks : List ℕ) (columns cs : List (List Value)) (all ls ms : List (List Change)) (l : List Change) (xs : List Pair) → all ≡ ls ++ l ∷ ms → IsMadeBy keys columns ls ks cs → map key_of xs ≡ keys → 1048576 < length (edited_from (key_edits l) 0 ks) → AllFit all xs → ⊥
+too_many keys ks columns cs all ls ms l xs s m e many fit =
+    let P : List (List Change) → Type 0 = λ a. AllFit a xs in
+    let last = fit_last ls l ms xs (subst P s fit) in
+    let count = count_after ks l (layered ls xs) (m.keys_are xs e) in
+    omega arith
+
+pub widths_of : (kinds : List Kind) (n : ℕ) (l : List Change) (w : ℕ) → length kinds ≡ w → IsLayerOf kinds n l → (c : Change) → IsIn c l → HasWidth w c
+widths_of kinds n l w e h c m = let P : ℕ → Type 0 = λ k. HasWidth k c in subst P e (h.widths c m)

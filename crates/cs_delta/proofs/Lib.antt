@@ -1,0 +1,15 @@
+pub mod EditLists
+pub mod MappedRanges
+pub mod MakeSteps
+pub mod PairColumns
+pub mod PairsKept
+pub mod LayerSteps
+pub mod Merged
+pub mod KeyPlaces
+pub mod FromChanges
+pub mod LayeredRows
+pub mod Sequences
+pub mod ItemTexts
+pub mod HeadTexts
+pub mod KeyLists
+pub mod LayerCounts

@@ -1,0 +1,11 @@
+use Rattle.std.proofs.Common.{◌≡◌, map, length, take}
+use Rattle.cs_schema.specs.Values.{values, kind_of}
+use Rattle.cs_delta.specs.ItemView.{change_of}
+use Rattle.cs_delta.specs.Layers.{edited_columns}
+use Rattle.cs_delta.proofs.layer.apply_layer.Given as goal
+
+abbrev pub invariant-loop-j : goal.invariant-loop-j
+invariant-loop-j l = record {
+  columns_are : map values l.merged.items ≡ edited_columns (map change_of l.items) 0 (map values (take l.j l.columns));
+  kinds : map kind_of l.merged.items ≡ map kind_of (take l.j l.columns);
+}

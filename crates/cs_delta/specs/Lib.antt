@@ -1,0 +1,12 @@
+pub mod Image
+pub mod DeltaFile
+pub mod Edits
+pub mod ItemView
+pub mod MergeSteps
+pub mod Layers
+pub mod Places
+pub mod KindedImage
+pub mod DeltaView
+pub mod ImageView
+pub mod Reading
+pub mod Laws

@@ -1,0 +1,71 @@
+//! All columns with the items of a layer applied.
+ghost use Rattle.std.specs.Prelude.{◌≡◌, ◌≤◌, ◌<◌, ℕ, List, map, length, IfOk};
+ghost use Rattle.cs_schema.specs.Values.{values, kind_of};
+ghost use Rattle.cs_delta.specs.Image.{Pair};
+ghost use Rattle.cs_delta.specs.Edits.{edited_from};
+ghost use Rattle.cs_delta.specs.ItemView.{change_of, changes_of, key_edits};
+ghost use Rattle.cs_delta.specs.Layers.{IsLayerOf, edited_columns, AreLayers, ArePairs, IsMadeBy, HaveLength, key_of};
+ghost use Rattle.cs_delta.specs.DeltaFile.{AllFit};
+
+use crate::item::Item;
+use crate::merging::{merge_column, merge_keys};
+use cs_schema::Cells;
+use cs_segment::fault::FileFault;
+use std::alloc::Global;
+
+/// The keys of rows, and their cells by columns.
+#[derive(Drop)]
+pub struct Rows {
+    pub keys: Vec<u32>,
+    pub columns: Vec<Cells>,
+}
+
+/// The most rows of an image.
+const ROW_LIMIT: usize = 1_048_576;
+
+/// The rows with the items of a layer applied.
+pub fn apply_layer(
+    alloc: Global,
+    keys: &[u32],
+    columns: &[Cells],
+    items: &[Item],
+) -> Result<Rows, FileFault>
+    requires layer { IsLayerOf (map kind_of columns.now) (length keys.now) (map change_of items.now) }
+    requires lengths { HaveLength (length keys.now) (map values columns.now) }
+    ensures keys { IfOk result (λ rows. rows.keys.items ≡ edited_from (key_edits (map change_of items.now)) 0 keys.now) }
+    ensures columns { IfOk result (λ rows. map values rows.columns.items ≡ edited_columns (map change_of items.now) 0 (map values columns.now)) }
+    ensures kinds { IfOk result (λ rows. map kind_of rows.columns.items ≡ map kind_of columns.now) }
+    ensures few { IfOk result (λ rows. length rows.keys.items ≤ 1048576) }
+    ensures many { result ≡ Err FileFault.Damaged → 1048576 < length (edited_from (key_edits (map change_of items.now)) 0 keys.now) }
+{
+    let merged_keys = merge_keys(alloc, keys, items)?;
+    if merged_keys.len() > ROW_LIMIT {
+        return Err(FileFault::Damaged);
+    }
+    let mut merged = Vec::new(alloc);
+    for (j, column) in columns.iter().enumerate() {
+        merged.push(merge_column(alloc, column, items, j)?)?;
+    }
+    Ok(Rows {
+        keys: merged_keys,
+        columns: merged,
+    })
+}
+
+/// The rows with the items of more layers applied, the lowest first.
+pub fn apply_layers(alloc: Global, rows: Rows, layers: &[Vec<Item>]) -> Result<Rows, FileFault>
+    requires layers { AreLayers (map kind_of rows.columns.items) rows.keys.items (map changes_of layers.now) }
+    requires lengths { HaveLength (length rows.keys.items) (map values rows.columns.items) }
+    requires few { length rows.keys.items ≤ 1048576 }
+    ensures made { IfOk result (λ made. IsMadeBy rows.keys.items (map values rows.columns.items) (map changes_of layers.now) made.keys.items (map values made.columns.items)) }
+    ensures few { IfOk result (λ made. length made.keys.items ≤ 1048576) }
+    ensures lengths { IfOk result (λ made. HaveLength (length made.keys.items) (map values made.columns.items)) }
+    ensures kinds { IfOk result (λ made. map kind_of made.columns.items ≡ map kind_of rows.columns.items) }
+    ensures many { result ≡ Err FileFault.Damaged → (xs : List Pair) → map key_of xs ≡ rows.keys.items → AllFit (map changes_of layers.now) xs → ⊥ }
+{
+    let mut made = rows;
+    for layer in layers {
+        made = apply_layer(alloc, &made.keys, &made.columns, layer)?;
+    }
+    Ok(made)
+}

@@ -1,0 +1,21 @@
+//! Deltas and the images that they make of segments.
+//!
+//! A delta's file, of either version, is read exactly: bytes are the file of one delta or `Damaged`. A segment and
+//! its delta are merged into the image that positional updates give: layer over layer, in time linear in rows and items.
+#![tactic(auto)]
+
+pub mod columns;
+pub mod delta;
+pub mod image;
+pub mod item;
+pub mod laws;
+pub mod layer;
+pub mod merging;
+pub mod reading;
+pub mod writing;
+
+pub use delta::Delta;
+pub use image::{Image, merge};
+pub use item::Item;
+pub use reading::read_delta;
+pub use writing::write_empty_delta;

@@ -1,0 +1,116 @@
+//! One column, or the keys, with the items of a layer applied.
+ghost use Rattle.std.specs.Prelude.{◌≡◌, ◌≤◌, ℕ, List, [], ◌∷◌, map, length, IfOk};
+ghost use Rattle.cs_schema.specs.Values.{values, kind_of};
+ghost use Rattle.cs_delta.specs.Image.{Change};
+ghost use Rattle.cs_schema.specs.Lists.{IsIn};
+ghost use Rattle.cs_delta.specs.Edits.{AreEdits, edited_from};
+ghost use Rattle.cs_delta.specs.ItemView.{change_of, cell_edits, key_edits, HasKind};
+ghost use Rattle.cs_delta.specs.MergeSteps.{Steps};
+
+use crate::columns::{count, empty_like, extend, push};
+use crate::item::Item;
+use cs_schema::Cells;
+use std::alloc::{AllocError, Global};
+
+/// Applies an item to a column of which `done` cells are taken, and tells how many are taken then.
+fn apply_to_column(
+    out: &mut Cells,
+    base: &Cells,
+    item: &Item,
+    j: usize,
+    done: usize,
+) -> Result<usize, AllocError>
+    requires kinds { kind_of out.old ≡ kind_of base.now }
+    requires fits { HasKind (kind_of base.now) j (change_of item.now) }
+    requires edit { AreEdits (length (values base.now)) done (cell_edits j (change_of item.now ∷ [])) }
+    requires within { done ≤ length (values base.now) }
+    ensures steps { IfOk result (λ next. Steps (cell_edits j) (values base.now) (change_of item.now) (values out.old) done (values out.new) next) }
+    ensures within { IfOk result (λ next. next ≤ length (values base.now)) }
+    ensures kinds { kind_of out.new ≡ kind_of out.old }
+{
+    match item {
+        Item::Insert { at, row, .. } => {
+            let at = *at as usize;
+            extend(out, base, done, at)?;
+            push(out, &row[j])?;
+            Ok(at)
+        }
+        Item::Delete { at } => {
+            let at = *at as usize;
+            extend(out, base, done, at)?;
+            Ok(at + 1)
+        }
+        Item::Modify { at, column, value } => {
+            if *column as usize != j {
+                return Ok(done);
+            }
+            let at = *at as usize;
+            extend(out, base, done, at)?;
+            push(out, value)?;
+            Ok(at + 1)
+        }
+    }
+}
+
+/// Applies an item to the keys of which `done` are taken, and tells how many are taken then.
+fn apply_to_keys(
+    out: &mut Vec<u32>,
+    base: &[u32],
+    item: &Item,
+    done: usize,
+) -> Result<usize, AllocError>
+    requires edit { AreEdits (length base.now) done (key_edits (change_of item.now ∷ [])) }
+    requires within { done ≤ length base.now }
+    ensures steps { IfOk result (λ next. Steps key_edits base.now (change_of item.now) out.old.items done out.new.items next) }
+    ensures within { IfOk result (λ next. next ≤ length base.now) }
+{
+    match item {
+        Item::Insert { at, key, .. } => {
+            let at = *at as usize;
+            out.extend_from_slice(&base[done..at])?;
+            out.push(*key)?;
+            Ok(at)
+        }
+        Item::Delete { at } => {
+            let at = *at as usize;
+            out.extend_from_slice(&base[done..at])?;
+            Ok(at + 1)
+        }
+        Item::Modify { .. } => Ok(done),
+    }
+}
+
+/// A column with the items of a layer applied.
+pub fn merge_column(
+    alloc: Global,
+    base: &Cells,
+    items: &[Item],
+    j: usize,
+) -> Result<Cells, AllocError>
+    requires fits { (c : Change) → IsIn c (map change_of items.now) → HasKind (kind_of base.now) j c }
+    requires edits { AreEdits (length (values base.now)) 0 (cell_edits j (map change_of items.now)) }
+    ensures merged { IfOk result (λ cells. values cells ≡ edited_from (cell_edits j (map change_of items.now)) 0 (values base.now)) }
+    ensures kind { IfOk result (λ cells. kind_of cells ≡ kind_of base.now) }
+{
+    let mut out = empty_like(alloc, base);
+    let mut done = 0;
+    for item in items {
+        done = apply_to_column(&mut out, base, item, j, done)?;
+    }
+    extend(&mut out, base, done, count(base))?;
+    Ok(out)
+}
+
+/// The keys with the items of a layer applied.
+pub fn merge_keys(alloc: Global, base: &[u32], items: &[Item]) -> Result<Vec<u32>, AllocError>
+    requires { AreEdits (length base.now) 0 (key_edits (map change_of items.now)) }
+    ensures { IfOk result (λ keys. keys.items ≡ edited_from (key_edits (map change_of items.now)) 0 base.now) }
+{
+    let mut out = Vec::new(alloc);
+    let mut done = 0;
+    for item in items {
+        done = apply_to_keys(&mut out, base, item, done)?;
+    }
+    out.extend_from_slice(&base[done..])?;
+    Ok(out)
+}

@@ -1,0 +1,3 @@
+pub mod JoinIndex
+pub mod Follow
+pub mod Entries

@@ -1,0 +1,12 @@
+//! Join indexes: for each key of a segment, where the same row stands in another projection.
+#![tactic(auto)]
+
+pub mod index;
+pub mod reading;
+#[cfg(test)]
+mod tests;
+pub mod writing;
+
+pub use index::JoinIndex;
+pub use reading::read_jix;
+pub use writing::write_jix;

@@ -1,0 +1,5 @@
+pub mod TextMaps
+pub mod Variants
+pub mod ShortTexts
+pub mod ColumnParts
+pub mod PieceLemmas

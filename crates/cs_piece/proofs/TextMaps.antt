@@ -1,0 +1,76 @@
+-- The texts of a list whose values stand for those of another list.
+use Rattle.std.proofs.Common.{◌≡◌, ℕ, suc, Bool, false, not, if◌then◌else◌, List, [], ◌∷◌, ◌++◌, length, map, Option, Some, None, refl, ap, ◌∙◌}
+use Rattle.std.specs.Prelude.{flat_map}
+use Rattle.std.specs.declared.cmp.Ordering.{Ordering}
+use Rattle.std.specs.declared.cmp.Ordering.TheVariants.{Less, Equal, Greater}
+use Rattle.cs_codec.specs.Cells.{number}
+use Rattle.cs_codec.specs.Texts.{plain_text, differs, kept, runs_text_from, runs_text, place_value, insert_value, distinct_values, run_lengths, bitmap_lengths, bitmap_text, bitmaps_text}
+
+-- bytes, equality and order are the same on both sides
+pub record IsSame {C D : Type 0} (f : C → D) (bytes : C → List ℕ) (eq : C → C → Bool) (cmp : C → C → Ordering) (bytes' : D → List ℕ) (eq' : D → D → Bool) (cmp' : D → D → Ordering) : Type 0 where
+  pub same_bytes : (x : C) → bytes' (f x) ≡ bytes x
+  pub same_eq : (x y : C) → eq' (f x) (f y) ≡ eq x y
+  pub same_cmp : (x y : C) → cmp' (f x) (f y) ≡ cmp x y
+
+module _ {C D : Type 0} (f : C → D) (bytes : C → List ℕ) (eq : C → C → Bool) (cmp : C → C → Ordering) (bytes' : D → List ℕ) (eq' : D → D → Bool) (cmp' : D → D → Ordering) (s : IsSame f bytes eq cmp bytes' eq' cmp') where
+  pub plain_text-map : (xs : List C) → plain_text bytes' (map f xs) ≡ plain_text bytes xs
+  plain_text-map [] = refl
+  plain_text-map (x ∷ xs) = ap (λ (w : List ℕ). w ++ plain_text bytes' (map f xs)) (s.same_bytes x) ∙ ap (λ (w : List ℕ). bytes x ++ w) (plain_text-map xs)
+
+  kept-map : (x : C) (xs : List C) → kept eq' (f x) (map f xs) ≡ kept eq x xs
+  kept-map x [] = refl
+  kept-map x (y ∷ xs) = ap (λ (b : Bool). if b then suc (kept eq' (f y) (map f xs)) else 0) (s.same_eq x y) ∙ ap (λ (n : ℕ). if eq x y then suc n else 0) (kept-map y xs)
+
+  lifted : Option C → Option D
+  lifted None = None
+  lifted (Some x) = Some (f x)
+
+  differs-map : (before : Option C) (x : C) → differs eq' (lifted before) (f x) ≡ differs eq before x
+  unfolding lifted
+  differs-map None x = refl
+  differs-map (Some y) x = ap not (s.same_eq y x)
+
+  runs-map : (before : Option C) (p : ℕ) (xs : List C) → runs_text_from bytes' eq' (lifted before) p (map f xs) ≡ runs_text_from bytes eq before p xs
+  unfolding lifted
+  runs-map before p [] = refl
+  runs-map before p (x ∷ xs) =
+      ap (λ (b : Bool). (if b then bytes' (f x) ++ number p ++ number (suc (kept eq' (f x) (map f xs))) else []) ++ runs_text_from bytes' eq' (Some (f x)) (suc p) (map f xs)) (differs-map before x)
+      ∙ ap (λ (w : List ℕ). (if differs eq before x then w ++ number p ++ number (suc (kept eq' (f x) (map f xs))) else []) ++ runs_text_from bytes' eq' (Some (f x)) (suc p) (map f xs)) (s.same_bytes x)
+      ∙ ap (λ (n : ℕ). (if differs eq before x then bytes x ++ number p ++ number (suc n) else []) ++ runs_text_from bytes' eq' (Some (f x)) (suc p) (map f xs)) (kept-map x xs)
+      ∙ ap (λ (w : List ℕ). (if differs eq before x then bytes x ++ number p ++ number (suc (kept eq x xs)) else []) ++ w) (runs-map (Some x) (suc p) xs)
+
+  pub runs_text-map : (xs : List C) → runs_text bytes' eq' (map f xs) ≡ runs_text bytes eq xs
+  unfolding lifted
+  runs_text-map xs = runs-map None 1 xs
+
+  place-map : (o : Ordering) (x y : C) (ys : List C) (deeper : List C) → place_value o (f x) (f y) (map f ys) (map f deeper) ≡ map f (place_value o x y ys deeper)
+  place-map Less x y ys deeper = refl
+  place-map Equal x y ys deeper = refl
+  place-map Greater x y ys deeper = refl
+
+  insert-map : (x : C) (ys : List C) → insert_value cmp' (f x) (map f ys) ≡ map f (insert_value cmp x ys)
+  insert-map x [] = refl
+  insert-map x (y ∷ ys) =
+      ap (λ (o : Ordering). place_value o (f x) (f y) (map f ys) (insert_value cmp' (f x) (map f ys))) (s.same_cmp x y)
+      ∙ ap (λ (zs : List D). place_value (cmp x y) (f x) (f y) (map f ys) zs) (insert-map x ys)
+      ∙ place-map (cmp x y) x y ys (insert_value cmp x ys)
+
+  distinct-map : (xs : List C) → distinct_values cmp' (map f xs) ≡ map f (distinct_values cmp xs)
+  distinct-map [] = refl
+  distinct-map (x ∷ xs) = ap (λ (zs : List D). insert_value cmp' (f x) zs) (distinct-map xs) ∙ insert-map x (distinct_values cmp xs)
+
+  bits-map : (x : C) (xs : List C) → map (eq' (f x)) (map f xs) ≡ map (eq x) xs
+  bits-map x [] = refl
+  bits-map x (y ∷ xs) = ap (λ (b : Bool). b ∷ map (eq' (f x)) (map f xs)) (s.same_eq x y) ∙ ap (λ (bs : List Bool). eq x y ∷ bs) (bits-map x xs)
+
+  bitmap-map : (xs : List C) (x : C) → bitmap_text bytes' eq' (map f xs) (f x) ≡ bitmap_text bytes eq xs x
+  bitmap-map xs x =
+      ap (λ (bs : List Bool). bytes' (f x) ++ number (length (run_lengths false 0 bs)) ++ flat_map number (run_lengths false 0 bs)) (bits-map x xs)
+      ∙ ap (λ (w : List ℕ). w ++ number (length (bitmap_lengths eq x xs)) ++ flat_map number (bitmap_lengths eq x xs)) (s.same_bytes x)
+
+  each-map : (xs ds : List C) → flat_map (bitmap_text bytes' eq' (map f xs)) (map f ds) ≡ flat_map (bitmap_text bytes eq xs) ds
+  each-map xs [] = refl
+  each-map xs (d ∷ ds) = ap (λ (w : List ℕ). w ++ flat_map (bitmap_text bytes' eq' (map f xs)) (map f ds)) (bitmap-map xs d) ∙ ap (λ (w : List ℕ). bitmap_text bytes eq xs d ++ w) (each-map xs ds)
+
+  pub bitmaps_text-map : (xs : List C) → bitmaps_text bytes' eq' cmp' (map f xs) ≡ bitmaps_text bytes eq cmp xs
+  bitmaps_text-map xs = ap (λ (zs : List D). flat_map (bitmap_text bytes' eq' (map f xs)) zs) (distinct-map xs) ∙ each-map xs (distinct_values cmp xs)

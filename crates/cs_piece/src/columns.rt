@@ -1,0 +1,54 @@
+//! Columns read from their text.
+ghost use Rattle.std.specs.Prelude.{◌≡◌, ◌≤◌, IfOk};
+ghost use Rattle.cs_schema.specs.Values.{values, kind_of};
+ghost use Rattle.cs_piece.specs.Columns.{IsColumnOf, NoColumn};
+
+use cs_codec::bitmaps::Bitmaps;
+use cs_codec::differences::Differences;
+use cs_codec::plain::Plain;
+use cs_codec::runs::Runs;
+use cs_codec::{CodecFault, Encoding};
+use cs_schema::{Cells, Code, Kind, Word};
+use std::alloc::Global;
+
+/// The column of so many rows that the bytes are the text of. `NotAText` where there is none.
+pub fn read_column(
+    alloc: Global,
+    code: Code,
+    kind: Kind,
+    bytes: &[u8],
+    rows: u32,
+) -> Result<Cells, CodecFault>
+    requires { rows ≤ 1048576 }
+    ensures found { IfOk result (λ cells. IsColumnOf code kind bytes.now rows (values cells)) }
+    ensures kind { IfOk result (λ cells. kind_of cells ≡ kind) }
+    ensures not_a_text { result ≡ Err CodecFault.NotAText → NoColumn code kind bytes.now rows }
+{
+    Ok(match (code, kind) {
+        (Code::Runs, Kind::Int) => {
+            Cells::Ints(<Runs as Encoding<i64>>::read(alloc, bytes, rows)?)
+        }
+        (Code::Runs, Kind::Text) => {
+            Cells::Texts(<Runs as Encoding<Word>>::read(alloc, bytes, rows)?)
+        }
+        (Code::Bitmaps, Kind::Int) => {
+            Cells::Ints(<Bitmaps as Encoding<i64>>::read(alloc, bytes, rows)?)
+        }
+        (Code::Bitmaps, Kind::Text) => {
+            Cells::Texts(<Bitmaps as Encoding<Word>>::read(alloc, bytes, rows)?)
+        }
+        (Code::Differences, Kind::Int) => { Cells::Ints(Differences::read(alloc, bytes, rows)?) }
+        (Code::Plain, Kind::Int) => {
+            Cells::Ints(<Plain as Encoding<i64>>::read(alloc, bytes, rows)?)
+        }
+        (Code::Plain, Kind::Text) => {
+            Cells::Texts(<Plain as Encoding<Word>>::read(alloc, bytes, rows)?)
+        }
+        (Code::Differences, Kind::Text) => {
+            if rows != 0 || bytes.len() != 0 {
+                return Err(CodecFault::NotAText);
+            }
+            Cells::Texts(Vec::new(alloc))
+        }
+    })
+}

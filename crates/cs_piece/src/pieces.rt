@@ -1,0 +1,140 @@
+//! Pieces: parts of columns, whose code and kind are known as the program runs.
+ghost use Rattle.std.specs.Prelude.{IfOk};
+ghost use Rattle.cs_schema.specs.Values.{values, kind_of};
+ghost use Rattle.cs_piece.specs.Columns.{CanEncode};
+ghost use Rattle.cs_piece.specs.Pieces.{IsPieceOf, PiecesFit, TellsFit, IsJoined, IsTextOf, IsShortTextOf};
+
+use cs_codec::Encoding;
+use cs_codec::bitmaps::{Bitmaps, BitmapsPart};
+use cs_codec::differences::{Differences, DifferencesPart};
+use cs_codec::plain::{Plain, PlainPart};
+use cs_codec::runs::{Runs, RunsPart};
+use cs_schema::{Cells, Code, Word};
+use std::alloc::{AllocError, Global};
+
+/// A part of a column of some code and kind, which can be joined with the part that comes next.
+#[derive(Drop)]
+pub enum Piece {
+    IntRuns(RunsPart<i64>),
+    TextRuns(RunsPart<Word>),
+    IntBitmaps(BitmapsPart<i64>),
+    TextBitmaps(BitmapsPart<Word>),
+    RisingInts(DifferencesPart),
+    /// The empty column of texts under `Code::Differences`.
+    NoTexts,
+    PlainInts(PlainPart),
+    PlainTexts(PlainPart),
+}
+
+impl Piece {
+    /// Whether one column can have the cells of both pieces.
+    pub fn can_join(&self, other: &Piece) -> bool
+        ensures { TellsFit self.now other.now result }
+    {
+        match (self, other) {
+            (Piece::IntRuns(left), Piece::IntRuns(right)) => {
+                <Runs as Encoding<i64>>::can_join(left, right)
+            }
+            (Piece::TextRuns(left), Piece::TextRuns(right)) => {
+                <Runs as Encoding<Word>>::can_join(left, right)
+            }
+            (Piece::IntBitmaps(left), Piece::IntBitmaps(right)) => {
+                <Bitmaps as Encoding<i64>>::can_join(left, right)
+            }
+            (Piece::TextBitmaps(left), Piece::TextBitmaps(right)) => {
+                <Bitmaps as Encoding<Word>>::can_join(left, right)
+            }
+            (Piece::RisingInts(left), Piece::RisingInts(right)) => {
+                Differences::can_join(left, right)
+            }
+            (Piece::PlainInts(left), Piece::PlainInts(right)) => {
+                <Plain as Encoding<i64>>::can_join(left, right)
+            }
+            (Piece::PlainTexts(left), Piece::PlainTexts(right)) => {
+                <Plain as Encoding<Word>>::can_join(left, right)
+            }
+            (Piece::NoTexts, Piece::NoTexts) => true,
+            _ => false,
+        }
+    }
+}
+
+/// The piece that stands for these cells.
+pub fn encode_piece(alloc: Global, code: Code, cells: &Cells) -> Result<Piece, AllocError>
+    requires { CanEncode code (kind_of cells.now) (values cells.now) }
+    ensures { IfOk result (λ piece. IsPieceOf piece code (kind_of cells.now) (values cells.now)) }
+{
+    Ok(match (code, cells) {
+        (Code::Runs, Cells::Ints(cells)) => {
+            Piece::IntRuns(<Runs as Encoding<i64>>::encode(alloc, cells)?)
+        }
+        (Code::Runs, Cells::Texts(cells)) => {
+            Piece::TextRuns(<Runs as Encoding<Word>>::encode(alloc, cells)?)
+        }
+        (Code::Bitmaps, Cells::Ints(cells)) => {
+            Piece::IntBitmaps(<Bitmaps as Encoding<i64>>::encode(alloc, cells)?)
+        }
+        (Code::Bitmaps, Cells::Texts(cells)) => {
+            Piece::TextBitmaps(<Bitmaps as Encoding<Word>>::encode(alloc, cells)?)
+        }
+        (Code::Differences, Cells::Ints(cells)) => {
+            Piece::RisingInts(Differences::encode(alloc, cells)?)
+        }
+        (Code::Plain, Cells::Ints(cells)) => {
+            Piece::PlainInts(<Plain as Encoding<i64>>::encode(alloc, cells)?)
+        }
+        (Code::Plain, Cells::Texts(cells)) => {
+            Piece::PlainTexts(<Plain as Encoding<Word>>::encode(alloc, cells)?)
+        }
+        (Code::Differences, Cells::Texts(_)) => Piece::NoTexts,
+    })
+}
+
+/// The piece that stands for the cells of both, one after the other. A refusal gives up both.
+pub fn join_pieces(left: Piece, right: Piece) -> Result<Piece, AllocError>
+    requires { PiecesFit left right }
+    ensures { IfOk result (λ piece. IsJoined left right piece) }
+{
+    Ok(match (left, right) {
+        (Piece::IntRuns(left), Piece::IntRuns(right)) => {
+            Piece::IntRuns(<Runs as Encoding<i64>>::join(left, right)?)
+        }
+        (Piece::TextRuns(left), Piece::TextRuns(right)) => {
+            Piece::TextRuns(<Runs as Encoding<Word>>::join(left, right)?)
+        }
+        (Piece::IntBitmaps(left), Piece::IntBitmaps(right)) => {
+            Piece::IntBitmaps(<Bitmaps as Encoding<i64>>::join(left, right)?)
+        }
+        (Piece::TextBitmaps(left), Piece::TextBitmaps(right)) => {
+            Piece::TextBitmaps(<Bitmaps as Encoding<Word>>::join(left, right)?)
+        }
+        (Piece::RisingInts(left), Piece::RisingInts(right)) => {
+            Piece::RisingInts(Differences::join(left, right)?)
+        }
+        (Piece::PlainInts(left), Piece::PlainInts(right)) => {
+            Piece::PlainInts(<Plain as Encoding<i64>>::join(left, right)?)
+        }
+        (Piece::PlainTexts(left), Piece::PlainTexts(right)) => {
+            Piece::PlainTexts(<Plain as Encoding<Word>>::join(left, right)?)
+        }
+        (Piece::NoTexts, Piece::NoTexts) => Piece::NoTexts,
+        _ => unreachable!(),
+    })
+}
+
+/// The text of the column that a piece stands for.
+pub fn write_piece(alloc: Global, piece: &Piece) -> Result<Vec<u8>, AllocError>
+    ensures text { IfOk result (λ out. IsTextOf piece.now out.items) }
+    ensures short { IfOk result (λ out. IsShortTextOf piece.now out.items) }
+{
+    match piece {
+        Piece::IntRuns(part) => <Runs as Encoding<i64>>::write(alloc, part),
+        Piece::TextRuns(part) => <Runs as Encoding<Word>>::write(alloc, part),
+        Piece::IntBitmaps(part) => <Bitmaps as Encoding<i64>>::write(alloc, part),
+        Piece::TextBitmaps(part) => <Bitmaps as Encoding<Word>>::write(alloc, part),
+        Piece::RisingInts(part) => <Differences as Encoding<i64>>::write(alloc, part),
+        Piece::PlainInts(part) => <Plain as Encoding<i64>>::write(alloc, part),
+        Piece::PlainTexts(part) => <Plain as Encoding<Word>>::write(alloc, part),
+        Piece::NoTexts => Ok(Vec::new(alloc)),
+    }
+}

@@ -1,0 +1,7 @@
+pub mod Bytes
+pub mod SegmentFile
+pub mod SegmentData
+pub mod SegmentView
+pub mod Parts
+pub mod SegmentPieces
+pub mod Laws

@@ -1,0 +1,50 @@
+-- The parts of a segment's file, one for each column.
+use Rattle.std.specs.Prelude.{◌≡◌, ℕ, ◌+◌, ◌≤◌, List, [], ◌∷◌, ◌++◌, length, codes}
+use Rattle.cs_schema.specs.declared.kinds.Kind.{Kind}
+use Rattle.cs_schema.specs.declared.kinds.Code.{Code}
+use Rattle.cs_schema.specs.declared.cells.Value.{Value}
+use Rattle.cs_schema.specs.CatalogData.{CatalogData, projection}
+use Rattle.cs_schema.specs.Order.{row_limit}
+use Rattle.cs_segment.specs.Bytes.{be16, be32}
+use Rattle.cs_codec.specs.ColumnText.{column_text, FitsColumn}
+use Rattle.cs_segment.specs.SegmentFile.{code_number, kind_number}
+use Rattle.cs_schema.specs.CatalogData.{code_at, kind_at}
+
+abbrev pub part_text : Code → Kind → List Value → List ℕ
+part_text code kind v = code_number code ∷ kind_number kind ∷ be32 (length (column_text code v)) ++ column_text code v
+
+-- the bytes begin with the part of this column, of so many rows
+pub record BeginsWithPart (code : Code) (kind : Kind) (bytes : List ℕ) (rows : ℕ) (v : List Value) (rest : List ℕ) : Type 0 where
+  pub text : bytes ≡ part_text code kind v ++ rest
+  pub rows_are : length v ≡ rows
+  pub fits : FitsColumn code kind v
+
+-- what holds of each column with its number, from number j on
+abbrev pub AllFrom : {X : Type 0} → (ℕ → X → Type 0) → ℕ → List X → Type 0
+AllFrom P j [] = Unit {0}
+AllFrom P j (v ∷ vs) = P j v × AllFrom P (j + 1) vs
+
+-- the column of this number has so many rows and fits its code
+pub record IsColumnAt (C : CatalogData) (p rows j : ℕ) (v : List Value) : Type 0 where
+  pub rows_are : length v ≡ rows
+  pub fits : FitsColumn (code_at C p j) (kind_at C p j) v
+
+-- the parts of columns, from number j on
+abbrev pub parts_text : CatalogData → ℕ → ℕ → List (List Value) → List ℕ
+parts_text C p j [] = []
+parts_text C p j (v ∷ vs) = part_text (code_at C p j) (kind_at C p j) v ++ parts_text C p (j + 1) vs
+
+-- the bytes are the parts of a projection's columns
+pub record AreParts (C : CatalogData) (p : ℕ) (bytes : List ℕ) (rows : ℕ) (columns : List (List Value)) : Type 0 where
+  pub text : bytes ≡ parts_text C p 0 columns
+  pub width : length columns ≡ length (projection C p).columns
+  pub columns_are : AllFrom (IsColumnAt C p rows) 0 columns
+
+-- what stands before the parts
+abbrev pub head_text : ℕ → ℕ → ℕ → ℕ → List ℕ
+head_text p s rows width = codes "CSSEG001" ++ be16 p ++ be16 s ++ be32 rows ++ be16 width
+
+-- the bytes begin with the head of a segment of so many rows
+pub record BeginsWithHead (p s width : ℕ) (bytes : List ℕ) (rows : ℕ) (rest : List ℕ) : Type 0 where
+  pub text : bytes ≡ head_text p s rows width ++ rest
+  pub count : rows ≤ row_limit
