@@ -1,0 +1,10 @@
+pub mod ComparedCells
+pub mod SortedItems
+pub mod SortedNumbers
+pub mod Filling
+pub mod SegmentNumbers
+pub mod TableRows
+pub mod FullRanges
+pub mod FirstFault
+pub mod SortColumns
+pub mod AllOrders

@@ -1,0 +1,14 @@
+use Rattle.std.proofs.Common.{◌≡◌, ◌<◌, ℕ, length, []}
+use Rattle.std.specs.Prelude.{slice_index_or}
+use Rattle.cs_order.specs.Tables.{table_of}
+use Rattle.cs_order.specs.Numbers.{AreSegmentsOf, ProjectionsFitBelow}
+use Rattle.cs_order.specs.Places.{segment_lists, HavePlaces}
+use Rattle.cs_order.proofs.parallel.orders.Given as goal
+
+abbrev pub invariant-loop-p : goal.invariant-loop-p
+invariant-loop-p g l = record {
+  count : length l.projections.items ≡ l.p;
+  each : (q : ℕ) → q < l.p → AreSegmentsOf l.catalog l.walked.rows q (slice_index_or (segment_lists l.projections.items) q []);
+  places : HavePlaces (length l.walked.rows) l.projections.items;
+  fit : ProjectionsFitBelow l.catalog (table_of l.catalog l.walked.rows) l.p;
+}

@@ -1,0 +1,5 @@
+pub mod Tables
+pub mod Orders
+pub mod Numbers
+pub mod Faults
+pub mod Places

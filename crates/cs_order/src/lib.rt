@@ -1,0 +1,17 @@
+//! The walked rows of each segment, in the order of its projection, sorted by several threads.
+//!
+//! Promises that rows are refused just where a primary key stands twice, or else where a range has too
+//! many rows, the least of these; and else that each segment has the numbers of its rows in their
+//! order. Where a row stands in a projection takes two reads.
+#![tactic(auto)]
+
+mod fault;
+mod item;
+mod parallel;
+mod places;
+mod segments;
+mod sort;
+
+pub use fault::OrderFault;
+pub use parallel::orders;
+pub use places::Orders;

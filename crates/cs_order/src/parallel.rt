@@ -1,0 +1,44 @@
+//! The orders of walked rows.
+ghost use Rattle.std.specs.Prelude.{◌≡◌, ◌<◌, ◌^◌, false, IfOk, IfErr, None, length, map};
+ghost use Rattle.cs_order.specs.Tables.{is_twice, table_of};
+ghost use Rattle.cs_order.specs.Orders.{AreOrdersOf, first_full};
+ghost use Rattle.cs_order.specs.Faults.{IsOrderFault};
+
+use crate::fault::OrderFault;
+use crate::places::Orders;
+use crate::segments::projection_order;
+use crate::sort::key_stands_twice;
+use cs_rows::Walked;
+use cs_schema::Catalog;
+use std::alloc::Global;
+use std::thread::Threads;
+
+/// The orders of all projections.
+///
+/// Refuses rows of which two have one primary key, and else the least range that has too many rows.
+pub fn orders<R: Threads + Sync>(
+    rt: &R,
+    alloc: Global,
+    walked: &Walked,
+    catalog: &Catalog,
+) -> Result<Orders, OrderFault>
+    requires kinds { walked.now.kinds ≡ map (λ c. c.kind) catalog.now.columns }
+    requires few { length walked.now.rows < 2 ^ 32 }
+    ensures orders { IfOk result (AreOrdersOf catalog.now walked.now.rows) }
+    ensures once { IfOk result (λ _. is_twice catalog.now walked.now.rows ≡ false) }
+    ensures fit { IfOk result (λ _. first_full catalog.now (table_of catalog.now walked.now.rows) ≡ None) }
+    ensures fault { IfErr result (IsOrderFault catalog.now walked.now.rows) }
+{
+    if key_stands_twice(rt, alloc, walked, catalog)? {
+        return Err(OrderFault::Twice);
+    }
+    let mut projections = Vec::new(alloc);
+    for p in 0..catalog.projection_count() {
+        let order = projection_order(rt, alloc, walked, catalog, p)?;
+        projections.push(order)?;
+    }
+    Ok(Orders {
+        rows: walked.rows(),
+        projections,
+    })
+}

@@ -1,0 +1,463 @@
+-- The surviving files with the written ones put over them hold the table again.
+use Rattle.std.proofs.Common.{◌≡◌, ◌≢◌, ℕ, zero, suc, ◌+◌, ◌-◌, ◌<◌, ◌≤◌, List, [], ◌∷◌, ◌++◌, map, refl, sym, ap, subst, ◌∙◌, Bool, true, false, not, cond, ◌&&◌, ◌||◌, ◌⊎◌, inl, inr, Option, Some, None, length, get_or, arith, ◌==◌, eqb-true, eq-eqb, pos, Ordering}
+use Rattle.std.specs.Prelude.{nat_lt, nat_le, slice_index, ◌≤ℤ◌}
+use Rattle.std.specs.List.{slice_get, range_with_len, enumerate_from, IsDistinct}
+use Rattle.std.specs.List.Sorted.{IsStrictlySortedBy}
+use Rattle.std.specs.Option.{option_map_or, option_and_then, option_or}
+use Rattle.std.specs.Ordering.{ordering_then, int_cmp}
+use Rattle.std.specs.Cmp.{int_ranked}
+use Rattle.std.specs.Cmp.Lexicographic.{slice_cmp}
+use Rattle.std.specs.declared.cmp.Ordering.TheVariants.{Less, Equal, Greater}
+use Rattle.std.proofs.lemmas.Option.{none-some, same_Some, slice_get-get_or, get_or_from_slice_get}
+use Rattle.std.proofs.lemmas.List.FromFn.{get_or-map-range_with_len, length-map-range_with_len, fill_by_all, length-enumerate_from, get_or-enumerate_from}
+use Rattle.std.proofs.Math.ListN.{length-map}
+use Rattle.std.proofs.lemmas.Int.{ints}
+use borrow.Author.Tests.{lt-ltb}
+use lib.Pointwise.{pointwise}
+use Rattle.cs_schema.specs.declared.kinds.Kind.{Kind}
+use Rattle.cs_schema.specs.declared.kinds.Code.{Code}
+use Rattle.cs_schema.specs.declared.cells.Value.{Value}
+use Rattle.cs_schema.specs.declared.file_name.FileName.{FileName}
+use Rattle.cs_schema.specs.CatalogData.{CatalogData, HasSegment, projection, segments, has_join, column}
+use Rattle.cs_schema.specs.CatalogRules.{IsCatalog}
+use Rattle.cs_schema.specs.Rows.{Row, IsTable, segment_of_row, project, cell, row_cmp}
+use Rattle.cs_schema.specs.Lists.{IsIn, member}
+use Rattle.cs_schema.specs.Values.{IsOfKind, value_cmp}
+use Rattle.cs_schema.specs.FileNames.{Survives, FileContents}
+use Rattle.cs_schema.specs.Losses.{Sites, alive, lost}
+use Rattle.cs_schema.specs.Order.{rows_of, Fits, row_limit}
+use Rattle.cs_schema.specs.Lists.{numbers_below}
+use Rattle.cs_codec.specs.ColumnText.{FitsColumn, FitsCode, int_of}
+use Rattle.cs_codec.specs.Texts.{NeverFalls, NeverFallsFrom}
+use Rattle.cs_segment.specs.SegmentFile.{IsBase, base_row, base_column, base_of, segment_text}
+use Rattle.cs_schema.specs.CatalogData.{code_at, kind_at}
+use Rattle.cs_delta.specs.Image.{Pair, applied_from, base_pairs, ImageData, image_rows, image_keys, position_of_key, fresh_image}
+use Rattle.cs_delta.specs.DeltaFile.{IsDelta, merged, no_changes, delta_text, key_limit}
+use Rattle.cs_jix.specs.JoinIndex.{Place, no_place, IsEntry, IsJoinIndexFile, join_index_text}
+use Rattle.cs_rows.specs.Walk.{Contents}
+use Rattle.cs_recovery.specs.Contents.{IsImageOf, IsJoinOf, Reads}
+use Rattle.cs_recovery.specs.Holding.{AreContentsOf, HoldsSurvivors, Holds, agrees}
+use Rattle.cs_recovery.specs.Places.{image_after, place_of, entry_for, entries_for}
+use Rattle.cs_recovery.specs.Expected.{AreExpected, written, is_segment, is_lost, is_affected}
+use Rattle.cs_recovery.specs.Tables.{when}
+use Rattle.cs_recovery.specs.Claims.{put_over}
+use Rattle.cs_schema.proofs.Ascending.{false≢true, All-in}
+use Rattle.cs_schema.proofs.RowOrder.{rows_of-are}
+use Rattle.cs_schema.proofs.Lists.{in_at, in_map, slice_get_map, before_map}
+use Rattle.cs_recovery.proofs.Walks.{IsKeyed, has_index}
+use Rattle.cs_safety.proofs.AliveLemmas.{segment_below, alive_kept}
+use Rattle.cs_recovery.proofs.Exact.{Layers}
+use Rattle.cs_recovery.proofs.Accepted.{same_contents}
+use Rattle.cs_recovery.proofs.Losses.{image_under, join_under, agree_map}
+use Rattle.cs_recovery.proofs.Keyed.{merged_keyed}
+
+-- ---- the first sort column never falls
+
+neighbours : {X : Type 0} (cmp : X → X → Ordering) (xs : List X) → IsStrictlySortedBy cmp xs → (i : ℕ) (x y : X) → slice_get xs i ≡ Some x → slice_get xs (suc i) ≡ Some y → cmp x y ≡ Less
+unfolding IsStrictlySortedBy
+neighbours cmp [] s i x y a b = absurd (none-some x a)
+neighbours cmp (z ∷ zs) s zero x y a b = subst (λ w. cmp w y ≡ Less) (same_Some z x a) (All-in (λ w. cmp z w ≡ Less) zs s.0 y (in_at zs 0 y b))
+neighbours cmp (z ∷ zs) s (suc i) x y a b = neighbours cmp zs s.1 i x y a b
+
+abbrev NotAbove : Ordering → Type 0
+NotAbove Less = Unit {0}
+NotAbove Equal = Unit {0}
+NotAbove Greater = ⊥
+
+abbrev IsLess : Ordering → Type 0
+IsLess Less = Unit {0}
+IsLess Equal = ⊥
+IsLess Greater = ⊥
+
+first_not_above : (o p : Ordering) → ordering_then o p ≡ Less → NotAbove o
+first_not_above Less p e = tt
+first_not_above Equal p e = tt
+first_not_above Greater p e = absurd (subst IsLess (sym e) tt)
+
+leading : (r r' : Row) (sort : List ℕ) (k k' : List Value) → 0 < length sort → slice_cmp value_cmp (map (cell r) sort ++ k) (map (cell r') sort ++ k') ≡ Less → NotAbove (value_cmp (cell r (slice_index sort 0)) (cell r' (slice_index sort 0)))
+leading r r' [] k k' h e = absurd (omega arith)
+leading r r' (c ∷ cs) k k' h e = first_not_above (value_cmp (cell r c) (cell r' c)) (slice_cmp value_cmp (map (cell r) cs ++ k) (map (cell r') cs ++ k')) e
+
+ints_in_order : (v w : Value) → IsOfKind Kind.Int v → IsOfKind Kind.Int w → NotAbove (value_cmp v w) → int_of v ≤ℤ int_of w
+ints_in_order (Value.Int x) (Value.Int y) a b h = go (int_cmp x y) refl h
+  where
+    go : (o : Ordering) → o ≡ int_cmp x y → NotAbove o → x ≤ℤ y
+    go Less e n = let l = int_ranked x y Less e in omega (arith, ints, l)
+    go Equal e n = let l = int_ranked x y Equal e in omega (arith, ints, l)
+    go Greater e n = absurd n
+ints_in_order (Value.Int x) (Value.Text y) a b h = absurd b
+ints_in_order (Value.Text x) w a b h = absurd a
+
+abbrev IsInt : Kind → Type 0
+IsInt Kind.Int = Unit {0}
+IsInt Kind.Text = ⊥
+
+-- no int is below the one before it, by positions
+abbrev FallsNowhere : List Value → Type 0
+FallsNowhere v = (i : ℕ) → i + 1 < length v → int_of (cell v i) ≤ℤ int_of (cell v (i + 1))
+
+falls_from : (x : Value) (xs : List Value) → FallsNowhere (x ∷ xs) → NeverFallsFrom (int_of x) (map int_of xs)
+falls_from x [] f = tt
+falls_from x (y ∷ ys) f = (f 0 (omega arith), falls_from y ys (λ i l. step i (f (suc i) (omega arith))))
+  where
+    step : (i : ℕ) → int_of (cell (y ∷ ys) i) ≤ℤ int_of (cell (x ∷ y ∷ ys) (suc i + 1)) → int_of (cell (y ∷ ys) i) ≤ℤ int_of (cell (y ∷ ys) (i + 1))
+    step i h =
+        let P : ℕ → Type 0 = λ n. int_of (cell (y ∷ ys) i) ≤ℤ int_of (cell (x ∷ y ∷ ys) n) in
+        let e : suc i + 1 ≡ suc (i + 1) = omega arith in
+        subst P e h
+
+falls_nowhere : (v : List Value) → FallsNowhere v → NeverFalls (map int_of v)
+falls_nowhere [] f = tt
+falls_nowhere (x ∷ xs) f = falls_from x xs f
+
+fits_code : (code : Code) (kind : Kind) (v : List Value) → (code ≡ Code.Differences → (kind ≡ Kind.Int) × FallsNowhere v) → FitsCode code kind v
+fits_code Code.Runs kind v f = tt
+fits_code Code.Bitmaps kind v f = tt
+fits_code Code.Plain kind v f = tt
+fits_code Code.Differences Kind.Int v f = falls_nowhere v (f refl).1
+fits_code Code.Differences Kind.Text v f = absurd (subst IsInt (sym (f refl).0) tt)
+
+pub distinct_none : IsDistinct ◌==◌ []
+unfolding IsDistinct
+distinct_none = tt
+
+-- ---- a segment written afresh
+
+module _ (C : CatalogData) (cat : IsCatalog C) (T : List Row) (t : IsTable C T) (fits : Fits C T) (p s : ℕ) (hs : HasSegment C p s) where
+  abbrev rows : List Row
+  rows = rows_of C T p s
+
+  abbrev projected : List (List Value)
+  projected = map (project C p) (rows_of C T p s)
+
+  abbrev columns : List ℕ
+  columns = (projection C p).columns
+
+  abbrev values : ℕ → List Value
+  values j = map (λ x. cell x j) (map (project C p) (rows_of C T p s))
+
+  in_table : (r : Row) → IsIn r rows → IsIn r T
+  in_table r h = (((rows_of-are C T t p s).members r).0 h).0
+
+  projected_cell : (r : Row) (j : ℕ) → j < length columns → cell (project C p r) j ≡ cell r (slice_index columns j)
+  projected_cell r j h = get_or_from_slice_get (project C p r) j (cell r (slice_index columns j)) (Value.Int (pos 0)) (slice_get_map (cell r) columns j (slice_index columns j) (slice_get-get_or columns j 0 h))
+
+  column_exists : (j : ℕ) → j < length columns → slice_index columns j < length C.columns
+  column_exists j h = (cat.projections p hs.0).columns (slice_index columns j) (in_member columns (slice_index columns j) (in_at columns j (slice_index columns j) (slice_get-get_or columns j 0 h)))
+    where
+      in_member : (xs : List ℕ) (x : ℕ) → IsIn x xs → member xs x ≡ true
+      in_member [] x k = absurd k
+      in_member (y ∷ xs) x (inl e) = ap (λ b. b || member xs x) (eq-eqb y x (sym e))
+      in_member (y ∷ xs) x (inr k) = elim (y == x) as (λ b. (b || member xs x) ≡ true) [ true ↦ refl | false ↦ in_member xs x k ]
+
+  row_kind : (r : Row) → IsIn r rows → (j : ℕ) → j < length columns → IsOfKind (kind_at C p j) (cell (project C p r) j)
+  row_kind r h j l = subst (IsOfKind (kind_at C p j)) (sym (projected_cell r j l)) ((t.rows r (in_table r h)).1 (slice_index columns j) (column_exists j l))
+
+  column_is : (j : ℕ) → j < length columns → base_column (base_of C p projected) j ≡ values j
+  column_is j h = get_or-map-range_with_len (λ i. map (λ x. cell x i) projected) 0 (length columns) j j [] h (omega arith)
+
+  count_is : length projected ≡ length rows
+  count_is = simp length-map
+
+  values_count : (j : ℕ) → length (values j) ≡ length rows
+  values_count j = simp length-map
+
+  value_at : (i j : ℕ) → i < length rows → j < length columns → cell (values j) i ≡ cell (get_or rows i []) (slice_index columns j)
+  value_at i j h l =
+      let r : Row = get_or rows i [] in
+      let a : slice_get rows i ≡ Some r = slice_get-get_or rows i [] h in
+      let b : slice_get (values j) i ≡ Some (cell (project C p r) j) = slice_get_map (λ x. cell x j) projected i (project C p r) (slice_get_map (project C p) rows i r a) in
+      get_or_from_slice_get (values j) i (cell (project C p r) j) (Value.Int (pos 0)) b ∙ projected_cell r j l
+
+  never_falls : (j : ℕ) → j < length columns → code_at C p j ≡ Code.Differences → (kind_at C p j ≡ Kind.Int) × FallsNowhere (values j)
+  never_falls j h e =
+      let P = cat.projections p hs.0 in
+      let d = P.differences j h e in
+      let c : ℕ = slice_index (projection C p).sort 0 in
+      let kind : kind_at C p j ≡ Kind.Int = ap (λ x. (column C x).kind) d.0 ∙ d.1 in (
+        kind,
+        λ i l.
+            let n : i + 1 < length rows = subst (λ m. i + 1 < m) (values_count j) l in
+            let x : Row = get_or rows i [] in
+            let y : Row = get_or rows (i + 1) [] in
+            let ax : slice_get rows i ≡ Some x = slice_get-get_or rows i [] (omega arith) in
+            let ay : slice_get rows (i + 1) ≡ Some y = slice_get-get_or rows (i + 1) [] n in
+            let step : suc i ≡ i + 1 = omega arith in
+            let less : row_cmp C p x y ≡ Less = neighbours (row_cmp C p) rows (rows_of-are C T t p s).in_order i x y ax (ap (slice_get rows) step ∙ ay) in
+            let above = leading x y (projection C p).sort (cell x C.key ∷ []) (cell y C.key ∷ []) P.some_sort less in
+            let exists : c < length C.columns = subst (λ w. w < length C.columns) d.0 (column_exists j h) in
+            let kx : IsOfKind Kind.Int (cell x c) = subst (λ k. IsOfKind k (cell x c)) d.1 ((t.rows x (in_table x (in_at rows i x ax))).1 c exists) in
+            let ky : IsOfKind Kind.Int (cell y c) = subst (λ k. IsOfKind k (cell y c)) d.1 ((t.rows y (in_table y (in_at rows (i + 1) y ay))).1 c exists) in
+            let vx : cell (values j) i ≡ cell x c = value_at i j (omega arith) h ∙ ap (cell x) d.0 in
+            let vy : cell (values j) (i + 1) ≡ cell y c = value_at (i + 1) j n h ∙ ap (cell y) d.0 in
+            subst (λ w. int_of w ≤ℤ int_of (cell (values j) (i + 1))) (sym vx) (subst (λ w. int_of (cell x c) ≤ℤ int_of w) (sym vy) (ints_in_order (cell x c) (cell y c) kx ky above)),
+      )
+
+  values_fit : (j : ℕ) → j < length columns → FitsColumn (code_at C p j) (kind_at C p j) (values j)
+  values_fit j h = record {
+    count = subst (λ n. n ≤ row_limit) (sym (values_count j)) (fits p s hs);
+    cells = λ x i.
+        let a = in_map (λ y. cell y j) projected x i in
+        let b = in_map (project C p) rows a.0 a.1 in
+        subst (IsOfKind (kind_at C p j)) (sym (a.2 ∙ ap (λ w. cell w j) b.2)) (row_kind b.0 b.1 j h);
+    order = fits_code (code_at C p j) (kind_at C p j) (values j) (never_falls j h);
+  }
+
+  pub base_is : IsBase C p (base_of C p projected)
+  base_is =
+      let w : length (base_of C p projected).columns ≡ length columns = length-map-range_with_len (λ j. map (λ x. cell x j) projected) 0 (length columns) in
+      record {
+        count = subst (λ n. n ≤ row_limit) (sym count_is) (fits p s hs);
+        width = w;
+        lengths = λ j h. let l : j < length columns = subst (λ n. j < n) w h in ap length (column_is j l) ∙ values_count j ∙ sym count_is;
+        columns = λ j h. let l : j < length columns = subst (λ n. j < n) w h in subst (FitsColumn (code_at C p j) (kind_at C p j)) (sym (column_is j l)) (values_fit j l);
+      }
+
+  -- its image with no changes has the keys 1, 2, 3, ..
+  no_changes_applied : (i : ℕ) (xs : List Pair) → applied_from [] i xs ≡ xs
+  no_changes_applied i [] = refl
+  no_changes_applied i (x ∷ xs) = ap (λ l. x ∷ l) (no_changes_applied (i + 1) xs)
+
+  row_back : (i : ℕ) → i < length rows → base_row (base_of C p projected) i ≡ get_or projected i []
+  row_back i h =
+      let r : Row = get_or rows i [] in
+      let at : slice_get projected i ≡ Some (project C p r) = slice_get_map (project C p) rows i r (slice_get-get_or rows i [] h) in
+      let x : get_or projected i [] ≡ project C p r = get_or_from_slice_get projected i (project C p r) [] at in
+      let f : ℕ → Value = λ j. cell (values j) i in
+      let made : project C p r ≡ map f (range_with_len 0 (length columns)) = fill_by_all f (project C p r) (length columns) (Value.Int (pos 0)) (length-map columns (cell r)) (λ j l. projected_cell r j l ∙ sym (value_at i j h l)) in
+      map-map (λ v. cell v i) (λ j. map (λ x. cell x j) projected) (range_with_len 0 (length columns)) ∙ sym made ∙ sym x
+    where
+      map-map : {A B D : Type 0} (f : B → D) (g : A → B) (xs : List A) → map f (map g xs) ≡ map (λ x. f (g x)) xs
+      map-map f g [] = refl
+      map-map f g (y ∷ ys) = ap (λ l. f (g y) ∷ l) (map-map f g ys)
+
+  fresh_pairs : enumerate_from 1 projected ≡ base_pairs (base_of C p projected)
+  fresh_pairs = fill_by_all (λ i. (i + 1, base_row (base_of C p projected) i)) (enumerate_from 1 projected) (length projected) (0, []) (length-enumerate_from 1 projected) (λ i h.
+      let l : i < length rows = subst (λ n. i < n) count_is h in
+      let n : 1 + i ≡ i + 1 = omega arith in
+      get_or-enumerate_from 1 projected i (0, []) h ∙ (λ k. (n k, sym (row_back i l) k)))
+
+  pub fresh_merged : fresh_image projected ≡ merged (base_of C p projected) (no_changes p s (length rows))
+  fresh_merged = λ i. record { pairs = (fresh_pairs ∙ sym (no_changes_applied 0 (base_pairs (base_of C p projected)))) i; top = count_is i }
+
+  pub no_changes_are : IsDelta C p (no_changes p s (length rows))
+  no_changes_are = record {
+    version = inl (refl, refl);
+    count = fits p s hs;
+    least_top = omega arith;
+    top_limit = (let l = fits p s hs in omega (arith, l));
+    layers = (record { number = Rattle.std.proofs.Common.lit< tt; below = (let l = fits p s hs in omega (arith, l)); items = λ c i. absurd i; order = λ k d h. absurd (omega arith) }, tt);
+    keys = distinct_none;
+  }
+
+-- ---- the files
+
+module _ (C : CatalogData) (cat : IsCatalog C) (layers : Layers C) (F : FileContents) (L : Sites) (S : Contents) (reads : Reads C F L S) (T : List Row) (t : IsTable C T) (fits : Fits C T) (same : AreContentsOf C L S T) where
+  keyed : (p s : ℕ) → Survives C L (FileName.Seg p s) → IsKeyed (S.image p s)
+  keyed p s v = layers.keyed F p s (S.image p s) (reads.images p s v)
+
+  abbrev fresh : ℕ → ℕ → ImageData
+  fresh p s = fresh_image (map (project C p) (rows_of C T p s))
+
+  is_fresh : (p s : ℕ) → lost C L p s ≡ true → image_after C L S T p s ≡ fresh p s
+  is_fresh p s e = ap (λ b. cond b (fresh p s) (S.image p s)) e
+
+  is_kept : (p s : ℕ) → lost C L p s ≡ false → image_after C L S T p s ≡ S.image p s
+  is_kept p s e = ap (λ b. cond b (fresh p s) (S.image p s)) e
+
+  -- what is known of an image after the recovery
+  record IsAfter (p s : ℕ) (m : ImageData) : Type 0 where
+    keys : IsKeyed m
+    rows : image_rows m ≡ map (project C p) (rows_of C T p s)
+    top : m.top ≤ key_limit
+
+  fresh_rows : (n : ℕ) (xs : List (List Value)) → map (λ (x : Pair). x.1) (enumerate_from n xs) ≡ xs
+  fresh_rows n [] = refl
+  fresh_rows n (x ∷ xs) = ap (λ l. x ∷ l) (fresh_rows (n + 1) xs)
+
+  after : (p s : ℕ) → HasSegment C p s → IsAfter p s (image_after C L S T p s)
+  after p s h = go (lost C L p s) refl
+    where
+      go : (b : Bool) → lost C L p s ≡ b → IsAfter p s (image_after C L S T p s)
+      go false e =
+          let i = reads.images p s (h, e) in
+          subst (IsAfter p s) (sym (is_kept p s e)) (record { keys = keyed p s (h, e); rows = same.images p s (h, e); top = subst (λ (m : ImageData). m.top ≤ key_limit) (sym i.image) i.delta_file.delta.top_limit })
+      go true e =
+          let xs : List (List Value) = map (project C p) (rows_of C T p s) in
+          let n : length xs ≡ length (rows_of C T p s) = count_is C cat T t fits p s h in
+          let l = fits p s h in
+          subst (IsAfter p s) (sym (is_fresh p s e)) (record {
+            keys = subst IsKeyed (sym (fresh_merged C cat T t fits p s h)) (merged_keyed C p (base_of C p xs) (no_changes p s (length (rows_of C T p s))) (no_changes_are C cat T t fits p s h) n);
+            rows = fresh_rows 1 xs;
+            top = omega (arith, l, n);
+          })
+
+  -- the place of a row is one that a join index may have, in a segment of the target
+  record IsGoodPlace (q : ℕ) (e : Place) : Type 0 where
+    segment : e.0 < segments C q
+    entry : IsEntry e
+
+  place_good : (q : ℕ) (r : Row) → q < length C.projections → IsIn r T → IsGoodPlace q (place_of C L S T q r)
+  place_good q r hq i =
+      let u : ℕ = segment_of_row C q r in
+      let hu : u < segments C q = segment_below C q r in
+      let a = after q u (hq, hu) in
+      let j = has_index C cat L S T t same keyed q r i in
+      let m : ImageData = image_after C L S T q u in
+      let g : slice_get (image_rows m) j.index ≡ Some (project C q r) = ap (λ xs. slice_get xs j.index) a.rows ∙ slice_get_map (project C q) (rows_of C T q u) j.index r j.at in
+      let b = before_map (λ (x : Pair). x.1) m.pairs j.index (project C q r) g in
+      let k : slice_get (image_keys m) j.index ≡ Some b.0.0 = slice_get_map (λ (x : Pair). x.0) m.pairs j.index b.0 b.1 in
+      let range = a.keys.range j.index b.0.0 k in
+      let top = a.top in
+      let few = (cat.projections q hq).few_cuts in
+      let is : place_of C L S T q r ≡ (u, b.0.0) = ap (λ v. (u, v)) (ap (λ o. option_map_or (λ x. slice_index (image_keys m) x) o 0) j.is ∙ get_or_from_slice_get (image_keys m) j.index b.0.0 0 k) in
+      subst (IsGoodPlace q) (sym is) (record { segment = hu; entry = inr (omega arith, range.0, omega (arith, range.1, top)) })
+
+  abbrev entry_from : ℕ → ℕ → (Row → Place) → Option ℕ → Place
+  entry_from p s f o = option_map_or f (option_and_then (slice_get (rows_of C T p s)) o) no_place
+
+  -- the entry at a key is none, or such a place
+  entry_good : (p s q k : ℕ) → q < length C.projections → (entry_for C L S T p s q k ≡ no_place) ⊎ IsGoodPlace q (entry_for C L S T p s q k)
+  entry_good p s q k hq = at_position (position_of_key (image_after C L S T p s) k)
+    where
+      at_row : (i : ℕ) (x : Option Row) → slice_get (rows_of C T p s) i ≡ x → (option_map_or (λ r. place_of C L S T q r) x no_place ≡ no_place) ⊎ IsGoodPlace q (option_map_or (λ r. place_of C L S T q r) x no_place)
+      at_row i None e = inl refl
+      at_row i (Some r) e = inr (place_good q r hq (((rows_of-are C T t p s).members r).0 (in_at (rows_of C T p s) i r e)).0)
+
+      at_position : (o : Option ℕ) → (entry_from p s (λ r. place_of C L S T q r) o ≡ no_place) ⊎ IsGoodPlace q (entry_from p s (λ r. place_of C L S T q r) o)
+      at_position None = inl refl
+      at_position (Some i) = at_row i (slice_get (rows_of C T p s) i) refl
+
+  entries_file : (p s q : ℕ) → HasSegment C p s → q < length C.projections → IsJoinIndexFile p s q (join_index_text p s q (entries_for C L S T p s q)) (entries_for C L S T p s q)
+  entries_file p s q h hq = record {
+    count = subst (λ n. n ≤ key_limit) (sym (length-map-range_with_len (λ i. entry_for C L S T p s q (i + 1)) 0 (image_after C L S T p s).top)) (after p s h).top;
+    each = λ e i. let x = in_map (λ i. entry_for C L S T p s q (i + 1)) (numbers_below (image_after C L S T p s).top) e i in subst IsEntry (sym x.2) (one (entry_good p s q (x.0 + 1) hq));
+    text = refl;
+  }
+    where
+      one : {e : Place} → (e ≡ no_place) ⊎ IsGoodPlace q e → IsEntry e
+      one (inl a) = inl a
+      one (inr b) = b.entry
+
+  -- what the recovery leaves
+  abbrev left : Contents
+  left = record { image = image_after C L S T; join = λ p s q. cond (is_affected C L p s q) (entries_for C L S T p s q) (S.join p s q) }
+
+  exists_test : (p s : ℕ) → HasSegment C p s → is_segment C p s ≡ true
+  exists_test p s h = ap (λ b. b && nat_lt s (segments C p)) (lt-ltb p (length C.projections) h.0) ∙ lt-ltb s (segments C p) h.1
+
+  module _ (out : FileContents) (files : (n : FileName) → out n ≡ written C L S T n) where
+    abbrev G : FileContents
+    G = put_over out F
+
+    left_image : (p s : ℕ) → HasSegment C p s → IsImageOf C G p s (image_after C L S T p s)
+    left_image p s h = go (lost C L p s) refl
+      where
+        go : (b : Bool) → lost C L p s ≡ b → IsImageOf C G p s (image_after C L S T p s)
+        go false e =
+            let no : is_lost C L p s ≡ false = ap (λ b. b && lost C L p s) (exists_test p s h) ∙ e in
+            let seg : out (FileName.Seg p s) ≡ None = files (FileName.Seg p s) ∙ ap (λ b. when b (segment_text C p s (base_of C p (map (project C p) (rows_of C T p s))))) no in
+            let del : out (FileName.Del p s) ≡ None = files (FileName.Del p s) ∙ ap (λ b. when b (delta_text (no_changes p s (length (rows_of C T p s))))) no in
+            subst (IsImageOf C G p s) (sym (is_kept p s e)) (image_under C F G p s (S.image p s) (ap (λ o. option_or o (F (FileName.Seg p s))) seg) (ap (λ o. option_or o (F (FileName.Del p s))) del) (reads.images p s (h, e)))
+        go true e =
+            let xs : List (List Value) = map (project C p) (rows_of C T p s) in
+            let n : ℕ = length (rows_of C T p s) in
+            let yes : is_lost C L p s ≡ true = ap (λ b. b && lost C L p s) (exists_test p s h) ∙ e in
+            let seg : out (FileName.Seg p s) ≡ Some (segment_text C p s (base_of C p xs)) = files (FileName.Seg p s) ∙ ap (λ b. when b (segment_text C p s (base_of C p xs))) yes in
+            let del : out (FileName.Del p s) ≡ Some (delta_text (no_changes p s n)) = files (FileName.Del p s) ∙ ap (λ b. when b (delta_text (no_changes p s n))) yes in
+            let is = fresh_merged C cat T t fits p s h in
+            let l = fits p s h in
+            let c : length xs ≡ n = count_is C cat T t fits p s h in
+            let many : length (merged (base_of C p xs) (no_changes p s n)).pairs ≤ row_limit = subst (λ (m : ImageData). length m.pairs ≤ row_limit) is (subst (λ k. k ≤ row_limit) (sym (length-enumerate_from 1 xs)) (omega (arith, l, c))) in
+            record {
+              segment_bytes = segment_text C p s (base_of C p xs);
+              delta_bytes = delta_text (no_changes p s n);
+              base = base_of C p xs;
+              changes = no_changes p s n;
+              has_segment = ap (λ o. option_or o (F (FileName.Seg p s))) seg;
+              has_delta = ap (λ o. option_or o (F (FileName.Del p s))) del;
+              segment_file = record { base = base_is C cat T t fits p s h; text = refl };
+              delta_file = record { p_is = refl; s_is = refl; delta = no_changes_are C cat T t fits p s h; text = refl };
+              can_merge = record { rows = c; few = (many, tt) };
+              image = is_fresh p s e ∙ is;
+            }
+
+    -- a join index that is not written is one that survives, to a target with no lost segment
+    unwritten : (p s q : ℕ) → HasSegment C p s → has_join C p q ≡ true → is_affected C L p s q ≡ false → (lost C L p s ≡ false) × (alive C L q ≡ true)
+    unwritten p s q h d e =
+        let a : (lost C L p s || not (alive C L q)) ≡ false = sym (ap (λ b. b && has_join C p q && (lost C L p s || not (alive C L q))) (exists_test p s h) ∙ ap (λ b. b && (lost C L p s || not (alive C L q))) d) ∙ e in
+        parts (lost C L p s) (alive C L q) a
+      where
+        parts : (x y : Bool) → (x || not y) ≡ false → (x ≡ false) × (y ≡ true)
+        parts true y f = false≢true (sym f)
+        parts false true f = (refl, refl)
+        parts false false f = false≢true (sym f)
+
+    left_join : (p s q : ℕ) → HasSegment C p s → has_join C p q ≡ true → IsJoinOf G p s q (left.join p s q)
+    left_join p s q h d = go (is_affected C L p s q) refl
+      where
+        hq : q < length C.projections
+        hq = ((cat.projections p h.0).joins q d).0
+
+        go : (b : Bool) → is_affected C L p s q ≡ b → IsJoinOf G p s q (left.join p s q)
+        go true e =
+            let es : List Place = entries_for C L S T p s q in
+            let jix : out (FileName.Jix p s q) ≡ Some (join_index_text p s q es) = files (FileName.Jix p s q) ∙ ap (λ b. when b (join_index_text p s q es)) e in
+            subst (IsJoinOf G p s q) (sym (ap (λ b. cond b es (S.join p s q)) e)) (record { bytes = join_index_text p s q es; has_file = ap (λ o. option_or o (F (FileName.Jix p s q))) jix; file = entries_file p s q h hq })
+        go false e =
+            let es : List Place = entries_for C L S T p s q in
+            let jix : out (FileName.Jix p s q) ≡ None = files (FileName.Jix p s q) ∙ ap (λ b. when b (join_index_text p s q es)) e in
+            let u = unwritten p s q h d e in
+            subst (IsJoinOf G p s q) (sym (ap (λ b. cond b es (S.join p s q)) e)) (join_under F G p s q (S.join p s q) (ap (λ o. option_or o (F (FileName.Jix p s q))) jix) (reads.joins p s q ((h, d), u.0)))
+
+    agrees_self : (q : ℕ) (e : Place) → agrees C [] q e e ≡ true
+    agrees_self q e = ap (λ b. b && (e.1 == e.1)) (eq-eqb e.0 e.0 refl) ∙ eq-eqb e.1 e.1 refl
+
+    all_self : (q : ℕ) (xs : List Place) → pointwise (agrees C [] q) xs xs ≡ true
+    all_self q [] = refl
+    all_self q (x ∷ xs) = ap (λ b. b && pointwise (agrees C [] q) xs xs) (agrees_self q x) ∙ all_self q xs
+
+    -- where nothing of the target is lost, an entry is its place
+    kept_exactly : (q : ℕ) (e place : Place) → q < length C.projections → alive C L q ≡ true → (place ≡ no_place) ⊎ IsGoodPlace q place → agrees C L q e place ≡ true → agrees C [] q e place ≡ true
+    kept_exactly q e place hq a g x = sym (ap (λ b. (e.0 == place.0) && cond b (nat_le 1 e.1) (e.1 == place.1)) (none g)) ∙ x
+      where
+        dead : (b : Bool) (k : ℕ) → k ≡ 0 → (b && not (k == 0)) ≡ false
+        dead true k z = ap not (eq-eqb k 0 z)
+        dead false k z = refl
+
+        none : (place ≡ no_place) ⊎ IsGoodPlace q place → (lost C L q place.0 && not (place.1 == 0)) ≡ false
+        none (inl z) = dead (lost C L q place.0) place.1 (ap (λ (w : Place). w.1) z)
+        none (inr w) = ap (λ b. b && not (place.1 == 0)) (alive_kept C cat L q hq a place.0 w.segment)
+
+    left_contents : AreContentsOf C [] left T
+    left_contents = record {
+      images = λ p s v. (after p s v.0).rows;
+      joins = λ p s q v. go p s q v.0.0 v.0.1 (is_affected C L p s q) refl;
+    }
+      where
+        go : (p s q : ℕ) → HasSegment C p s → has_join C p q ≡ true → (b : Bool) → is_affected C L p s q ≡ b → pointwise (agrees C [] q) (left.join p s q) (entries_for C L S T p s q) ≡ true
+        go p s q h d true e =
+            let es : List Place = entries_for C L S T p s q in
+            ap (λ xs. pointwise (agrees C [] q) xs es) (ap (λ b. cond b es (S.join p s q)) e) ∙ all_self q es
+        go p s q h d false e =
+            let es : List Place = entries_for C L S T p s q in
+            let u = unwritten p s q h d e in
+            let hq = ((cat.projections p h.0).joins q d).0 in
+            let f : ℕ → Place = λ i. entry_for C L S T p s q (i + 1) in
+            ap (λ xs. pointwise (agrees C [] q) xs es) (ap (λ b. cond b es (S.join p s q)) e)
+            ∙ agree_map (agrees C L q) (agrees C [] q) f f (S.join p s q) (numbers_below (image_after C L S T p s).top) (λ i x y. kept_exactly q x (f i) hq u.1 (entry_good p s q (i + 1) hq) y) (same.joins p s q ((h, d), u.0))
+
+    pub left_holds : Holds C (put_over out F) T
+    left_holds = record {
+      table = t;
+      fits = fits;
+      contents = left;
+      reads = record { images = λ p s v. left_image p s v.0; joins = λ p s q v. left_join p s q v.0.0 v.0.1 };
+      same = left_contents;
+    }
+
+-- The surviving files with the written ones put over them hold the table again.
+pub whole_again : (C : CatalogData) → IsCatalog C → Layers C → (F : FileContents) (L : Sites) (T : List Row) → HoldsSurvivors C F L T → (out : FileContents) → AreExpected C F L T out → Holds C (put_over out F) T
+whole_again C cat layers F L T h out x =
+    let same = same_contents C cat layers F L h.contents x.contents h.reads x.reads T h.same in
+    left_holds C cat layers F L x.contents x.reads T h.table h.fits same out x.files

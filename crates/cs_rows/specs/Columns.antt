@@ -1,0 +1,41 @@
+-- The columns that a walk has filled so far.
+use Rattle.std.specs.Prelude.{ℕ, ◌≡◌, ◌<◌, ◌==◌, List, [], ◌∷◌, ◌++◌, map, length, slice_index, slice_index_or, true, Some}
+use Rattle.std.specs.List.{find, position_or_len, range_with_len}
+use Rattle.cs_schema.specs.declared.cells.Cells.{Cells}
+use Rattle.cs_schema.specs.Values.{values, kind_of}
+use Rattle.cs_schema.specs.CatalogData.{CatalogData, column, projection}
+use Rattle.cs_safety.specs.PlanData.{PlanData}
+use Rattle.cs_rows.specs.Walk.{Contents, At, is_astray, stand, walked_cell}
+use Rattle.cs_safety.specs.PlanData.{is_planned}
+use Rattle.cs_rows.specs.Steps.{IsAt}
+use Rattle.cs_rows.specs.declared.range.WalkFault.{WalkFault}
+
+-- where the walk of a row stands in each of the first n projections that the plan reaches
+abbrev pub PlacesAre : CatalogData → Contents → PlanData → At → List At → ℕ → Type 0
+PlacesAre C S P row places n = (q : ℕ) → q < n → is_planned P q ≡ true → (stand C S P row q ≡ Some (slice_index_or places q (0, 0))) × IsAt C S q (slice_index_or places q (0, 0))
+
+-- the projection from which a column is read, and its number there
+abbrev pub read_of : CatalogData → PlanData → ℕ → ℕ × ℕ
+read_of C P c = (slice_index P.source c, position_or_len (λ d. d == c) (projection C (slice_index P.source c)).columns)
+
+-- the cells of one row stand at the end of each of the first n columns
+abbrev pub Pushed : CatalogData → Contents → PlanData → At → List Cells → List Cells → ℕ → Type 0
+Pushed C S P row before after n = (c : ℕ) (d : Cells) → c < n → (kind_of (slice_index_or after c d) ≡ kind_of (slice_index_or before c d)) × (values (slice_index_or after c d) ≡ values (slice_index_or before c d) ++ walked_cell C S P row c ∷ [])
+
+-- one column of its kind for each column of the table
+pub record ColumnsFit (C : CatalogData) (columns : List Cells) : Type 0 where
+  pub count : length columns ≡ length C.columns
+  pub kinds : (c : ℕ) (d : Cells) → c < length C.columns → kind_of (slice_index_or columns c d) ≡ (column C c).kind
+
+-- the columns have the walked cells of some rows
+abbrev pub AreWalked : CatalogData → Contents → PlanData → List At → List Cells → Type 0
+AreWalked C S P ats columns = (c : ℕ) (d : Cells) → c < length C.columns → values (slice_index_or columns c d) ≡ map (λ at. walked_cell C S P at c) ats
+
+-- the rows of a segment from start on
+abbrev pub rows_from : ℕ → ℕ → ℕ → List At
+rows_from s start n = map (λ i. (s, i)) (range_with_len start n)
+
+-- want of memory, or the first row that is astray
+abbrev pub IsRowFault : CatalogData → Contents → PlanData → List At → WalkFault → Type 0
+IsRowFault C S P ats WalkFault.Memory = Unit {0}
+IsRowFault C S P ats (WalkFault.Astray p s row) = (p ≡ P.anchor) × (find (is_astray C S P) ats ≡ Some (s, row))

@@ -1,0 +1,360 @@
+//! The walk of a range of anchor rows.
+ghost use Rattle.std.specs.Prelude.{◌≡◌, ◌<◌, ◌≤◌, ◌+◌, ◌-◌, ◌==◌, ◌++◌, ◌∷◌, [], ℕ, List, length, map, IfOk, IfErr, OnOk, OnErr, Bool, true, false, slice_index, slice_index_or, Some, None, Ok, Err};
+ghost use Rattle.std.specs.List.{find, position_or_len};
+ghost use Rattle.cs_schema.specs.Values.{values, kind_of};
+ghost use Rattle.cs_schema.specs.Rows.{cell};
+ghost use Rattle.cs_schema.specs.CatalogData.{column, projection, segments};
+ghost use Rattle.cs_schema.specs.CatalogRules.{IsCatalog};
+ghost use Rattle.cs_schema.specs.Values.{IsOfKind};
+ghost use Rattle.cs_rows.specs.Walk.{At, stand, is_astray, projection_rows, segment_rows};
+ghost use Rattle.cs_safety.specs.PlanData.{is_planned};
+ghost use Rattle.cs_schema.specs.declared.kinds.Kind.{Kind as KindValue};
+ghost use Rattle.cs_rows.specs.declared.range.WalkFault.TheVariants.{Memory};
+ghost use Rattle.cs_rows.specs.Survivors.{HasRoom, HoldsImages, contents_of, image_row};
+ghost use Rattle.cs_rows.specs.Steps.{IsAt, PlanFits};
+ghost use Rattle.cs_rows.specs.Columns.{PlacesAre, read_of, Pushed, ColumnsFit, AreWalked, IsRowFault, rows_from};
+ghost use Rattle.cs_rows.specs.Range.{walked_among, rows_between, IsPlanOf, IsWalkFault};
+
+use crate::numbers::{
+    anchor, column_count, columns_of, kind, prev, projection_count, segments, source,
+};
+use crate::steps::stand;
+use crate::survivors::Survivors;
+use crate::walked::Walked;
+use cs_delta::image::Image;
+use cs_safety::Plan;
+use cs_schema::{Catalog, Cells};
+use std::alloc::{AllocError, AllocFailed, Global};
+
+/// Why a walk gives no rows.
+#[derive(Debug, Clone, Copy, PartialEq, Eq)]
+pub enum WalkFault {
+    Memory,
+    /// The first row that the join indexes lead astray: its projection, segment and position in the image.
+    Astray { p: u16, s: u16, row: u32 },
+}
+
+impl From<AllocError> for WalkFault {
+    ghost from_gives = { λ _ e. e ≡ Memory };
+
+    fn from(_e: AllocError) -> Self {
+        WalkFault::Memory
+    }
+}
+
+impl<T: Drop> From<AllocFailed<T>> for WalkFault {
+    ghost from_gives = { λ _ e. e ≡ Memory };
+
+    fn from(_e: AllocFailed<T>) -> Self {
+        WalkFault::Memory
+    }
+}
+
+/// Whether the plan reaches a projection.
+fn is_planned(plan: &Plan, q: usize) -> bool
+    requires { q < length plan.now.prev }
+    ensures { result ≡ is_planned plan.now q }
+{
+    q == anchor(plan) || prev(plan, q).is_some()
+}
+
+/// Finds where the walk of an anchor row stands in each projection that the plan reaches, and whether it is astray.
+fn find_places(
+    catalog: &Catalog,
+    plan: &Plan,
+    survivors: &Survivors,
+    row: (u16, u32),
+    places: &mut [(u16, u32)],
+) -> bool
+    requires room { HasRoom catalog.now survivors.now }
+    requires fits { PlanFits catalog.now plan.now }
+    requires row { IsAt catalog.now (contents_of survivors.now) plan.now.anchor row }
+    requires places { length places.old ≡ length catalog.now.projections }
+    ensures astray { result ≡ is_astray catalog.now (contents_of survivors.now) plan.now row }
+    ensures places { result ≡ false → PlacesAre catalog.now (contents_of survivors.now) plan.now row places.new (length catalog.now.projections) }
+{
+    let count = projection_count(catalog);
+    for q in 0..count {
+        if is_planned(plan, q) {
+            match stand(catalog, plan, survivors, row, count, q) {
+                Some(at) => places[q] = at,
+                None => return true,
+            }
+        }
+    }
+    false
+}
+
+/// Puts the cell of an image's row at the end of a column.
+fn push_cell(cells: &mut Cells, image: &Image, row: u32, j: usize) -> Result<(), AllocError>
+    requires row { row < length image.now.image.pairs }
+    requires there { j < length image.now.kinds }
+    requires kind { kind_of cells.old ≡ slice_index_or image.now.kinds j KindValue.Int }
+    ensures kind { kind_of cells.new ≡ kind_of cells.old }
+    ensures ok { OnOk result (values cells.new ≡ values cells.old ++ cell (image_row image.now.image row) j ∷ []) }
+{
+    cells.push_cell(image.column(j), row as usize)
+}
+
+/// Puts the cells of one row at the ends of the columns.
+fn push_row(
+    catalog: &Catalog,
+    plan: &Plan,
+    survivors: &Survivors,
+    row: (u16, u32),
+    places: &[(u16, u32)],
+    reads: &[(usize, usize)],
+    columns: &mut Vec<Cells>,
+) -> Result<(), AllocError>
+    requires room { HasRoom catalog.now survivors.now }
+    requires made { HoldsImages catalog.now survivors.now }
+    requires fits { PlanFits catalog.now plan.now }
+    requires places { PlacesAre catalog.now (contents_of survivors.now) plan.now row places.now (length catalog.now.projections) }
+    requires room_of_places { length places.now ≡ length catalog.now.projections }
+    requires reads { (c : ℕ) → c < length catalog.now.columns → slice_index_or reads.now c (0, 0) ≡ read_of catalog.now plan.now c }
+    requires room_of_reads { length reads.now ≡ length catalog.now.columns }
+    requires columns { ColumnsFit catalog.now columns.old.items }
+    ensures count { length columns.new.items ≡ length columns.old.items }
+    ensures ok { OnOk result (Pushed catalog.now (contents_of survivors.now) plan.now row columns.old.items columns.new.items (length catalog.now.columns)) }
+{
+    for c in 0..columns.len() {
+        let (q, j) = reads[c];
+        let at = places[q];
+        match survivors.image(q, at.0 as usize) {
+            Some(image) => push_cell(&mut columns[c], image, at.1, j)?,
+            None => unreachable!(),
+        }
+    }
+    Ok(())
+}
+
+/// Walks one anchor row.
+fn walk_row(
+    catalog: &Catalog,
+    plan: &Plan,
+    survivors: &Survivors,
+    row: (u16, u32),
+    reads: &[(usize, usize)],
+    places: &mut [(u16, u32)],
+    columns: &mut Vec<Cells>,
+) -> Result<(), WalkFault>
+    requires room { HasRoom catalog.now survivors.now }
+    requires made { HoldsImages catalog.now survivors.now }
+    requires fits { PlanFits catalog.now plan.now }
+    requires places { length places.old ≡ length catalog.now.projections }
+    requires reads { (c : ℕ) → c < length catalog.now.columns → slice_index_or reads.now c (0, 0) ≡ read_of catalog.now plan.now c }
+    requires room_of_reads { length reads.now ≡ length catalog.now.columns }
+    requires columns { ColumnsFit catalog.now columns.old.items }
+    requires row { IsAt catalog.now (contents_of survivors.now) plan.now.anchor row }
+    ensures fit { OnOk result (ColumnsFit catalog.now columns.new.items) }
+    ensures sound { OnOk result (find (is_astray catalog.now (contents_of survivors.now) plan.now) ((row ∷ [])) ≡ None) }
+    ensures cells { OnOk result ((ats : List At) → AreWalked catalog.now (contents_of survivors.now) plan.now ats columns.old.items → AreWalked catalog.now (contents_of survivors.now) plan.now (ats ++ (row ∷ [])) columns.new.items) }
+    ensures fault { IfErr result (IsRowFault catalog.now (contents_of survivors.now) plan.now ((row ∷ []))) }
+{
+    if find_places(catalog, plan, survivors, row, places) {
+        return Err(WalkFault::Astray {
+            p: anchor(plan) as u16,
+            s: row.0,
+            row: row.1,
+        });
+    }
+    push_row(catalog, plan, survivors, row, places, reads, columns)?;
+    Ok(())
+}
+
+/// Walks the rows from `start` to `end` of one of the anchor's segments.
+fn walk_segment(
+    catalog: &Catalog,
+    plan: &Plan,
+    survivors: &Survivors,
+    s: u16,
+    start: u32,
+    end: u32,
+    reads: &[(usize, usize)],
+    places: &mut [(u16, u32)],
+    columns: &mut Vec<Cells>,
+) -> Result<(), WalkFault>
+    requires room { HasRoom catalog.now survivors.now }
+    requires made { HoldsImages catalog.now survivors.now }
+    requires fits { PlanFits catalog.now plan.now }
+    requires places { length places.old ≡ length catalog.now.projections }
+    requires reads { (c : ℕ) → c < length catalog.now.columns → slice_index_or reads.now c (0, 0) ≡ read_of catalog.now plan.now c }
+    requires room_of_reads { length reads.now ≡ length catalog.now.columns }
+    requires columns { ColumnsFit catalog.now columns.old.items }
+    requires segment { s < segments catalog.now plan.now.anchor }
+    requires order { start ≤ end }
+    requires within { end ≤ length ((contents_of survivors.now).image plan.now.anchor s).pairs }
+    ensures fit { OnOk result (ColumnsFit catalog.now columns.new.items) }
+    ensures sound { OnOk result (find (is_astray catalog.now (contents_of survivors.now) plan.now) (rows_from s start (end - start)) ≡ None) }
+    ensures cells { OnOk result ((ats : List At) → AreWalked catalog.now (contents_of survivors.now) plan.now ats columns.old.items → AreWalked catalog.now (contents_of survivors.now) plan.now (ats ++ rows_from s start (end - start)) columns.new.items) }
+    ensures fault { IfErr result (IsRowFault catalog.now (contents_of survivors.now) plan.now (rows_from s start (end - start))) }
+{
+    for i in start..end {
+        match walk_row(catalog, plan, survivors, (s, i), reads, places, columns) {
+            Ok(()) => {}
+            Err(fault) => return Err(fault),
+        }
+    }
+    Ok(())
+}
+
+/// The number of rows of a segment's image, 0 where it isn't there.
+fn row_count(catalog: &Catalog, survivors: &Survivors, p: usize, s: usize) -> u32
+    requires room { HasRoom catalog.now survivors.now }
+    requires projection { p < length catalog.now.projections }
+    requires segment { s < segments catalog.now p }
+    ensures { result ≡ length ((contents_of survivors.now).image p s).pairs }
+{
+    match survivors.image(p, s) {
+        Some(image) => image.rows(),
+        None => 0,
+    }
+}
+
+/// Walks the rows numbered from `from` up to `to` of the anchor, through all its segments.
+fn walk_segments(
+    catalog: &Catalog,
+    plan: &Plan,
+    survivors: &Survivors,
+    from: usize,
+    to: usize,
+    reads: &[(usize, usize)],
+    places: &mut [(u16, u32)],
+    columns: &mut Vec<Cells>,
+) -> Result<(), WalkFault>
+    requires room { HasRoom catalog.now survivors.now }
+    requires made { HoldsImages catalog.now survivors.now }
+    requires fits { PlanFits catalog.now plan.now }
+    requires places { length places.old ≡ length catalog.now.projections }
+    requires reads { (c : ℕ) → c < length catalog.now.columns → slice_index_or reads.now c (0, 0) ≡ read_of catalog.now plan.now c }
+    requires room_of_reads { length reads.now ≡ length catalog.now.columns }
+    requires columns { ColumnsFit catalog.now columns.old.items }
+    requires order { from ≤ to }
+    ensures fit { OnOk result (ColumnsFit catalog.now columns.new.items) }
+    ensures sound { OnOk result (find (is_astray catalog.now (contents_of survivors.now) plan.now) (rows_between catalog.now (contents_of survivors.now) plan.now from to) ≡ None) }
+    ensures cells { OnOk result ((ats : List At) → AreWalked catalog.now (contents_of survivors.now) plan.now ats columns.old.items → AreWalked catalog.now (contents_of survivors.now) plan.now (ats ++ rows_between catalog.now (contents_of survivors.now) plan.now from to) columns.new.items) }
+    ensures fault { IfErr result (IsRowFault catalog.now (contents_of survivors.now) plan.now (rows_between catalog.now (contents_of survivors.now) plan.now from to)) }
+{
+    let anchor = anchor(plan);
+    // the number of the first row of the segment
+    let mut first: usize = 0;
+    for s in 0..segments(catalog, anchor) {
+        let count = row_count(catalog, survivors, anchor, s) as usize;
+        let start = from.saturating_sub(first).min(count);
+        let end = to.saturating_sub(first).min(count);
+        match walk_segment(
+            catalog,
+            plan,
+            survivors,
+            s as u16,
+            start as u32,
+            end as u32,
+            reads,
+            places,
+            columns,
+        ) {
+            Ok(()) => {}
+            Err(fault) => return Err(fault),
+        }
+        first += count;
+    }
+    Ok(())
+}
+
+/// An empty column for each column of the table.
+fn new_columns(alloc: Global, catalog: &Catalog) -> Result<Vec<Cells>, AllocError>
+    ensures fit { IfOk result (λ columns. ColumnsFit catalog.now columns.items) }
+    ensures none { IfOk result (λ columns. (c : ℕ) (d : Cells) → c < length catalog.now.columns → values (slice_index_or columns.items c d) ≡ []) }
+{
+    let mut columns: Vec<Cells> = Vec::new(alloc);
+    for c in 0..column_count(catalog) {
+        columns.push(Cells::new(alloc, kind(catalog, c)))?;
+    }
+    Ok(columns)
+}
+
+/// The number of a column among those of a projection.
+fn place_in(columns: &[u8], c: usize) -> usize
+    ensures { result ≡ position_or_len (λ d. d == c) columns.now }
+{
+    for (j, column) in columns.iter().enumerate() {
+        if *column as usize == c {
+            return j;
+        }
+    }
+    columns.len()
+}
+
+/// Where each column of the table is read.
+fn find_reads(
+    alloc: Global,
+    catalog: &Catalog,
+    plan: &Plan,
+) -> Result<Vec<(usize, usize)>, AllocError>
+    requires { PlanFits catalog.now plan.now }
+    ensures count { IfOk result (λ reads. length reads.items ≡ length catalog.now.columns) }
+    ensures reads { IfOk result (λ reads. (c : ℕ) → c < length catalog.now.columns → slice_index_or reads.items c (0, 0) ≡ read_of catalog.now plan.now c) }
+{
+    let mut reads: Vec<(usize, usize)> = Vec::new(alloc);
+    for c in 0..column_count(catalog) {
+        let q = source(plan, c) as usize;
+        reads.push((q, place_in(columns_of(catalog, q), c)))?;
+    }
+    Ok(reads)
+}
+
+/// Room for a place in each projection.
+fn new_places(alloc: Global, count: usize) -> Result<Vec<(u16, u32)>, AllocError>
+    ensures { IfOk result (λ places. length places.items ≡ count) }
+{
+    let mut places: Vec<(u16, u32)> = Vec::new(alloc);
+    for _place in 0..count {
+        places.push((0, 0))?;
+    }
+    Ok(places)
+}
+
+/// The rows that the walk gives for the anchor's rows numbered from `from` up to `to`.
+pub fn walk_range(
+    alloc: Global,
+    catalog: &Catalog,
+    plan: &Plan,
+    survivors: &Survivors,
+    from: usize,
+    to: usize,
+) -> Result<Walked, WalkFault>
+    requires catalog { IsCatalog catalog.now }
+    requires plan { IsPlanOf catalog.now plan.now }
+    requires room { HasRoom catalog.now survivors.now }
+    requires made { HoldsImages catalog.now survivors.now }
+    requires order { from ≤ to }
+    ensures kinds { IfOk result (λ walked. walked.kinds ≡ map (λ c. c.kind) catalog.now.columns) }
+    ensures rows { IfOk result (λ walked. Ok walked.rows ≡ walked_among catalog.now (contents_of survivors.now) plan.now (rows_between catalog.now (contents_of survivors.now) plan.now from to)) }
+    ensures fault { IfErr result (IsWalkFault (walked_among catalog.now (contents_of survivors.now) plan.now (rows_between catalog.now (contents_of survivors.now) plan.now from to))) }
+{
+    let mut columns = match new_columns(alloc, catalog) {
+        Ok(columns) => columns,
+        Err(_) => return Err(WalkFault::Memory),
+    };
+    let reads = match find_reads(alloc, catalog, plan) {
+        Ok(reads) => reads,
+        Err(_) => return Err(WalkFault::Memory),
+    };
+    let mut places = match new_places(alloc, projection_count(catalog)) {
+        Ok(places) => places,
+        Err(_) => return Err(WalkFault::Memory),
+    };
+    match walk_segments(
+        catalog,
+        plan,
+        survivors,
+        from,
+        to,
+        reads.as_slice(),
+        places.as_mut_slice(),
+        &mut columns,
+    ) {
+        Ok(()) => Ok(Walked::from_columns(columns)),
+        Err(fault) => Err(fault),
+    }
+}

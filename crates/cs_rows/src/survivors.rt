@@ -1,0 +1,212 @@
+//! What has been read of the surviving segments.
+ghost use Rattle.std.specs.Prelude.{◌≡◌, ◌<◌, ◌+◌, ℕ, length, replicate, slice_index_or, IfOk, None, Some, List, [], slice_set, MatchOption, map};
+ghost use Rattle.cs_delta.specs.KindedImage.{KindedImage};
+ghost use Rattle.cs_jix.specs.JoinIndex.{Place};
+ghost use Rattle.cs_rows.specs.Survivors.{images_of, joins_of, image_at, join_at, no_survivors, no_images, no_joins, with_image, with_join, HasRoom};
+
+use crate::numbers::{projection_count, segments};
+use cs_delta::image::Image;
+use cs_jix::JoinIndex;
+use cs_schema::Catalog;
+use std::alloc::{AllocError, Global};
+use std::marker::Model;
+
+/// The images of a projection's segments.
+#[derive(Drop)]
+struct ProjectionImages {
+    segments: Vec<Option<Image>>,
+}
+
+impl Model for ProjectionImages {
+    ghost use Rattle.std.specs.Prelude.{List, Option};
+    ghost use Rattle.cs_delta.specs.KindedImage.{KindedImage};
+
+    ghost Value = { List (Option KindedImage) };
+
+    ghost view = { λ p. p.segments.items };
+}
+
+/// The join indexes of a segment, by target.
+#[derive(Drop)]
+struct SegmentJoins {
+    targets: Vec<Option<JoinIndex>>,
+}
+
+impl Model for SegmentJoins {
+    ghost use Rattle.std.specs.Prelude.{List, Option};
+    ghost use Rattle.cs_jix.specs.JoinIndex.{Place};
+
+    ghost Value = { List (Option (List Place)) };
+
+    ghost view = { λ s. s.targets.items };
+}
+
+/// The join indexes of a projection's segments.
+#[derive(Drop)]
+struct ProjectionJoins {
+    segments: Vec<SegmentJoins>,
+}
+
+impl Model for ProjectionJoins {
+    ghost use Rattle.std.specs.Prelude.{List, Option};
+    ghost use Rattle.cs_jix.specs.JoinIndex.{Place};
+
+    ghost Value = { List (List (Option (List Place))) };
+
+    ghost view = { λ p. p.segments.items };
+}
+
+/// Images and join indexes of the surviving segments, where they are there.
+#[derive(Drop)]
+pub struct Survivors {
+    images: Vec<ProjectionImages>,
+    joins: Vec<ProjectionJoins>,
+}
+
+impl Model for Survivors {
+    ghost use Rattle.cs_rows.specs.Survivors.{SurvivorsData};
+
+    ghost Value = { SurvivorsData };
+
+    ghost view = { λ s. record { images = s.images.items; joins = s.joins.items } };
+}
+
+impl ProjectionImages {
+    fn new(alloc: Global, count: usize) -> Result<Self, AllocError>
+        ensures { IfOk result (λ p. p ≡ replicate count None) }
+    {
+        let mut segments: Vec<Option<Image>> = Vec::new(alloc);
+        for _slot in 0..count {
+            segments.push(None)?;
+        }
+        Ok(ProjectionImages { segments })
+    }
+
+    fn put(&mut self, s: usize, image: Image)
+        requires { s < length self.old }
+        ensures { self.new ≡ slice_set self.old s (Some image) }
+    {
+        self.segments[s] = Some(image);
+    }
+
+    fn as_slice(&self) -> &[Option<Image>]
+        ensures { result.now ≡ self.now }
+    {
+        self.segments.as_slice()
+    }
+}
+
+impl SegmentJoins {
+    fn new(alloc: Global, count: usize) -> Result<Self, AllocError>
+        ensures { IfOk result (λ s. s ≡ replicate count None) }
+    {
+        let mut targets: Vec<Option<JoinIndex>> = Vec::new(alloc);
+        for _slot in 0..count {
+            targets.push(None)?;
+        }
+        Ok(SegmentJoins { targets })
+    }
+
+    fn put(&mut self, q: usize, join: JoinIndex)
+        requires { q < length self.old }
+        ensures { self.new ≡ slice_set self.old q (Some join) }
+    {
+        self.targets[q] = Some(join);
+    }
+
+    fn as_slice(&self) -> &[Option<JoinIndex>]
+        ensures { result.now ≡ self.now }
+    {
+        self.targets.as_slice()
+    }
+}
+
+impl ProjectionJoins {
+    fn new(alloc: Global, count: usize, targets: usize) -> Result<Self, AllocError>
+        ensures { IfOk result (λ p. p ≡ replicate count (replicate targets None)) }
+    {
+        let mut segments: Vec<SegmentJoins> = Vec::new(alloc);
+        for _slot in 0..count {
+            segments.push(SegmentJoins::new(alloc, targets)?)?;
+        }
+        Ok(ProjectionJoins { segments })
+    }
+
+    fn put(&mut self, s: usize, q: usize, join: JoinIndex)
+        requires segment { s < length self.old }
+        requires target { q < length (slice_index_or self.old s []) }
+        ensures { self.new ≡ slice_set self.old s (slice_set (slice_index_or self.old s []) q (Some join)) }
+    {
+        self.segments[s].put(q, join);
+    }
+
+    fn at(&self, s: usize) -> &[Option<JoinIndex>]
+        requires { s < length self.now }
+        ensures { result.now ≡ slice_index_or self.now s [] }
+    {
+        self.segments[s].as_slice()
+    }
+}
+
+impl Survivors {
+    /// Room for each segment of a catalog, and nothing there.
+    pub fn new(alloc: Global, catalog: &Catalog) -> Result<Self, AllocError>
+        ensures { IfOk result (λ s. s ≡ no_survivors catalog.now) }
+    {
+        let count = projection_count(catalog);
+        let mut images: Vec<ProjectionImages> = Vec::new(alloc);
+        let mut joins: Vec<ProjectionJoins> = Vec::new(alloc);
+        for p in 0..count {
+            let segments = segments(catalog, p);
+            images.push(ProjectionImages::new(alloc, segments)?)?;
+            joins.push(ProjectionJoins::new(alloc, segments, count)?)?;
+        }
+        Ok(Survivors { images, joins })
+    }
+
+    /// Puts the image of a segment there, in place of one that was there.
+    pub fn put_image(&mut self, p: usize, s: usize, image: Image)
+        requires projection { p < length self.old.images }
+        requires segment { s < length (images_of self.old p) }
+        ensures { self.new ≡ with_image self.old p s image }
+    {
+        self.images[p].put(s, image);
+    }
+
+    /// Puts a join index of a segment there, in place of one that was there.
+    pub fn put_join(&mut self, p: usize, s: usize, q: usize, join: JoinIndex)
+        requires projection { p < length self.old.joins }
+        requires segment { s < length (slice_index_or self.old.joins p []) }
+        requires target { q < length (joins_of self.old p s) }
+        ensures { self.new ≡ with_join self.old p s q join }
+    {
+        self.joins[p].put(s, q, join);
+    }
+
+    /// The images of a projection's segments.
+    pub(crate) fn images(&self, p: usize) -> &[Option<Image>]
+        requires { p < length self.now.images }
+        ensures { result.now ≡ images_of self.now p }
+    {
+        self.images[p].as_slice()
+    }
+
+    /// The image of a segment, where it is there.
+    pub fn image(&self, p: usize, s: usize) -> Option<&Image>
+        requires projection { p < length self.now.images }
+        requires segment { s < length (images_of self.now p) }
+        ensures { MatchOption result (image_at self.now p s ≡ None) (λ m. image_at self.now p s ≡ Some m.now) }
+    {
+        self.images(p)[s].as_ref()
+    }
+
+    /// The join index of a segment to a target, where it is there.
+    pub fn join(&self, p: usize, s: usize, q: usize) -> Option<&JoinIndex>
+        requires projection { p < length self.now.joins }
+        requires segment { s < length (slice_index_or self.now.joins p []) }
+        requires target { q < length (joins_of self.now p s) }
+        ensures { MatchOption result (join_at self.now p s q ≡ None) (λ j. join_at self.now p s q ≡ Some j.now) }
+    {
+        self.joins[p].at(s)[q].as_ref()
+    }
+}
