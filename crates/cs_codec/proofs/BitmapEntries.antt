@@ -8,15 +8,14 @@ use Rattle.std.specs.Ordering.{is_eq, ordering_reverse}
 use Rattle.std.specs.declared.cmp.Ordering.{Ordering}
 use Rattle.std.specs.declared.cmp.Ordering.TheVariants.{Less, Equal, Greater}
 use Rattle.std.specs.Map.{keys_of, lookup}
-use Rattle.std.specs.BTreeMap.{get, is_at, keys}
+use Rattle.std.specs.BTreeMap.{BTreeMap, get, is_at, keys}
 use Rattle.std.proofs.lemmas.Cmp.{tied_itself}
 use Rattle.std.proofs.lemmas.Map.Keys.{sorted_head, sorted_tail}
 use Rattle.cs_codec.specs.Cells.{number}
 use Rattle.cs_codec.specs.Cells.{IsTest}
 use Rattle.cs_codec.specs.Texts.{distinct_values, run_lengths, bitmap_text, bitmaps_text, bitmap_lengths}
-use Rattle.cs_codec.specs.declared.bitmaps.BitmapsPart.{BitmapsPart}
 use Rattle.cs_codec.specs.Bitmaps.{entry_text, if_some}
-use Rattle.cs_codec.specs.BitmapParts.{IsBitmapsPart}
+use Rattle.cs_codec.specs.BitmapParts.{AreBitmaps}
 use Rattle.cs_codec.proofs.BitmapKeys.{In, same_sorted, sorted_distinct, from_distinct, to_distinct}
 
 -- ---- a value stands in the list exactly where its bitmap has a one
@@ -85,7 +84,7 @@ all_found cmp o (e ∷ es) s =
     let itself : is_eq (cmp e.0 e.0) ≡ true = ap is_eq (tied_itself o e.0) in
     (rw itself refl, found_still cmp o e es es (sorted_head cmp e.0 (keys_of es) s) (all_found cmp o es (sorted_tail cmp e.0 (keys_of es) s)))
 
--- ---- the text of a part
+-- ---- the text of bitmaps
 
 by_option : {P X : Type 0} (o : Option X) → (o ≡ None → P) → ((b : X) → o ≡ Some b → P) → P
 by_option None f g = f refl
@@ -99,22 +98,22 @@ some_is_list : (ls b : List ℕ) → if_some ls ≡ Some b → (ls ≡ b) × (ls
 some_is_list [] b e = absurd cc
 some_is_list (x ∷ xs) b e = (cc, λ f. absurd cc)
 
-pub keys_are : {C : Type 0} (eq : C → C → Bool) (t : IsTest eq) (cmp : C → C → Ordering) (o : IsTotalOrder cmp) (ties : (x y : C) → eq x y ≡ is_eq (cmp x y)) (part : BitmapsPart C) (cells : List C) → IsBitmapsPart eq cmp part cells → keys part.bitmaps ≡ distinct_values cmp cells
-keys_are {C} eq t cmp o ties part cells h =
+pub keys_are : {C : Type 0} (eq : C → C → Bool) (t : IsTest eq) (cmp : C → C → Ordering) (o : IsTotalOrder cmp) (ties : (x y : C) → eq x y ≡ is_eq (cmp x y)) (bitmaps : BTreeMap C (List ℕ)) (cells : List C) → AreBitmaps eq cmp bitmaps cells → keys bitmaps ≡ distinct_values cmp cells
+keys_are {C} eq t cmp o ties bitmaps cells h =
     let tie : (x y : C) → cmp x y ≡ Equal → x ≡ y = λ x y e. t.exact x y (ties x y ∙ ap is_eq e) in
-    same_sorted cmp o (keys part.bitmaps) (distinct_values cmp cells) h.ordered (sorted_distinct cmp o cells)
-    (λ q k. by_option (get cmp part.bitmaps q) (λ n. absurd (key_found cmp o q part.bitmaps.entries k n)) (λ b e. to_distinct cmp tie q cells (there eq t q 0 cells (some_is_list (bitmap_lengths eq q cells) b (sym (h.each q) ∙ e)).1)))
-    (λ q k. by_option (get cmp part.bitmaps q) (λ n. absurd (not_there eq t q 0 cells (none_is_empty (bitmap_lengths eq q cells) (sym (h.each q) ∙ n)) (from_distinct cmp q cells k))) (λ b e. found_key cmp tie q b part.bitmaps.entries e))
+    same_sorted cmp o (keys bitmaps) (distinct_values cmp cells) h.ordered (sorted_distinct cmp o cells)
+    (λ q k. by_option (get cmp bitmaps q) (λ n. absurd (key_found cmp o q bitmaps.entries k n)) (λ b e. to_distinct cmp tie q cells (there eq t q 0 cells (some_is_list (bitmap_lengths eq q cells) b (sym (h.each q) ∙ e)).1)))
+    (λ q k. by_option (get cmp bitmaps q) (λ n. absurd (not_there eq t q 0 cells (none_is_empty (bitmap_lengths eq q cells) (sym (h.each q) ∙ n)) (from_distinct cmp q cells k))) (λ b e. found_key cmp tie q b bitmaps.entries e))
 
-entries_text : {C : Type 0} (bytes : C → List ℕ) (eq : C → C → Bool) (cmp : C → C → Ordering) (part : BitmapsPart C) (cells : List C) → IsBitmapsPart eq cmp part cells → (es : List (C × List ℕ)) → Found cmp part.bitmaps.entries es → flat_map (entry_text bytes) es ≡ flat_map (bitmap_text bytes eq cells) (keys_of es)
+entries_text : {C : Type 0} (bytes : C → List ℕ) (eq : C → C → Bool) (cmp : C → C → Ordering) (bitmaps : BTreeMap C (List ℕ)) (cells : List C) → AreBitmaps eq cmp bitmaps cells → (es : List (C × List ℕ)) → Found cmp bitmaps.entries es → flat_map (entry_text bytes) es ≡ flat_map (bitmap_text bytes eq cells) (keys_of es)
 unfolding Found
-entries_text bytes eq cmp part cells h [] f = refl
-entries_text bytes eq cmp part cells h (e ∷ es) f =
+entries_text bytes eq cmp bitmaps cells h [] f = refl
+entries_text bytes eq cmp bitmaps cells h (e ∷ es) f =
     let lengths : bitmap_lengths eq e.0 cells ≡ e.1 = (some_is_list (bitmap_lengths eq e.0 cells) e.1 (sym (h.each e.0) ∙ f.0)).0 in
     ap (λ (ls : List ℕ). (bytes e.0 ++ number (length ls) ++ flat_map number ls) ++ flat_map (entry_text bytes) es) (sym lengths)
-    ∙ ap (λ (w : List ℕ). bitmap_text bytes eq cells e.0 ++ w) (entries_text bytes eq cmp part cells h es f.1)
+    ∙ ap (λ (w : List ℕ). bitmap_text bytes eq cells e.0 ++ w) (entries_text bytes eq cmp bitmaps cells h es f.1)
 
-pub part_text : {C : Type 0} (bytes : C → List ℕ) (eq : C → C → Bool) (t : IsTest eq) (cmp : C → C → Ordering) (o : IsTotalOrder cmp) (ties : (x y : C) → eq x y ≡ is_eq (cmp x y)) (part : BitmapsPart C) (cells : List C) → IsBitmapsPart eq cmp part cells → flat_map (entry_text bytes) part.bitmaps.entries ≡ bitmaps_text bytes eq cmp cells
-part_text {C} bytes eq t cmp o ties part cells h =
-    entries_text bytes eq cmp part cells h part.bitmaps.entries (all_found cmp o part.bitmaps.entries h.ordered)
-    ∙ ap (λ (ks : List C). flat_map (bitmap_text bytes eq cells) ks) (keys_are eq t cmp o ties part cells h)
+pub entries_are_text : {C : Type 0} (bytes : C → List ℕ) (eq : C → C → Bool) (t : IsTest eq) (cmp : C → C → Ordering) (o : IsTotalOrder cmp) (ties : (x y : C) → eq x y ≡ is_eq (cmp x y)) (bitmaps : BTreeMap C (List ℕ)) (cells : List C) → AreBitmaps eq cmp bitmaps cells → flat_map (entry_text bytes) bitmaps.entries ≡ bitmaps_text bytes eq cmp cells
+entries_are_text {C} bytes eq t cmp o ties bitmaps cells h =
+    entries_text bytes eq cmp bitmaps cells h bitmaps.entries (all_found cmp o bitmaps.entries h.ordered)
+    ∙ ap (λ (ks : List C). flat_map (bitmap_text bytes eq cells) ks) (keys_are eq t cmp o ties bitmaps cells h)

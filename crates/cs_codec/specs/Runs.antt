@@ -1,5 +1,5 @@
 -- Lists of runs, and the lists of cells that they stand for.
-use Rattle.std.specs.Prelude.{◌≡◌, ℕ, ◌+◌, ◌<◌, ◌≤◌, Bool, false, List, [], ◌∷◌, ◌++◌, length, replicate}
+use Rattle.std.specs.Prelude.{◌≡◌, ℕ, ◌+◌, ◌<◌, ◌≤◌, Bool, false, List, [], ◌∷◌, ◌++◌, length, replicate, Option, Some, None}
 use Rattle.cs_codec.specs.declared.runs.Run.{Run}
 use Rattle.cs_codec.specs.Cells.{number}
 
@@ -23,11 +23,16 @@ abbrev pub written_from : {C : Type 0} → (C → List ℕ) → ℕ → List (Ru
 written_from bytes p [] = []
 written_from bytes p (r ∷ rs) = (bytes r.value ++ number p ++ number r.count) ++ written_from bytes (p + r.count) rs
 
+-- the cells of the runs, or the one whose number is kept in their place
+abbrev pub kept_cells : {C : Type 0} → (ℕ → C) → Option ℕ → List (Run C) → List C
+kept_cells of_bits None runs = expand runs
+kept_cells of_bits (Some n) runs = of_bits n ∷ []
+
 -- what a part of a column keeps of its runs
-pub record AreRuns {C : Type 0} (eq : C → C → Bool) (runs : List (Run C)) (count : ℕ) : Type 0 where
+pub record AreRuns {C : Type 0} (of_bits : ℕ → C) (eq : C → C → Bool) (lone : Option ℕ) (runs : List (Run C)) (count : ℕ) : Type 0 where
   pub proper : IsProper eq runs
-  pub short : length (expand runs) ≤ 1048576
-  pub count_is : count ≡ length (expand runs)
+  pub short : length (kept_cells of_bits lone runs) ≤ 1048576
+  pub count_is : count ≡ length (kept_cells of_bits lone runs)
 
 -- each run's value is a cell
 abbrev pub RunsHold : {C : Type 0} → (C → Type 0) → List (Run C) → Type 0

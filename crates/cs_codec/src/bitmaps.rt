@@ -3,7 +3,7 @@ ghost use Rattle.std.specs.Prelude.{◌≡◌, ◌≤◌, ◌<◌, ◌+◌, ◌+
 ghost use Rattle.cs_codec.specs.Encodings.{IsShort};
 ghost use Rattle.cs_codec.specs.Texts.{bitmaps_text};
 ghost use Rattle.cs_codec.specs.Bitmaps.{entry_text, total, or_empty};
-ghost use Rattle.cs_codec.specs.BitmapParts.{IsBitmapsPart, Follows};
+ghost use Rattle.cs_codec.specs.BitmapParts.{IsBitmapsPart, Keeps, Follows, AreBitmaps, HasRoom, CanFollow, GoOn};
 ghost use Rattle.std.specs.BTreeMap.{get, IsOrdered};
 ghost use Rattle.cs_codec.specs.BitmapLaws.{bitmaps_have_one_list};
 
@@ -11,16 +11,26 @@ use crate::bitmap::Bitmap;
 use crate::bitmap_reading::{candidate, names_all_rows};
 use crate::cell::Cell;
 use crate::encoding::{CodecFault, Encoding};
+use crate::few_cells::{FEW, FewCells, copies};
 use crate::numbers::write_number;
 use cs_schema::Code;
 use std::alloc::{AllocError, Global};
 use std::collections::BTreeMap;
 
-/// What stands for some cells of a column: the bitmap of each value, by ascending value, and how many cells they are.
+/// What stands for some cells of a column, and how many they are.
 #[derive(Drop)]
 pub struct BitmapsPart<C: Cell> {
-    bitmaps: BTreeMap<C, Bitmap>,
+    kept: Kept<C>,
     count: u32,
+}
+
+/// What a part keeps of its cells.
+#[derive(Drop)]
+enum Kept<C: Cell> {
+    /// The cells, while they are few.
+    Cells(FewCells<C>),
+    /// The bitmap of each value, by ascending value.
+    Bitmaps(BTreeMap<C, Bitmap>),
 }
 
 /// Adds a one to the bitmap of a value, at a position behind all of them.
@@ -68,21 +78,87 @@ fn add_bitmap<C: Cell>(
     Ok(())
 }
 
-/// The part that stands for these cells.
-fn part_of<C: Cell>(alloc: Global, cells: &[C]) -> Result<BitmapsPart<C>, AllocError>
-    requires { IsShort cells.now }
-    ensures { IfOk result (λ part. IsBitmapsPart C.eq C.cmp part cells.now) }
+/// Adds the cells that come after the first `before` ones.
+fn add_cells<C: Cell>(
+    alloc: Global,
+    bitmaps: &mut BTreeMap<C, Bitmap>,
+    before: u32,
+    cells: &[C],
+) -> Result<(), AllocError>
+    requires { HasRoom C.eq C.cmp bitmaps.old before (length cells.now) }
+    ensures { OnOk result (GoOn C.eq C.cmp bitmaps.old bitmaps.new before cells.now) }
 {
-    let mut bitmaps = BTreeMap::new(alloc);
-    let mut position: u32 = 0;
+    let mut position = before;
     for cell in cells {
-        add_one(alloc, &mut bitmaps, cell, position)?;
+        add_one(alloc, bitmaps, cell, position)?;
         position += 1;
     }
-    Ok(BitmapsPart {
-        bitmaps,
-        count: position,
-    })
+    Ok(())
+}
+
+/// Adds the bitmaps of the cells that come after the first `before` ones.
+fn add_bitmaps<C: Cell>(
+    bitmaps: &mut BTreeMap<C, Bitmap>,
+    before: u32,
+    others: BTreeMap<C, Bitmap>,
+) -> Result<(), AllocError>
+    requires { CanFollow C.eq C.cmp bitmaps.old before (AreBitmaps C.eq C.cmp others) }
+    ensures { OnOk result ((cells : List C) → AreBitmaps C.eq C.cmp others cells
+        → GoOn C.eq C.cmp bitmaps.old bitmaps.new before cells) }
+{
+    let mut others = others;
+    while let Some((value, bitmap)) = others.pop_first() {
+        add_bitmap(bitmaps, value, bitmap, before)?;
+    }
+    Ok(())
+}
+
+/// The bitmaps of these cells.
+fn bitmaps_of<C: Cell>(alloc: Global, cells: &[C]) -> Result<BTreeMap<C, Bitmap>, AllocError>
+    requires { IsShort cells.now }
+    ensures { IfOk result (λ bitmaps. AreBitmaps C.eq C.cmp bitmaps cells.now) }
+{
+    let mut bitmaps = BTreeMap::new(alloc);
+    add_cells(alloc, &mut bitmaps, 0, cells)?;
+    Ok(bitmaps)
+}
+
+/// What a part keeps of these cells.
+fn keep<C: Cell>(alloc: Global, cells: &[C]) -> Result<Kept<C>, AllocError>
+    requires { IsShort cells.now }
+    ensures { IfOk result (λ kept. Keeps C.eq C.cmp kept cells.now) }
+{
+    if cells.len() <= FEW {
+        return Ok(Kept::Cells(copies(alloc, cells)?));
+    }
+    Ok(Kept::Bitmaps(bitmaps_of(alloc, cells)?))
+}
+
+/// The bitmaps of what a part keeps.
+fn into_bitmaps<C: Cell>(kept: Kept<C>) -> Result<BTreeMap<C, Bitmap>, AllocError>
+    ensures { IfOk result (λ bitmaps. (cells : List C) → Keeps C.eq C.cmp kept cells
+        → AreBitmaps C.eq C.cmp bitmaps cells) }
+{
+    match kept {
+        Kept::Cells(few) => bitmaps_of(*few.cells.allocator(), &few.cells),
+        Kept::Bitmaps(bitmaps) => Ok(bitmaps),
+    }
+}
+
+/// Adds what another part keeps of the cells that come after the first `before` ones.
+fn add_kept<C: Cell>(
+    bitmaps: &mut BTreeMap<C, Bitmap>,
+    before: u32,
+    kept: Kept<C>,
+) -> Result<(), AllocError>
+    requires { CanFollow C.eq C.cmp bitmaps.old before (Keeps C.eq C.cmp kept) }
+    ensures { OnOk result ((cells : List C) → Keeps C.eq C.cmp kept cells
+        → GoOn C.eq C.cmp bitmaps.old bitmaps.new before cells) }
+{
+    match kept {
+        Kept::Cells(few) => add_cells(*few.cells.allocator(), bitmaps, before, &few.cells),
+        Kept::Bitmaps(others) => add_bitmaps(bitmaps, before, others),
+    }
 }
 
 /// Appends a value and its bitmap.
@@ -98,11 +174,11 @@ fn write_bitmap<C: Cell>(out: &mut Vec<u8>, value: &C, bitmap: &Bitmap) -> Resul
 }
 
 /// The values and their bitmaps, one after the other.
-fn text_of<C: Cell>(alloc: Global, part: &BitmapsPart<C>) -> Result<Vec<u8>, AllocError>
-    ensures { IfOk result (λ out. out.items ≡ flat_map (entry_text C.bytes) part.now.bitmaps.entries) }
+fn text_of<C: Cell>(alloc: Global, bitmaps: &BTreeMap<C, Bitmap>) -> Result<Vec<u8>, AllocError>
+    ensures { IfOk result (λ out. out.items ≡ flat_map (entry_text C.bytes) bitmaps.now.entries) }
 {
     let mut out = Vec::new(alloc);
-    for (value, bitmap) in part.bitmaps.iter() {
+    for (value, bitmap) in bitmaps.iter() {
         write_bitmap(&mut out, value, bitmap)?;
     }
     Ok(out)
@@ -123,7 +199,10 @@ impl<C: Cell> Encoding<C> for Bitmaps {
     ghost is_part = { IsBitmapsPart C.eq C.cmp };
 
     fn encode(alloc: Global, cells: &[C]) -> Result<BitmapsPart<C>, AllocError> {
-        part_of(alloc, cells)
+        Ok(BitmapsPart {
+            kept: keep(alloc, cells)?,
+            count: cells.len() as u32,
+        })
     }
 
     fn can_join(left: &BitmapsPart<C>, right: &BitmapsPart<C>) -> bool {
@@ -131,19 +210,19 @@ impl<C: Cell> Encoding<C> for Bitmaps {
     }
 
     fn join(left: BitmapsPart<C>, right: BitmapsPart<C>) -> Result<BitmapsPart<C>, AllocError> {
-        let mut bitmaps = left.bitmaps;
-        let mut others = right.bitmaps;
-        while let Some((value, bitmap)) = others.pop_first() {
-            add_bitmap(&mut bitmaps, value, bitmap, left.count)?;
-        }
+        let mut bitmaps = into_bitmaps(left.kept)?;
+        add_kept(&mut bitmaps, left.count, right.kept)?;
         Ok(BitmapsPart {
-            bitmaps,
+            kept: Kept::Bitmaps(bitmaps),
             count: left.count + right.count,
         })
     }
 
     fn write(alloc: Global, part: &BitmapsPart<C>) -> Result<Vec<u8>, AllocError> {
-        text_of(alloc, part)
+        match &part.kept {
+            Kept::Cells(few) => text_of(alloc, &bitmaps_of(alloc, &few.cells)?),
+            Kept::Bitmaps(bitmaps) => text_of(alloc, bitmaps),
+        }
     }
 
     fn read(alloc: Global, bytes: &[u8], rows: u32) -> Result<Vec<C>, CodecFault> {
@@ -153,8 +232,8 @@ impl<C: Cell> Encoding<C> for Bitmaps {
         let Some(cells) = candidate(alloc, bytes, rows)? else {
             return Err(CodecFault::NotAText);
         };
-        let part = part_of(alloc, &cells)?;
-        let text = text_of(alloc, &part)?;
+        let bitmaps = bitmaps_of(alloc, &cells)?;
+        let text = text_of(alloc, &bitmaps)?;
         if text.as_slice() != bytes {
             return Err(CodecFault::NotAText);
         }

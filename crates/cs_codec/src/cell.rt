@@ -1,6 +1,8 @@
 //! Cells as bytes: an integer in eight, in two's complement, the highest first; a text as its length and its bytes.
-ghost use Rattle.std.specs.Prelude.{◌≡◌, ℕ, ◌+◌, ◌≤◌, List, ◌++◌, OnOk, OnErr, IfSome, IfNone, true, IfOk, length, ◌<◌};
+ghost use Rattle.std.specs.Prelude.{◌≡◌, ℕ, ◌+◌, ◌≤◌, List, ◌++◌, OnOk, OnErr, IfSome, IfNone, true, IfOk, length, ◌<◌, [], ◌∷◌};
+ghost use Rattle.std.specs.Int.{w64, to_be_bytes, cast_signed};
 ghost use Rattle.cs_codec.specs.Cells.{number, int_cell, IsInt, text_cell, IsText, StandsAt, NoneStandsAt, BeginsOne};
+ghost use Rattle.cs_codec.specs.Texts.{plain_text};
 ghost use Rattle.cs_codec.specs.CellLaws.{int_exact, int_begins_one, text_exact, text_begins_one, int_some_bytes, text_some_bytes};
 
 use crate::numbers::u64_at;
@@ -16,6 +18,9 @@ pub trait Cell: Ord + Drop {
     /// Holds of the values of the type.
     ghost is_cell: { Self → Type 0 };
 
+    /// The cell that a number stands for, where the cells are such numbers.
+    ghost of_bits: { ℕ → Self };
+
     /// Appends the cell's bytes. A refusal changes nothing.
     fn write(&self, out: &mut Vec<u8>) -> Result<(), AllocError>
         ensures ok { OnOk result (out.new.items ≡ out.old.items ++ bytes self.now) }
@@ -30,6 +35,16 @@ pub trait Cell: Ord + Drop {
     fn copy(&self) -> Self
         ensures { result ≡ self.now };
 
+    /// The number in the cell's bytes, where the cells are numbers of eight bytes: a part of one such cell keeps it, and
+    /// takes no memory.
+    fn as_bits(&self) -> Option<u64>
+        ensures cell { IfSome result (λ n. of_bits n ≡ self.now) }
+        ensures bytes { IfSome result (λ n. bytes self.now ≡ to_be_bytes w64 n) };
+
+    /// The cell that the number stands for.
+    fn from_bits(bits: u64) -> Self
+        ensures { result ≡ of_bits bits };
+
     /// Cells that compare as equal are one.
     ghost exact: { (x y : Self) → Self.eq x y ≡ true → x ≡ y };
 
@@ -40,10 +55,24 @@ pub trait Cell: Ord + Drop {
     ghost begins_one: { BeginsOne bytes is_cell };
 }
 
+/// The cell's number, where there is one cell and it has one.
+#[inline]
+pub(crate) fn lone_bits<C: Cell>(cells: &[C]) -> Option<u64>
+    ensures bytes { IfSome result (λ n. plain_text C.bytes cells.now ≡ to_be_bytes w64 n) }
+    ensures cell { IfSome result (λ n. cells.now ≡ C.of_bits n ∷ []) }
+{
+    if cells.len() != 1 {
+        return None;
+    }
+    cells[0].as_bits()
+}
+
 impl Cell for i64 {
     ghost bytes = { int_cell };
 
     ghost is_cell = { IsInt };
+
+    ghost of_bits = { cast_signed w64 };
 
     #[inline]
     fn write(&self, out: &mut Vec<u8>) -> Result<(), AllocError> {
@@ -62,6 +91,16 @@ impl Cell for i64 {
         *self
     }
 
+    #[inline]
+    fn as_bits(&self) -> Option<u64> {
+        Some(self.cast_unsigned())
+    }
+
+    #[inline]
+    fn from_bits(bits: u64) -> i64 {
+        bits.cast_signed()
+    }
+
     ghost exact = { int_exact };
 
     ghost some_bytes = { int_some_bytes };
@@ -73,6 +112,8 @@ impl Cell for Word {
     ghost bytes = { text_cell };
 
     ghost is_cell = { IsText };
+
+    ghost of_bits = { λ _. [] };
 
     #[inline]
     fn write(&self, out: &mut Vec<u8>) -> Result<(), AllocError> {
@@ -108,6 +149,16 @@ impl Cell for Word {
     #[inline]
     fn copy(&self) -> Word {
         self.copy()
+    }
+
+    #[inline]
+    fn as_bits(&self) -> Option<u64> {
+        None
+    }
+
+    #[inline]
+    fn from_bits(_bits: u64) -> Word {
+        Word::empty()
     }
 
     ghost exact = { text_exact };

@@ -40,7 +40,27 @@ impl Model for DifferencesPart {
 
 impl DifferencesPart {
     /// The part that stands for these integers.
+    #[inline]
     fn of(alloc: Global, cells: &[i64]) -> Result<DifferencesPart, AllocError>
+        requires { NeverFallsShort cells.now }
+        ensures { IfOk result (λ part. part ≡ cells.now) }
+    {
+        if let Some((first, rest)) = cells.split_first() {
+            if rest.is_empty() {
+                return Ok(DifferencesPart {
+                    first: *first,
+                    gaps: Vec::new(alloc),
+                    last: *first,
+                    count: 1,
+                });
+            }
+        }
+        DifferencesPart::of_many(alloc, cells)
+    }
+
+    /// The same, apart, so that a part of one integer stays small.
+    #[inline(never)]
+    fn of_many(alloc: Global, cells: &[i64]) -> Result<DifferencesPart, AllocError>
         requires { NeverFallsShort cells.now }
         ensures { IfOk result (λ part. part ≡ cells.now) }
     {
@@ -66,6 +86,7 @@ impl DifferencesPart {
         })
     }
 
+    #[inline]
     fn followed_by(self, other: DifferencesPart) -> Result<DifferencesPart, AllocError>
         requires { NeverFallsShort (self ++ other) }
         ensures { IfOk result (λ part. part ≡ self ++ other) }
@@ -78,7 +99,7 @@ impl DifferencesPart {
         }
         let mut gaps = self.gaps;
         gaps.push(other.first.abs_diff(self.last))?;
-        gaps.extend_from_slice(&other.gaps)?;
+        add_gaps(&mut gaps, &other.gaps)?;
         Ok(DifferencesPart {
             first: self.first,
             gaps,
@@ -129,6 +150,25 @@ impl DifferencesPart {
         }
         Ok(out)
     }
+}
+
+/// Adds differences after the others.
+#[inline]
+fn add_gaps(gaps: &mut Vec<u64>, others: &[u64]) -> Result<(), AllocError>
+    ensures { OnOk result (gaps.new.items ≡ gaps.old.items ++ others.now) }
+{
+    if others.is_empty() {
+        return Ok(());
+    }
+    add_some_gaps(gaps, others)
+}
+
+/// The same, apart, so that adding none stays small.
+#[inline(never)]
+fn add_some_gaps(gaps: &mut Vec<u64>, others: &[u64]) -> Result<(), AllocError>
+    ensures { OnOk result (gaps.new.items ≡ gaps.old.items ++ others.now) }
+{
+    gaps.extend_from_slice(others)
 }
 
 /// Writes a number in groups of seven bits, the low group first.
@@ -214,6 +254,7 @@ impl Encoding<i64> for Differences {
         left.goes_on(right)
     }
 
+    #[inline]
     fn join(left: DifferencesPart, right: DifferencesPart) -> Result<DifferencesPart, AllocError> {
         left.followed_by(right)
     }

@@ -9,6 +9,7 @@ pub mod bitmaps;
 pub mod cell;
 pub mod differences;
 pub mod encoding;
+mod few_cells;
 pub mod numbers;
 pub mod plain;
 pub mod runs;

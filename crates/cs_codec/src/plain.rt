@@ -1,20 +1,48 @@
 //! Columns as cells, one after the other.
-ghost use Rattle.std.specs.Prelude.{◌≡◌, ℕ, ◌+◌, ◌≤◌, List, ◌++◌, length, IfOk};
+ghost use Rattle.std.specs.Prelude.{◌≡◌, ℕ, ◌+◌, ◌≤◌, List, ◌++◌, length, IfOk, OnOk};
 ghost use Rattle.cs_codec.specs.Encodings.{IsShort};
 ghost use Rattle.cs_codec.specs.Texts.{plain_text};
-ghost use Rattle.cs_codec.specs.Plain.{IsPlainPart};
+ghost use Rattle.cs_codec.specs.Plain.{kept_bytes, IsPlainPart};
 ghost use Rattle.cs_codec.specs.PlainLaws.{plain_one_list};
 
-use crate::cell::Cell;
+use crate::cell::{Cell, lone_bits};
 use crate::encoding::{CodecFault, Encoding};
 use cs_schema::Code;
 use std::alloc::{AllocError, Global};
 
-/// What stands for some cells of a column: their bytes, and how many they are.
+/// What stands for some cells of a column: their bytes, and how many they are. Of one cell that a number stands for, it
+/// is the number, so that such a part takes no memory.
 #[derive(Drop)]
 pub struct PlainPart {
     bytes: Vec<u8>,
+    lone: Option<u64>,
     count: u32,
+}
+
+impl PlainPart {
+    /// The part's bytes.
+    #[inline]
+    fn into_bytes(self) -> Result<Vec<u8>, AllocError>
+        ensures { IfOk result (λ out. out.items ≡ kept_bytes self.lone self.bytes.items) }
+    {
+        let mut bytes = self.bytes;
+        if let Some(bits) = self.lone {
+            bytes.clear();
+            bytes.extend_from_slice(&bits.to_be_bytes())?;
+        }
+        Ok(bytes)
+    }
+
+    /// Appends the part's bytes.
+    #[inline]
+    fn write_to(&self, out: &mut Vec<u8>) -> Result<(), AllocError>
+        ensures { OnOk result (out.new.items ≡ out.old.items ++ kept_bytes self.now.lone self.now.bytes.items) }
+    {
+        match self.lone {
+            Some(bits) => out.extend_from_slice(&bits.to_be_bytes()),
+            None => out.extend_from_slice(&self.bytes),
+        }
+    }
 }
 
 /// Columns as cells, one after the other.
@@ -32,12 +60,20 @@ impl<C: Cell> Encoding<C> for Plain {
     ghost is_part = { IsPlainPart C.bytes };
 
     fn encode(alloc: Global, cells: &[C]) -> Result<PlainPart, AllocError> {
+        if let Some(bits) = lone_bits(cells) {
+            return Ok(PlainPart {
+                bytes: Vec::new(alloc),
+                lone: Some(bits),
+                count: 1,
+            });
+        }
         let mut bytes = Vec::with_capacity(alloc, cells.len().saturating_mul(8))?;
         for cell in cells {
             cell.write(&mut bytes)?;
         }
         Ok(PlainPart {
             bytes,
+            lone: None,
             count: cells.len() as u32,
         })
     }
@@ -47,16 +83,20 @@ impl<C: Cell> Encoding<C> for Plain {
     }
 
     fn join(left: PlainPart, right: PlainPart) -> Result<PlainPart, AllocError> {
-        let mut bytes = left.bytes;
-        bytes.extend_from_slice(&right.bytes)?;
+        let count = left.count + right.count;
+        let mut bytes = left.into_bytes()?;
+        right.write_to(&mut bytes)?;
         Ok(PlainPart {
             bytes,
-            count: left.count + right.count,
+            lone: None,
+            count,
         })
     }
 
     fn write(alloc: Global, part: &PlainPart) -> Result<Vec<u8>, AllocError> {
-        Vec::from_slice(alloc, &part.bytes)
+        let mut out = Vec::new(alloc);
+        part.write_to(&mut out)?;
+        Ok(out)
     }
 
     fn read(alloc: Global, bytes: &[u8], rows: u32) -> Result<Vec<C>, CodecFault> {

@@ -7,7 +7,7 @@ ghost use Rattle.cs_codec.specs.RunLaws.{runs_one_list};
 ghost use Rattle.std.specs.Prelude.{IfSome, IfNone, IsTrue, false};
 ghost use Rattle.cs_codec.specs.Runs.{expand, IsProper};
 
-use crate::cell::Cell;
+use crate::cell::{Cell, lone_bits};
 use crate::encoding::{CodecFault, Encoding};
 use crate::numbers::{read_number, write_number};
 use cs_schema::Code;
@@ -21,10 +21,12 @@ pub struct Run<C> {
     pub count: u32,
 }
 
-/// What stands for some cells of a column: their runs. A contract sees the cells.
+/// What stands for some cells of a column: their runs. Of one cell that a number stands for, it is the number, so that
+/// such a part takes no memory. A contract sees the cells.
 #[derive(Drop)]
 pub struct RunsPart<C: Cell> {
     runs: Vec<Run<C>>,
+    lone: Option<u64>,
     count: u32,
 }
 
@@ -33,11 +35,11 @@ impl<C: Cell> Model for RunsPart<C> {
 
     ghost Value = { List C };
 
-    ghost use Rattle.cs_codec.specs.Runs.{expand, AreRuns};
+    ghost use Rattle.cs_codec.specs.Runs.{kept_cells, AreRuns};
 
-    ghost view = { λ part. expand part.runs.items };
+    ghost view = { λ part. kept_cells C.of_bits part.lone part.runs.items };
 
-    ghost invariant = { λ part. AreRuns C.eq part.runs.items part.count };
+    ghost invariant = { λ part. AreRuns C.of_bits C.eq part.lone part.runs.items part.count };
 }
 
 impl<C: Cell> RunsPart<C> {
@@ -46,43 +48,105 @@ impl<C: Cell> RunsPart<C> {
         requires { IsShort cells.now }
         ensures { IfOk result (λ part. part ≡ cells.now) }
     {
-        let mut runs = Vec::new(alloc);
+        if let Some(bits) = lone_bits(cells) {
+            return Ok(RunsPart {
+                runs: Vec::new(alloc),
+                lone: Some(bits),
+                count: 1,
+            });
+        }
+        let mut runs = Vec::with_capacity(alloc, cells.len().min(1))?;
         for cell in cells {
             push_run(&mut runs, cell, 1)?;
         }
         Ok(RunsPart {
             runs,
+            lone: None,
             count: cells.len() as u32,
         })
+    }
+
+    /// The runs of the part.
+    #[inline]
+    fn into_runs(self) -> Result<Vec<Run<C>>, AllocError>
+        ensures cells { IfOk result (λ runs. expand runs.items ≡ self) }
+        ensures proper { IfOk result (λ runs. IsProper C.eq runs.items) }
+    {
+        let mut runs = self.runs;
+        if let Some(bits) = self.lone {
+            runs.clear();
+            push_run(&mut runs, &C::from_bits(bits), 1)?;
+        }
+        Ok(runs)
     }
 
     fn followed_by(self, other: Self) -> Result<Self, AllocError>
         requires { IsShort (self ++ other) }
         ensures { IfOk result (λ part. part ≡ self ++ other) }
     {
-        let mut runs = self.runs;
-        for run in &other.runs {
-            push_run(&mut runs, &run.value, run.count)?;
+        let count = self.count + other.count;
+        let mut runs = self.into_runs()?;
+        match other.lone {
+            Some(bits) => push_run(&mut runs, &C::from_bits(bits), 1)?,
+            None => push_runs(&mut runs, &other.runs)?,
         }
         Ok(RunsPart {
             runs,
-            count: self.count + other.count,
+            lone: None,
+            count,
         })
     }
 
     fn text(&self, alloc: Global) -> Result<Vec<u8>, AllocError>
         ensures { IfOk result (λ out. out.items ≡ runs_text C.bytes C.eq self.now) }
     {
-        let mut out = Vec::with_capacity(alloc, self.runs.len().saturating_mul(16))?;
-        let mut position = 1;
-        for run in &self.runs {
-            run.value.write(&mut out)?;
-            write_number(&mut out, position)?;
-            write_number(&mut out, run.count)?;
-            position += run.count;
+        match self.lone {
+            Some(bits) => write_lone(alloc, &C::from_bits(bits)),
+            None => write_runs(alloc, &self.runs),
         }
-        Ok(out)
     }
+}
+
+/// The text of one cell.
+fn write_lone<C: Cell>(alloc: Global, value: &C) -> Result<Vec<u8>, AllocError>
+    ensures { IfOk result (λ out. out.items ≡ runs_text C.bytes C.eq (value.now ∷ [])) }
+{
+    let mut out = Vec::new(alloc);
+    value.write(&mut out)?;
+    write_number(&mut out, 1)?;
+    write_number(&mut out, 1)?;
+    Ok(out)
+}
+
+/// The text of the cells of some runs.
+fn write_runs<C: Cell>(alloc: Global, runs: &[Run<C>]) -> Result<Vec<u8>, AllocError>
+    requires short { length (expand runs.now) ≤ 1048576 }
+    requires proper { IsProper C.eq runs.now }
+    ensures { IfOk result (λ out. out.items ≡ runs_text C.bytes C.eq (expand runs.now)) }
+{
+    let mut out = Vec::with_capacity(alloc, runs.len().saturating_mul(16))?;
+    let mut position = 1;
+    for run in runs {
+        run.value.write(&mut out)?;
+        write_number(&mut out, position)?;
+        write_number(&mut out, run.count)?;
+        position += run.count;
+    }
+    Ok(out)
+}
+
+/// Adds runs after the others.
+fn push_runs<C: Cell>(runs: &mut Vec<Run<C>>, others: &[Run<C>]) -> Result<(), AllocError>
+    requires short { length (expand runs.old.items) + length (expand others.now) ≤ 1048576 }
+    requires proper { IsProper C.eq runs.old.items }
+    requires others { IsProper C.eq others.now }
+    ensures cells { OnOk result (expand runs.new.items ≡ expand runs.old.items ++ expand others.now) }
+    ensures proper { OnOk result (IsProper C.eq runs.new.items) }
+{
+    for run in others {
+        push_run(runs, &run.value, run.count)?;
+    }
+    Ok(())
 }
 
 /// Adds so many cells of a value after the others, to the last run if that has the value.
@@ -132,13 +196,16 @@ fn goes_on<C: Cell>(runs: &Vec<Run<C>>, run: &Run<C>) -> bool
     len == 0 || runs[len - 1].value != run.value
 }
 
+/// The text of a run has at least so many bytes.
+const LEAST_RUN: usize = 9;
+
 /// The runs that the bytes are the text of.
 fn read_runs<C: Cell>(alloc: Global, bytes: &[u8], rows: u32) -> Result<Vec<Run<C>>, CodecFault>
     requires { rows ≤ 1048576 }
     ensures found { IfOk result (λ runs. AreRunsOf C.bytes C.is_cell C.eq bytes.now rows runs.items) }
     ensures not_a_text { result ≡ Err CodecFault.NotAText → NoRunsOf C.bytes C.is_cell C.eq bytes.now rows }
 {
-    let mut runs = Vec::new(alloc);
+    let mut runs = Vec::with_capacity(alloc, (bytes.len() / LEAST_RUN).min(rows as usize))?;
     let mut count = 0;
     let mut at = 0;
     while at < bytes.len() {

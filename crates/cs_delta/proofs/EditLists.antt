@@ -1,9 +1,8 @@
 -- Edits in order, taken one after the other.
-use Rattle.std.proofs.Common.{◌≡◌, ℕ, zero, suc, ◌+◌, ◌-◌, ◌<◌, ◌≤◌, ◌==◌, Bool, true, false, cond, ◌||◌, List, [], ◌∷◌, ◌++◌, map, length, get_or, take, drop, refl, sym, ap, subst, ◌∙◌, arith, append_assoc, add-zero, Option, Some, None, eqb, eqb-true, eq-eqb}
+use Rattle.std.proofs.Common.{◌≡◌, ℕ, zero, suc, ◌+◌, ◌-◌, ◌<◌, ◌≤◌, Bool, true, false, cond, ◌||◌, List, [], ◌∷◌, ◌++◌, length, get_or, take, drop, refl, sym, ap, ◌∙◌, arith, append_assoc, add-zero, Some, None, eqb, eqb-true, eq-eqb}
 use Rattle.std.specs.List.{filter_map, list_any, cons_option}
-use Rattle.std.proofs.lemmas.List.{append-nil, length-drop, drop-drop, drop_more, drop_all, take-append-drop, length-take, take_rest}
-use Rattle.std.proofs.lemmas.Bool.{cases_eq}
-use Rattle.cs_delta.specs.Edits.{Edit, put_at, cuts, changed_by, changed, keep, edited_from, place, AreEdits}
+use Rattle.std.proofs.lemmas.List.{length-drop, drop-drop, drop_more, take_rest}
+use Rattle.cs_delta.specs.Edits.{Edit, put_at, cuts, changed, keep, edited_from, place, AreEdits}
 
 eqb_same : (n : ℕ) → eqb n n ≡ true
 eqb_same n = eq-eqb n n refl

@@ -1,9 +1,8 @@
 -- The items of a delta are edits in order of each column and of the keys.
-use Rattle.std.proofs.Common.{◌≡◌, ℕ, zero, suc, ◌+◌, ◌<◌, ◌≤◌, ◌==◌, Bool, true, false, cond, List, [], ◌∷◌, refl, sym, ap, subst, ◌∙◌, arith, Some, None, eqb-true, eq-eqb, eqb, inl, inr}
+use Rattle.std.proofs.Common.{◌≡◌, ℕ, suc, ◌+◌, ◌<◌, ◌≤◌, ◌==◌, Bool, true, false, cond, List, [], ◌∷◌, refl, sym, ap, subst, ◌∙◌, arith, Some, None, eqb-true, inl, inr}
 use Rattle.std.specs.Prelude.{nat_lt, nat_le, IsTrue, if◌then◌else◌}
-use Rattle.std.specs.List.{filter_map, cons_option}
+use Rattle.std.specs.List.{cons_option}
 use Rattle.std.proofs.lemmas.Bool.Decides.{nat_tests}
-use Rattle.std.proofs.lemmas.Bool.{false≢true}
 use Rattle.cs_schema.specs.declared.cells.Value.{Value}
 use Rattle.std.specs.List.{AllAdjacentBelow}
 use Rattle.std.proofs.Common.{length, get_or}
@@ -11,20 +10,17 @@ use Rattle.std.proofs.lemmas.List.FromFn.{get_or-map-range_with_len, length-map-
 use Rattle.cs_schema.specs.declared.kinds.Kind.{Kind}
 use Rattle.cs_schema.specs.Values.{value_kind}
 use Rattle.cs_schema.specs.CatalogData.{kind_at}
-use Rattle.cs_segment.specs.SegmentFile.{IsBase}
 use Rattle.cs_schema.specs.CatalogData.{CatalogData, projection}
 use Rattle.cs_schema.specs.Lists.{IsIn}
 use Rattle.cs_schema.specs.Values.{IsOfKind}
 use Rattle.cs_schema.specs.Rows.{cell}
 use Rattle.cs_delta.specs.Image.{Change}
 use Rattle.cs_delta.specs.DeltaFile.{IsChange, IsLayer, may_follow, position_of_change}
-use Rattle.cs_segment.specs.SegmentData.{SegmentData, kinds_at}
+use Rattle.cs_segment.specs.SegmentData.{kinds_at}
 use Rattle.cs_delta.specs.DeltaFile.{DeltaData}
-use Rattle.cs_delta.specs.KindedImage.{MayMerge, base_keys}
-use Rattle.cs_delta.proofs.Merged.{length-base_keys}
-use Rattle.cs_delta.specs.Layers.{HasWidth, IsLayerOf, AreLayers}
+use Rattle.cs_delta.specs.Layers.{HasWidth, IsLayerOf}
 use Rattle.cs_delta.specs.Edits.{Edit, AreEdits}
-use Rattle.cs_delta.specs.ItemView.{cell_edit, cell_edits, key_edit, key_edits, HasKind}
+use Rattle.cs_delta.specs.ItemView.{cell_edits, key_edits, HasKind}
 
 -- positions within n rows
 abbrev pub IsWithin : ℕ → Change → Type 0

@@ -1,7 +1,7 @@
 -- The head of a delta's file, and the file as a whole.
-use Rattle.std.proofs.Common.{◌≡◌, ℕ, zero, suc, ◌+◌, ◌^◌, ◌<◌, ◌≤◌, ◌==◌, List, [], ◌∷◌, ◌++◌, map, length, get_or, eq-eqb, refl, sym, ap, subst, ◌∙◌, arith, append_assoc, inl, inr}
+use Rattle.std.proofs.Common.{◌≡◌, ℕ, ◌^◌, ◌<◌, ◌≤◌, ◌==◌, List, [], ◌∷◌, ◌++◌, map, length, get_or, eq-eqb, refl, sym, ap, subst, ◌∙◌, arith, inl, inr}
 use Rattle.std.proofs.lemmas.Bool.{false≢true}
-use Rattle.std.specs.Prelude.{codes, ◌⊎◌}
+use Rattle.std.specs.Prelude.{codes}
 use Rattle.std.specs.List.{concat, filter_map, flat_map, IsDistinct}
 use Rattle.std.proofs.lemmas.List.{append_cancel_left, append-nil}
 use Rattle.cs_schema.specs.Order.{row_limit}
@@ -11,7 +11,7 @@ use Rattle.cs_segment.specs.SegmentFile.{sealed}
 use Rattle.cs_segment.proofs.Numbers.{be32_begins}
 use Rattle.cs_segment.proofs.Sealing.{sealed_once}
 use Rattle.cs_delta.specs.Image.{Change}
-use Rattle.cs_delta.specs.DeltaFile.{DeltaData, key_limit, IsChange, IsLayer, AreLayersFrom, HasVersion, IsDelta, IsDeltaFile, rows_after, inserted_key, layer_text, delta_body}
+use Rattle.cs_delta.specs.DeltaFile.{DeltaData, key_limit, IsChange, IsLayer, AreLayersFrom, HasVersion, IsDeltaFile, rows_after, inserted_key, layer_text, delta_body}
 use Rattle.cs_delta.specs.Reading.{counted, AreLayersOf, BeginsWithCounts, NoCounts, BeginsWithHead, version_text, number_text}
 use Rattle.cs_delta.specs.Laws.{OneDelta}
 use Rattle.cs_delta.proofs.Sequences.{same_sequence}

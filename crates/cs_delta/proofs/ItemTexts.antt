@@ -1,5 +1,5 @@
 -- Bytes begin with one cell, row, item or layer.
-use Rattle.std.proofs.Common.{◌≡◌, ℕ, zero, suc, ◌+◌, ◌^◌, ◌<◌, ◌≤◌, List, [], ◌∷◌, ◌++◌, map, length, get_or, refl, sym, ap, subst, ◌∙◌, arith, append_assoc, inl, inr, pos}
+use Rattle.std.proofs.Common.{◌≡◌, ℕ, zero, suc, ◌+◌, ◌^◌, ◌<◌, List, [], ◌∷◌, ◌++◌, map, length, get_or, refl, sym, ap, subst, ◌∙◌, arith, inl, inr, pos}
 use Rattle.std.specs.List.{concat}
 use Rattle.std.proofs.lemmas.List.{append_cancel_left}
 use Rattle.cs_schema.specs.declared.kinds.Kind.{Kind}
@@ -11,7 +11,7 @@ use Rattle.cs_schema.specs.CatalogData.{CatalogData, projection, kind_at}
 use Rattle.cs_codec.specs.Cells.{BeginsOne}
 use Rattle.cs_codec.specs.CellLaws.{int_begins_one, text_begins_one}
 use Rattle.cs_codec.specs.ColumnText.{cell_bytes}
-use Rattle.cs_segment.specs.Bytes.{be16, be32}
+use Rattle.cs_segment.specs.Bytes.{be32}
 use Rattle.cs_segment.proofs.Numbers.{be32_begins}
 use Rattle.cs_delta.specs.Image.{Change}
 use Rattle.cs_delta.specs.DeltaFile.{IsCellsOf, IsChange, IsLayer, AreLayersFrom, rows_after, change_bytes, layer_text}

@@ -1,5 +1,5 @@
 -- Where keys stand.
-use Rattle.std.proofs.Common.{◌≡◌, ℕ, zero, suc, ◌+◌, ◌-◌, ◌<◌, ◌≤◌, ◌==◌, Bool, true, false, cond, not, List, [], ◌∷◌, map, length, get_or, drop, refl, sym, ap, ◌∙◌, arith, Option, Some, None, eqb-true, eq-eqb, eqb}
+use Rattle.std.proofs.Common.{◌≡◌, ℕ, suc, ◌+◌, ◌-◌, ◌<◌, ◌==◌, Bool, true, false, cond, not, List, [], ◌∷◌, length, get_or, drop, refl, sym, ap, ◌∙◌, arith, Some, None, eqb-true, eq-eqb}
 use Rattle.std.specs.Prelude.{slice_set, nat_lt}
 use Rattle.std.specs.List.{position, position_or_len}
 use Rattle.std.proofs.lemmas.List.{drop_more, get_or-set_same, get_or-set_other}

@@ -1,6 +1,6 @@
 -- One layer after others.
 use Rattle.std.proofs.Common.{◌≡◌, ℕ, ◌+◌, ◌<◌, ◌≤◌, List, [], ◌∷◌, ◌++◌, map, length, get_or, take, drop, refl, sym, ap, subst, ◌∙◌, arith}
-use Rattle.std.proofs.lemmas.List.{length-map, map_more, drop_more, drop-map, take-append-drop, map-append}
+use Rattle.std.proofs.lemmas.List.{length-map, take-append-drop, map-append}
 use Rattle.cs_schema.specs.declared.kinds.Kind.{Kind}
 use Rattle.cs_schema.specs.declared.cells.Value.{Value}
 use Rattle.cs_schema.specs.Lists.{IsIn}
@@ -11,7 +11,8 @@ use Rattle.cs_delta.specs.ItemView.{key_edits}
 use Rattle.cs_delta.specs.Layers.{ArePairs, AreLayers, IsLayerOf, HasWidth, HaveLength, IsMadeBy, key_of, edited_columns}
 use Rattle.cs_delta.specs.DeltaFile.{AllFit}
 use Rattle.cs_delta.specs.Image.{layered}
-use Rattle.cs_delta.proofs.PairColumns.{keys_applied, pairs_applied}
+use Rattle.cs_delta.proofs.PairColumns.{keys_applied, pairs_applied, length-edited_columns}
+use Rattle.cs_delta.proofs.EditLists.{no_edits}
 use Rattle.cs_delta.proofs.MakeSteps.{drop_item}
 use Rattle.cs_delta.proofs.PairsKept.{kept_pairs, lengths_of}
 
@@ -75,3 +76,36 @@ too_many keys ks columns cs all ls ms l xs s m e many fit =
 
 pub widths_of : (kinds : List Kind) (n : ℕ) (l : List Change) (w : ℕ) → length kinds ≡ w → IsLayerOf kinds n l → (c : Change) → IsIn c l → HasWidth w c
 widths_of kinds n l w e h c m = let P : ℕ → Type 0 = λ k. HasWidth k c in subst P e (h.widths c m)
+
+-- a layer with no items leaves keys and columns as they are
+pub same_keys : (l : List Change) (keys : List ℕ) → l ≡ [] → keys ≡ edited_from (key_edits l) 0 keys
+same_keys l keys e = sym (no_edits 0 keys) ∙ ap (λ (a : List Change). edited_from (key_edits a) 0 keys) (sym e)
+
+no_columns_edited : (j : ℕ) (vs : List (List Value)) → edited_columns [] j vs ≡ vs
+no_columns_edited j [] = refl
+no_columns_edited j (v ∷ vs) = ap (λ (x : List Value). x ∷ edited_columns [] (j + 1) vs) (no_edits 0 v) ∙ ap (λ (xs : List (List Value)). v ∷ xs) (no_columns_edited (j + 1) vs)
+
+pub same_columns : (l : List Change) (columns : List (List Value)) → l ≡ [] → columns ≡ edited_columns l 0 columns
+same_columns l columns e = sym (no_columns_edited 0 columns) ∙ ap (λ (a : List Change). edited_columns a 0 columns) (sym e)
+
+-- what the layers that are done have made of keys and columns, of which more layers are left
+pub record AreMade (keys : List ℕ) (columns : List (List Value)) (kinds : List Kind) (done left : List (List Change)) (new_keys : List ℕ) (new_columns : List (List Value)) (new_kinds : List Kind) : Type 0 where
+  pub made_is : IsMadeBy keys columns done new_keys new_columns
+  pub layers_left : AreLayers new_kinds new_keys left
+  pub lengths : HaveLength (length new_keys) new_columns
+  pub kinds_are : new_kinds ≡ kinds
+  pub width : length new_kinds ≡ length new_columns
+
+pub made_first : (keys : List ℕ) (columns : List (List Value)) (kinds : List Kind) (left : List (List Change)) → AreLayers kinds keys left → HaveLength (length keys) columns → length kinds ≡ length columns → AreMade keys columns kinds [] left keys columns kinds
+made_first keys columns kinds left h lengths width = record { made_is = made_none keys columns; layers_left = h; lengths = lengths; kinds_are = refl; width = width }
+
+pub made_next : (keys ks new : List ℕ) (columns cs vs : List (List Value)) (kinds before next : List Kind) (done : List (List Change)) (l : List Change) (left : List (List Change)) → AreMade keys columns kinds done (l ∷ left) ks cs before → new ≡ edited_from (key_edits l) 0 ks → vs ≡ edited_columns l 0 cs → next ≡ before → length new ≤ 1048576 → AreMade keys columns kinds (done ++ l ∷ []) left new vs next
+made_next keys ks new columns cs vs kinds before next done l left m ek ev eb few =
+    let wide = widths_of before (length ks) l (length cs) m.width m.layers_left.0 in
+    record {
+      made_is = made_more keys ks new columns cs vs done l m.made_is wide ek ev few;
+      layers_left = layers_after before next ks new l left eb ek m.layers_left;
+      lengths = lengths_after ks new cs vs l m.lengths wide ek ev;
+      kinds_are = eb ∙ m.kinds_are;
+      width = ap length eb ∙ m.width ∙ sym (ap length ev ∙ length-edited_columns l 0 cs);
+    }

@@ -1,8 +1,8 @@
 -- Worked rows of layered deltas, by computation.
-use Rattle.std.proofs.Common.{◌≡◌, ℕ, List, [], ◌∷◌, refl, pos, Some, None}
+use Rattle.std.proofs.Common.{◌≡◌, List, [], ◌∷◌, refl, pos}
 use Rattle.cs_schema.specs.declared.cells.Value.{Value}
 use Rattle.cs_segment.specs.SegmentFile.{Base}
-use Rattle.cs_delta.specs.Image.{Change, Pair, ImageData, base_pairs, position_of_key}
+use Rattle.cs_delta.specs.Image.{Change, base_pairs}
 use Rattle.cs_delta.specs.Image.{layered}
 
 abbrev base : Base

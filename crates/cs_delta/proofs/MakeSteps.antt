@@ -1,8 +1,8 @@
 -- One edit of a merge.
 use Rattle.std.proofs.lemmas.List.{drop_more, map_more}
 use Rattle.cs_schema.specs.Lists.{IsIn}
-use Rattle.std.proofs.Common.{◌≡◌, ℕ, zero, suc, ◌<◌, ◌≤◌, map, get_or, inl, inr, ◌+◌, ◌-◌, List, [], ◌∷◌, ◌++◌, length, take, drop, refl, sym, ap, ◌∙◌, arith, append_assoc}
-use Rattle.cs_delta.specs.Edits.{Edit, edited_from, AreEdits}
+use Rattle.std.proofs.Common.{◌≡◌, ℕ, zero, suc, ◌<◌, ◌≤◌, map, get_or, inl, inr, ◌+◌, ◌-◌, List, [], ◌∷◌, ◌++◌, length, take, drop, sym, ap, ◌∙◌, arith}
+use Rattle.cs_delta.specs.Edits.{Edit, edited_from}
 use Rattle.cs_delta.specs.MergeSteps.{Makes}
 use Rattle.cs_delta.proofs.EditLists.{put_step, cut_step, change_step, end_step}
 

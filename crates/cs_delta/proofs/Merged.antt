@@ -1,16 +1,14 @@
 -- What a merge makes of a base.
-use Rattle.std.proofs.Common.{◌≡◌, ℕ, ◌+◌, ◌<◌, ◌≤◌, List, [], ◌∷◌, ◌++◌, map, length, get_or, refl, sym, ap, subst, ◌∙◌, arith, pos}
-use Rattle.std.proofs.lemmas.List.{length-map, get_or-map}
+use Rattle.std.proofs.Common.{◌≡◌, ℕ, ◌+◌, ◌<◌, List, [], ◌∷◌, ◌++◌, map, length, get_or, sym, ap, ◌∙◌, arith, pos}
 use Rattle.std.proofs.lemmas.List.FromFn.{get_or-map-range_with_len, length-map-range_with_len, map-range_with_len_more}
 use Rattle.cs_schema.specs.declared.kinds.Kind.{Kind}
 use Rattle.cs_schema.specs.declared.cells.Value.{Value}
 use Rattle.cs_delta.specs.Image.{Pair, base_pairs, ImageData, image_keys}
-use Rattle.cs_segment.specs.SegmentFile.{Base, base_column}
-use Rattle.cs_segment.specs.SegmentData.{SegmentData}
+use Rattle.cs_segment.specs.SegmentFile.{Base}
 use Rattle.cs_delta.specs.Layers.{ArePairs, HaveLength, IsMadeBy, pairs_of, key_of, cell_of}
 use Rattle.cs_delta.specs.Image.{layered}
 use Rattle.cs_delta.specs.DeltaFile.{DeltaData, merged, CanMerge}
-use Rattle.cs_delta.specs.KindedImage.{KindedImage, base_keys, merged_image, MayMerge, image_column}
+use Rattle.cs_delta.specs.KindedImage.{KindedImage, base_keys, image_column}
 use Rattle.cs_delta.proofs.PairsKept.{made_pairs, pairs_are, kept_pairs}
 
 pub length-base_keys : (n : ℕ) → length (base_keys n) ≡ n

@@ -1,17 +1,17 @@
 -- The columns of what items make of pairs.
-use Rattle.std.proofs.Common.{◌≡◌, ℕ, zero, suc, ◌+◌, ◌-◌, ◌<◌, ◌≤◌, ◌==◌, Bool, true, false, cond, ◌||◌, List, [], ◌∷◌, ◌++◌, map, length, get_or, take, drop, refl, sym, ap, subst, ◌∙◌, arith, append_assoc, add-zero, Option, Some, None, eqb, eqb-true, eq-eqb, pos, inl, inr}
+use Rattle.std.proofs.Common.{◌≡◌, ℕ, zero, suc, ◌+◌, ◌<◌, ◌==◌, Bool, true, false, cond, ◌||◌, List, [], ◌∷◌, ◌++◌, map, length, get_or, take, refl, sym, ap, subst, ◌∙◌, arith, add-zero, Some, None, eqb-true, eq-eqb, pos, inl, inr}
 use Rattle.std.specs.Prelude.{slice_set}
 use Rattle.std.specs.List.{filter_map, list_any, cons_option, AllByRecursion}
-use Rattle.std.proofs.lemmas.List.{map-append, get_or-set_same, get_or-set_other, length-set, length-map, get_or-map, ext_get_or, append-nil, length_push, map_more, length-take}
+use Rattle.std.proofs.lemmas.List.{map-append, get_or-set_same, get_or-set_other, length-set, length-map, map_more, length-take}
 use Rattle.std.proofs.lemmas.Bool.{false≢true}
 use Rattle.cs_schema.specs.declared.kinds.Kind.{Kind}
 use Rattle.cs_schema.specs.declared.cells.Value.{Value}
 use Rattle.cs_schema.specs.Lists.{IsIn}
 use Rattle.cs_schema.specs.Rows.{cell}
-use Rattle.cs_delta.specs.Image.{Change, Pair, inserted_at, deletes, modified, modified_by, kept, applied_from, applied}
-use Rattle.cs_delta.specs.Edits.{Edit, put_at, cuts, changed, changed_by, keep, edited_from, AreEdits}
-use Rattle.cs_delta.specs.ItemView.{cell_edit, cell_edits, key_edit, key_edits}
-use Rattle.cs_delta.specs.Layers.{HasWidth, ArePairs, key_of, cell_of, edited_columns, IsLayerOf}
+use Rattle.cs_delta.specs.Image.{Change, Pair, inserted_at, deletes, modified, kept, applied_from, applied}
+use Rattle.cs_delta.specs.Edits.{Edit, put_at, cuts, changed, keep, edited_from}
+use Rattle.cs_delta.specs.ItemView.{cell_edits, key_edits}
+use Rattle.cs_delta.specs.Layers.{HasWidth, ArePairs, key_of, cell_of, edited_columns}
 
 -- ---- keys
 

@@ -1,13 +1,11 @@
 -- Pairs that are kept as keys and columns.
-use Rattle.std.proofs.Common.{◌≡◌, ℕ, zero, suc, ◌+◌, ◌<◌, ◌≤◌, List, [], ◌∷◌, ◌++◌, map, length, get_or, refl, sym, ap, subst, ◌∙◌, arith, pos}
+use Rattle.std.proofs.Common.{◌≡◌, ℕ, zero, suc, ◌+◌, ◌<◌, List, [], ◌∷◌, map, length, get_or, refl, sym, ap, ◌∙◌, arith, pos}
 use Rattle.std.specs.List.{AllByRecursion, range_with_len}
 use Rattle.std.proofs.lemmas.List.{length-map, get_or-map, ext_get_or}
 use Rattle.std.proofs.lemmas.List.FromFn.{get_or-map-range_with_len, length-map-range_with_len}
 use Rattle.cs_schema.specs.declared.cells.Value.{Value}
-use Rattle.cs_schema.specs.Lists.{IsIn}
 use Rattle.cs_schema.specs.Rows.{cell}
-use Rattle.cs_delta.specs.Image.{Change, Pair, applied, base_pairs}
-use Rattle.cs_segment.specs.SegmentFile.{Base, base_row}
+use Rattle.cs_delta.specs.Image.{Pair}
 use Rattle.cs_schema.specs.Lists.{numbers_below}
 use Rattle.cs_delta.specs.Layers.{ArePairs, key_of, cell_of, pairs_of}
 

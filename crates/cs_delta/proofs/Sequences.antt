@@ -1,8 +1,7 @@
 -- Texts that stand one after the other, each judged by what those before it leave.
-use Rattle.std.proofs.Common.{◌≡◌, ℕ, zero, suc, ◌+◌, ◌<◌, ◌≤◌, List, [], ◌∷◌, ◌++◌, map, length, refl, sym, ap, subst, ◌∙◌, arith, append_assoc}
+use Rattle.std.proofs.Common.{◌≡◌, ℕ, ◌<◌, List, [], ◌∷◌, ◌++◌, map, length, refl, sym, ap, subst, ◌∙◌, arith, append_assoc}
 use Rattle.std.specs.List.{concat}
-use Rattle.std.proofs.lemmas.List.{map_push, append-nil}
-use Rattle.std.proofs.lemmas.List.Folds.{concat-append}
+use Rattle.std.proofs.lemmas.List.{append-nil}
 use Rattle.cs_codec.specs.Cells.{BeginsOne}
 
 abbrev pub AllAlong : {X : Type 0} → (ℕ → X → ℕ) → (ℕ → X → Type 0) → ℕ → List X → Type 0

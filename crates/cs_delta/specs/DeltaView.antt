@@ -1,6 +1,5 @@
 -- The fields of deltas and images as plain data.
-use Rattle.std.specs.Prelude.{map, length}
-use Rattle.cs_schema.specs.Values.{values, kind_of}
+use Rattle.std.specs.Prelude.{map}
 use Rattle.cs_delta.specs.declared.delta.Delta.TheInside.{Inside as DeltaInside}
 use Rattle.cs_delta.specs.ItemView.{changes_of}
 use Rattle.cs_delta.specs.DeltaFile.{DeltaData}

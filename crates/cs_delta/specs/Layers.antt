@@ -1,5 +1,5 @@
 -- A layer of items on columns, and lists of pairs kept by columns.
-use Rattle.std.specs.Prelude.{◌≡◌, ℕ, ◌+◌, ◌<◌, ◌≤◌, slice_index, List, [], ◌∷◌, map, length, slice_index_or}
+use Rattle.std.specs.Prelude.{◌≡◌, ℕ, ◌+◌, ◌<◌, slice_index, List, [], ◌∷◌, map, length, slice_index_or}
 use Rattle.std.specs.List.{AllByRecursion}
 use Rattle.cs_schema.specs.declared.kinds.Kind.{Kind}
 use Rattle.cs_schema.specs.declared.cells.Value.{Value}
@@ -7,7 +7,6 @@ use Rattle.cs_schema.specs.Lists.{IsIn}
 use Rattle.cs_schema.specs.Rows.{cell}
 use Rattle.cs_delta.specs.Image.{Change, Pair, layered}
 use Rattle.cs_delta.specs.DeltaFile.{AllFit}
-use Rattle.cs_schema.specs.Order.{row_limit}
 use Rattle.cs_schema.specs.Lists.{numbers_below}
 use Rattle.cs_delta.specs.Edits.{AreEdits, edited_from}
 use Rattle.cs_delta.specs.ItemView.{cell_edits, key_edits, HasKind}

@@ -1,6 +1,5 @@
 -- What a merge has made of the front of a list, and what is left of it.
-use Rattle.std.specs.Prelude.{◌≡◌, ℕ, List, [], ◌∷◌, ◌++◌, length, drop}
-use Rattle.cs_schema.specs.declared.cells.Value.{Value}
+use Rattle.std.specs.Prelude.{◌≡◌, ℕ, List, ◌∷◌, ◌++◌, length, drop}
 use Rattle.cs_delta.specs.Image.{Change}
 use Rattle.cs_delta.specs.Edits.{Edit, edited_from, AreEdits}
 

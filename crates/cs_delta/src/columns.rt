@@ -1,5 +1,5 @@
 //! Columns that grow by cells of other columns.
-ghost use Rattle.std.specs.Prelude.{◌≡◌, ◌≤◌, ◌<◌, ◌-◌, ◌++◌, ◌∷◌, [], length, take, drop, map, OnOk, IfOk};
+ghost use Rattle.std.specs.Prelude.{◌≡◌, ◌≤◌, ◌<◌, ◌-◌, ◌++◌, ◌∷◌, [], length, take, drop, OnOk};
 ghost use Rattle.cs_schema.specs.Values.{values, kind_of, value_kind};
 ghost use Rattle.cs_schema.specs.declared.cells.Value.{Value as ValueData};
 
@@ -65,25 +65,4 @@ pub fn push(out: &mut Cells, value: &Value) -> Result<(), AllocError>
         _ => unreachable!(),
     }
     Ok(())
-}
-
-fn copy_column(alloc: Global, cells: &Cells) -> Result<Cells, AllocError>
-    ensures values { IfOk result (λ copy. values copy ≡ values cells.now) }
-    ensures kind { IfOk result (λ copy. kind_of copy ≡ kind_of cells.now) }
-{
-    let mut copy = empty_like(alloc, cells);
-    extend(&mut copy, cells, 0, count(cells))?;
-    Ok(copy)
-}
-
-/// The same columns once more.
-pub fn copy_columns(alloc: Global, columns: &[Cells]) -> Result<Vec<Cells>, AllocError>
-    ensures values { IfOk result (λ copy. map values copy.items ≡ map values columns.now) }
-    ensures kinds { IfOk result (λ copy. map kind_of copy.items ≡ map kind_of columns.now) }
-{
-    let mut copy = Vec::new(alloc);
-    for column in columns {
-        copy.push(copy_column(alloc, column)?)?;
-    }
-    Ok(copy)
 }

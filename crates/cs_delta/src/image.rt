@@ -7,9 +7,8 @@ ghost use Rattle.cs_delta.specs.Places.{IsIndex};
 ghost use Rattle.cs_delta.specs.KindedImage.{AreOfOneCatalog, merged_image, image_column, base_keys};
 ghost use Rattle.cs_delta.specs.DeltaFile.{CanMerge};
 
-use crate::columns::copy_columns;
 use crate::delta::Delta;
-use crate::layer::{Rows, apply_layers};
+use crate::layer::apply_layers;
 use cs_schema::Cells;
 use cs_segment::fault::FileFault;
 use cs_segment::segment::Segment;
@@ -128,8 +127,7 @@ pub fn merge(alloc: Global, segment: &Segment, delta: &Delta) -> Result<Image, F
         return Err(FileFault::Damaged);
     }
     let keys = first_keys(alloc, segment.rows)?;
-    let columns = copy_columns(alloc, &segment.columns)?;
-    let rows = apply_layers(alloc, Rows { keys, columns }, &delta.layers)?;
+    let rows = apply_layers(alloc, &keys, &segment.columns, &delta.layers)?;
     let places = index_keys(alloc, &rows.keys)?;
     Ok(Image {
         places,

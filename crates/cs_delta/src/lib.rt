@@ -4,15 +4,17 @@
 //! its delta are merged into the image that positional updates give: layer over layer, in time linear in rows and items.
 #![tactic(auto)]
 
-pub mod columns;
-pub mod delta;
+mod columns;
+mod delta;
 pub mod image;
-pub mod item;
+mod item;
 pub mod laws;
-pub mod layer;
-pub mod merging;
-pub mod reading;
-pub mod writing;
+mod layer;
+mod merging;
+mod reading;
+#[cfg(test)]
+mod tests;
+mod writing;
 
 pub use delta::Delta;
 pub use image::{Image, merge};

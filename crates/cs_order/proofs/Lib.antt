@@ -8,3 +8,5 @@ pub mod FullRanges
 pub mod FirstFault
 pub mod SortColumns
 pub mod AllOrders
+pub mod SampleColumns
+pub mod Leads

@@ -1,5 +1,6 @@
 pub mod Tables
 pub mod Orders
 pub mod Numbers
+pub mod Items
 pub mod Faults
 pub mod Places

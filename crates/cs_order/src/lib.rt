@@ -9,8 +9,11 @@ mod fault;
 mod item;
 mod parallel;
 mod places;
+pub mod samples;
 mod segments;
 mod sort;
+#[cfg(test)]
+mod tests;
 
 pub use fault::OrderFault;
 pub use parallel::orders;

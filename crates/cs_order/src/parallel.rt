@@ -16,6 +16,7 @@ use std::thread::Threads;
 /// The orders of all projections.
 ///
 /// Refuses rows of which two have one primary key, and else the least range that has too many rows.
+/// Keeps 10 bytes a row and projection. While a range is sorted each of its rows takes 24 bytes more.
 pub fn orders<R: Threads + Sync>(
     rt: &R,
     alloc: Global,

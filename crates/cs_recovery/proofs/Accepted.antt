@@ -34,7 +34,7 @@ fun_path h = λ i x. h x i
 
 module _ (C : CatalogData) (cat : IsCatalog C) (layers : Layers C) (F : FileContents) (L : Sites) (S S' : Contents) (r : Reads C F L S) (r' : Reads C F L S') (T : List Row) where
   same_image : (p s : ℕ) → Survives C L (FileName.Seg p s) → S.image p s ≡ S'.image p s
-  same_image p s h = layers.one_image F p s (S.image p s) (S'.image p s) (r.images p s h) (r'.images p s h)
+  same_image p s h = layers.one_image F p s h.0 (S.image p s) (S'.image p s) (r.images p s h) (r'.images p s h)
 
   same_after : (p s : ℕ) → HasSegment C p s → image_after C L S T p s ≡ image_after C L S' T p s
   same_after p s h = go (lost C L p s) refl

@@ -29,7 +29,8 @@ use Rattle.cs_rows.specs.WalkByRows.{walked_by_rows, without_repeats}
 use Rattle.cs_recovery.specs.Contents.{IsImageOf, IsJoinOf, Reads}
 use Rattle.cs_recovery.specs.Holding.{AreContentsOf, agrees}
 use Rattle.cs_recovery.specs.Verdicts.{IsSound, judged, unless_refused, twice, full, misplaced, misled, surviving_segments, surviving_joins}
-use Rattle.cs_recovery.specs.Tables.{table_of, is_twice, when, all_segments}
+use Rattle.cs_recovery.specs.Tables.{when}
+use Rattle.cs_order.specs.Tables.{table_of, is_twice, all_segments}
 use Rattle.cs_recovery.specs.Places.{entries_for}
 use Rattle.cs_schema.proofs.Ascending.{false≢true, not_self, All-in, in_filter}
 use Rattle.cs_schema.proofs.RowOrder.{rows_of-are, tied_same, key_total, row_total}
@@ -127,7 +128,7 @@ joins_survive C L a h =
 
 -- what the layers below promise: files of one name hold one content, and the keys of an image are in order
 pub record Layers (C : CatalogData) : Type 0 where
-  pub one_image : (F : FileContents) (p s : ℕ) (m n : ImageData) → IsImageOf C F p s m → IsImageOf C F p s n → m ≡ n
+  pub one_image : (F : FileContents) (p s : ℕ) → HasSegment C p s → (m n : ImageData) → IsImageOf C F p s m → IsImageOf C F p s n → m ≡ n
   pub one_join : (F : FileContents) (p s q : ℕ) (e f : List Place) → IsJoinOf F p s q e → IsJoinOf F p s q f → e ≡ f
   pub keyed : (F : FileContents) (p s : ℕ) (m : ImageData) → IsImageOf C F p s m → IsKeyed m
 

@@ -25,7 +25,8 @@ use Rattle.cs_rows.specs.WalkByRows.{walked_by_rows}
 use Rattle.cs_recovery.specs.Holding.{AreContentsOf, HoldsSurvivors, agrees}
 use Rattle.cs_recovery.specs.Contents.{Reads}
 use Rattle.cs_recovery.specs.Verdicts.{judged, judged_rows, unless_refused, twice, full, misplaced, misled, surviving_segments, surviving_joins, IsVerdict, IsWalkedBy}
-use Rattle.cs_recovery.specs.Tables.{table_of, is_twice, when, all_segments}
+use Rattle.cs_recovery.specs.Tables.{when}
+use Rattle.cs_order.specs.Tables.{table_of, is_twice, all_segments}
 use Rattle.cs_recovery.specs.Places.{entries_for}
 use Rattle.cs_schema.proofs.Ascending.{false≢true, filter_in, ascending_sorted, in_ascending}
 use Rattle.cs_schema.proofs.RowOrder.{key_total}
@@ -45,7 +46,7 @@ none_in_or : {A : Type 0} (o p : Option A) → option_or o p ≡ None → (o ≡
 none_in_or None p e = (refl, e)
 none_in_or (Some x) p e = absurd (none-some x (sym e))
 
-none_mapped : {A B : Type 0} (f : A → B) (o : Option A) → option_map f o ≡ None → o ≡ None
+pub none_mapped : {A B : Type 0} (f : A → B) (o : Option A) → option_map f o ≡ None → o ≡ None
 none_mapped f None e = refl
 none_mapped f (Some x) e = absurd (none-some (f x) (sym e))
 
@@ -58,7 +59,7 @@ all_fail {X} p (y ∷ ys) e x h = go (p y) refl e h (λ f k. all_fail p ys f x k
     go false k f (inl a) r = ap p a ∙ k
     go false k f (inr m) r = r f m
 
-not_not : (b : Bool) → not b ≡ false → b ≡ true
+pub not_not : (b : Bool) → not b ≡ false → b ≡ true
 not_not true e = refl
 not_not false e = false≢true (sym e)
 
@@ -70,10 +71,10 @@ in_segments_list C p s h =
     flat_map_in (λ q. map (λ t. (q, t)) (numbers_below (segments C q))) (numbers_below (length C.projections)) p (p, s) (range_in 0 (length C.projections) p (omega arith) (omega (arith, h.0)))
     (map_in (λ t. (p, t)) (numbers_below (segments C p)) s (range_in 0 (segments C p) s (omega arith) (omega (arith, h.1))))
 
-in_survivors : (C : CatalogData) (L : Sites) (p s : ℕ) → Survives C L (FileName.Seg p s) → IsIn (p, s) (surviving_segments C L)
+pub in_survivors : (C : CatalogData) (L : Sites) (p s : ℕ) → Survives C L (FileName.Seg p s) → IsIn (p, s) (surviving_segments C L)
 in_survivors C L p s v = filter_in (λ (a : ℕ × ℕ). not (lost C L a.0 a.1)) (all_segments C) (p, s) (in_segments_list C p s v.0) (not_lost (lost C L p s) v.1)
 
-in_joins : (C : CatalogData) → IsCatalog C → (L : Sites) (p s q : ℕ) → Survives C L (FileName.Jix p s q) → IsIn (p, s, q) (surviving_joins C L)
+pub in_joins : (C : CatalogData) → IsCatalog C → (L : Sites) (p s q : ℕ) → Survives C L (FileName.Jix p s q) → IsIn (p, s, q) (surviving_joins C L)
 in_joins C cat L p s q v =
     let hq = ((cat.projections p v.0.0.0).joins q v.0.1).0 in
     flat_map_in (λ (a : ℕ × ℕ). map (λ r. (a.0, a.1, r)) (filter (has_join C a.0) (numbers_below (length C.projections)))) (surviving_segments C L) (p, s) (p, s, q) (in_survivors C L p s (v.0.0, v.1))
@@ -110,10 +111,14 @@ judged_so C L S rows T e =
       misled = subst (λ V. misled C L S V ≡ None) a.1 d.1;
     }
 
-pub judged_fits : (C : CatalogData) (L : Sites) (S : Contents) (rows T : List Row) → IsJudged C L S rows T → Fits C T
-judged_fits C L S rows T j p s h =
-    let none = none_mapped (λ (a : ℕ × ℕ). Fault.Full a.0 a.1) (find (λ (a : ℕ × ℕ). nat_lt row_limit (length (rows_of C T a.0 a.1))) (all_segments C)) j.full in
+-- where no range is too large, each fits
+pub full_fits : (C : CatalogData) (T : List Row) → full C T ≡ None → Fits C T
+full_fits C T e p s h =
+    let none = none_mapped (λ (a : ℕ × ℕ). Fault.Full a.0 a.1) (find (λ (a : ℕ × ℕ). nat_lt row_limit (length (rows_of C T a.0 a.1))) (all_segments C)) e in
     ltb-false row_limit (length (rows_of C T p s)) (all_fail (λ (a : ℕ × ℕ). nat_lt row_limit (length (rows_of C T a.0 a.1))) (all_segments C) none (p, s) (in_segments_list C p s h))
+
+pub judged_fits : (C : CatalogData) (L : Sites) (S : Contents) (rows T : List Row) → IsJudged C L S rows T → Fits C T
+judged_fits C L S rows T j = full_fits C T j.full
 
 pub judged_contents : (C : CatalogData) → IsCatalog C → (L : Sites) (S : Contents) (rows T : List Row) → IsJudged C L S rows T → AreContentsOf C L S T
 judged_contents C cat L S rows T j = record {
@@ -143,9 +148,12 @@ walked_so C S P rows e = go (find (is_astray C S P) (projection_rows C S P.ancho
     go (Some at) x y = absurd (subst IsOkVerdict (sym y) tt)
 
 -- the table of walked rows, each of them a row of the catalog, is a table
+pub table_of_rows : (C : CatalogData) (rows : List Row) → ((r : Row) → IsIn r rows → IsRow C r) → IsTable C (table_of C rows)
+table_of_rows C rows f = record { rows = λ r h. f r (in_ascending (key_cmp C) (key_total C) rows r h); keys = ascending_sorted (key_cmp C) (key_total C) rows }
+
 pub judged_table : (C : CatalogData) (L : Sites) (S : Contents) (rows T : List Row) → IsJudged C L S rows T → ((r : Row) → IsIn r rows → IsRow C r) → IsTable C T
 judged_table C L S rows T j f =
-    subst (IsTable C) j.is (record { rows = λ r h. f r (in_ascending (key_cmp C) (key_total C) rows r h); keys = ascending_sorted (key_cmp C) (key_total C) rows })
+    subst (IsTable C) j.is (table_of_rows C rows f)
 
 -- what is left to the rows of the walk: their cells have the columns' kinds
 abbrev pub WalkKeepsKinds : CatalogData → FileContents → Sites → Type 0
@@ -154,29 +162,27 @@ WalkKeepsKinds C F L = (S : Contents) (P : PlanData) → Reads C F L S → IsPla
 abbrev pub RowsKeepKinds : CatalogData → FileContents → Sites → Type 0
 RowsKeepKinds C F L = (S : Contents) → Reads C F L S → (rows : List Row) → walked_by_rows C L S ≡ Ok rows → (r : Row) → IsIn r rows → IsRow C r
 
+-- the rows of a walk that ended are rows of the catalog
+pub walked_are_rows : (C : CatalogData) (F : FileContents) (L : Sites) → WalkKeepsKinds C F L → RowsKeepKinds C F L → (S : Contents) → Reads C F L S → (rule : Safety) (rows : List Row) → IsWalkedBy rule C L S (Ok rows) → (r : Row) → IsIn r rows → IsRow C r
+walked_are_rows C F L kinds row_kinds S reads Safety.Whole rows x r h =
+    let k = walked_so C S x.0 rows (sym x.2) in
+    let m = in_map (walked_row C S x.0) (projection_rows C S x.0.anchor) r (subst (IsIn r) k.is h) in
+    subst (IsRow C) (sym m.2) (kinds S x.0 reads x.1 m.0 m.1 (k.straight m.0 m.1))
+walked_are_rows C F L kinds row_kinds S reads Safety.Rows rows x r h = row_kinds S reads rows (sym x) r h
+
 -- A verdict that is a table is held by the surviving files.
 pub verdict_holds : (C : CatalogData) → IsCatalog C → (F : FileContents) (L : Sites) → WalkKeepsKinds C F L → RowsKeepKinds C F L → (T : List Row) → IsVerdict C F L (Ok T) → HoldsSurvivors C F L T
 verdict_holds C cat F L kinds row_kinds T (IsVerdict.bad_file n f b e) = absurd (subst IsOkVerdict e tt)
-verdict_holds C cat F L kinds row_kinds T (IsVerdict.contents S w reads by e) = by_rule C.safety by
+verdict_holds C cat F L kinds row_kinds T (IsVerdict.contents S w reads by e) = go w by e
   where
-    held : (rows : List Row) → Ok T ≡ judged C L S (Ok rows) → ((r : Row) → IsIn r rows → IsRow C r) → HoldsSurvivors C F L T
-    held rows b each =
+    go : (x : Result (List Row) Stray) → IsWalkedBy C.safety C L S x → Ok T ≡ judged C L S x → HoldsSurvivors C F L T
+    go (Err at) x b = absurd (subst IsOkVerdict b tt)
+    go (Ok rows) x b =
         let j = judged_so C L S rows T (sym b) in
-        record { table = judged_table C L S rows T j each; fits = judged_fits C L S rows T j; contents = S; reads = reads; same = judged_contents C cat L S rows T j }
-
-    by_walk : (P : PlanData) → IsPlan C L P → (x : Result (List Row) Stray) → x ≡ walked C S P → Ok T ≡ judged C L S x → HoldsSurvivors C F L T
-    by_walk P plan (Err at) a b = absurd (subst IsOkVerdict b tt)
-    by_walk P plan (Ok rows) a b =
-        let k = walked_so C S P rows (sym a) in
-        let each : (r : Row) → IsIn r rows → IsRow C r = λ r h.
-        let m = in_map (walked_row C S P) (projection_rows C S P.anchor) r (subst (IsIn r) k.is h) in
-        subst (IsRow C) (sym m.2) (kinds S P reads plan m.0 m.1 (k.straight m.0 m.1)) in
-        held rows b each
-
-    by_rows : (x : Result (List Row) Stray) → x ≡ walked_by_rows C L S → Ok T ≡ judged C L S x → HoldsSurvivors C F L T
-    by_rows (Err at) a b = absurd (subst IsOkVerdict b tt)
-    by_rows (Ok rows) a b = held rows b (row_kinds S reads rows (sym a))
-
-    by_rule : (rule : Safety) → IsWalkedBy rule C L S w → HoldsSurvivors C F L T
-    by_rule Safety.Whole x = by_walk x.0 x.1 w x.2 e
-    by_rule Safety.Rows x = by_rows w x e
+        record {
+          table = judged_table C L S rows T j (walked_are_rows C F L kinds row_kinds S reads C.safety rows x);
+          fits = judged_fits C L S rows T j;
+          contents = S;
+          reads = reads;
+          same = judged_contents C cat L S rows T j;
+        }

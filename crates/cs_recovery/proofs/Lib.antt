@@ -1,4 +1,5 @@
 pub mod Accepted
+pub mod Afresh
 pub mod CheckClauses
 pub mod Clauses
 pub mod Exact

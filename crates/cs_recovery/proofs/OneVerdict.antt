@@ -31,7 +31,7 @@ use Rattle.cs_rows.specs.Walk.{Contents, At, Stray, landed, entry_of, follow, st
 use Rattle.cs_safety.specs.PlanData.{is_planned}
 use Rattle.cs_recovery.specs.Contents.{Reads}
 use Rattle.cs_recovery.specs.Verdicts.{FileFault, IsFirstBadFile, IsVerdict, IsRebuildVerdict, IsWalkedBy, Verdict, judged, unless_refused, twice, full, misplaced, misled, surviving_segments, surviving_joins}
-use Rattle.cs_recovery.specs.Tables.{table_of}
+use Rattle.cs_order.specs.Tables.{table_of}
 use Rattle.cs_recovery.specs.Holding.{agrees}
 use Rattle.cs_recovery.specs.Places.{entries_for}
 use Rattle.cs_schema.proofs.Lists.{in_range}
@@ -51,7 +51,7 @@ use Rattle.cs_recovery.proofs.RowReadings.{same_row_walk}
 
 module _ (C : CatalogData) (cat : IsCatalog C) (layers : Layers C) (F : FileContents) (L : Sites) (S S' : Contents) (r : Reads C F L S) (r' : Reads C F L S') where
   same_image : (p s : ℕ) → Survives C L (FileName.Seg p s) → S.image p s ≡ S'.image p s
-  same_image p s h = layers.one_image F p s (S.image p s) (S'.image p s) (r.images p s h) (r'.images p s h)
+  same_image p s h = layers.one_image F p s h.0 (S.image p s) (S'.image p s) (r.images p s h) (r'.images p s h)
 
   same_join : (p s q : ℕ) → Survives C L (FileName.Jix p s q) → S.join p s q ≡ S'.join p s q
   same_join p s q h = layers.one_join F p s q (S.join p s q) (S'.join p s q) (r.joins p s q h) (r'.joins p s q h)

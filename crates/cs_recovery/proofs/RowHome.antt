@@ -24,7 +24,7 @@ use Rattle.cs_safety.specs.Safety.{IsSafeByRows, with_row}
 use Rattle.cs_rows.specs.Walk.{Contents, At, entry_of, image_cell, segment_rows, projection_rows}
 use Rattle.cs_rows.specs.WalkByRows.{Reached, Found, numbers_of, Landing, landing, looked_at, is_stray_landing, row_landing, lost_landing, level, found, found_from, source_in, is_full, found_row, full_row, surviving_rows, without_repeats, walked_by_rows}
 use Rattle.cs_recovery.specs.Holding.{AreContentsOf}
-use Rattle.cs_recovery.specs.Tables.{table_of}
+use Rattle.cs_order.specs.Tables.{table_of}
 use Rattle.cs_schema.proofs.Ascending.{false≢true, in_filter, filter_in, same_ascending, ascending_sorted, in_ascending, ascending_in}
 use Rattle.cs_schema.proofs.RowOrder.{rows_of-are, tied_same, key_total}
 use Rattle.cs_schema.proofs.Lists.{in_at, in_append, in_map, map_in, in_range, range_in, append_left, append_right}

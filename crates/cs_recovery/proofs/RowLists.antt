@@ -9,7 +9,7 @@ use Rattle.cs_schema.specs.Rows.{Row, cell}
 use Rattle.cs_schema.specs.Lists.{IsIn}
 use Rattle.cs_schema.specs.Values.{value_eq}
 use Rattle.cs_rows.specs.WalkByRows.{without_repeats}
-use Rattle.cs_recovery.specs.Tables.{is_twice}
+use Rattle.cs_order.specs.Tables.{is_twice}
 use Rattle.cs_schema.proofs.Ascending.{false≢true, in_filter, filter_in, All-in, All-from_in}
 use Rattle.cs_schema.proofs.Lists.{in_append}
 use Rattle.cs_recovery.proofs.WalkedRows.{none_any}

@@ -27,7 +27,7 @@ use Rattle.cs_recovery.proofs.RowHome.{surviving_kept}
 
 module _ (C : CatalogData) (cat : IsCatalog C) (layers : Layers C) (F : FileContents) (L : Sites) (S S' : Contents) (r : Reads C F L S) (r' : Reads C F L S') where
   same_image : (p s : ℕ) → Survives C L (FileName.Seg p s) → S.image p s ≡ S'.image p s
-  same_image p s h = layers.one_image F p s (S.image p s) (S'.image p s) (r.images p s h) (r'.images p s h)
+  same_image p s h = layers.one_image F p s h.0 (S.image p s) (S'.image p s) (r.images p s h) (r'.images p s h)
 
   same_join : (p s q : ℕ) → Survives C L (FileName.Jix p s q) → S.join p s q ≡ S'.join p s q
   same_join p s q h = layers.one_join F p s q (S.join p s q) (S'.join p s q) (r.joins p s q h) (r'.joins p s q h)

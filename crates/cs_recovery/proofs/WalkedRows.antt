@@ -23,7 +23,7 @@ use Rattle.cs_safety.specs.PlanData.{PlanData, IsPlan, IsPrev, prev_of}
 use Rattle.cs_rows.specs.Walk.{Contents, At, follow, stands, stand, image_cell, walked_cell, walked_row, is_astray, segment_rows, projection_rows, walked}
 use Rattle.cs_safety.specs.PlanData.{is_planned}
 use Rattle.cs_recovery.specs.Holding.{AreContentsOf}
-use Rattle.cs_recovery.specs.Tables.{table_of}
+use Rattle.cs_order.specs.Tables.{table_of}
 use Rattle.cs_schema.proofs.Ascending.{false≢true, same_ascending, ascending_sorted, in_ascending, ascending_in}
 use Rattle.cs_schema.proofs.RowOrder.{rows_of-are, tied_same, key_total}
 use Rattle.cs_schema.proofs.Lists.{in_at, found_first, slice_get_map, in_map, append_left, append_right, in_append, in_range, range_in}

@@ -18,7 +18,7 @@ use Rattle.cs_rows.specs.WalkByRows.{without_repeats}
 use Rattle.cs_recovery.specs.Contents.{Reads}
 use Rattle.cs_recovery.specs.Holding.{AreContentsOf, HoldsSurvivors}
 use Rattle.cs_recovery.specs.Verdicts.{IsSound, FileFault, IsFirstBadFile, IsVerdict, IsRebuildVerdict, IsWalkedBy, Verdict}
-use Rattle.cs_recovery.specs.Tables.{is_twice}
+use Rattle.cs_order.specs.Tables.{is_twice}
 use Rattle.cs_recovery.specs.Claims.{SameSurvivors, IsRebuildAnswer}
 use Rattle.cs_store.specs.FileSet.{Files}
 use Rattle.cs_recovery.proofs.Walks.{IsKeyed}

@@ -16,24 +16,19 @@ use Rattle.cs_recovery.specs.Contents.{IsImageOf, IsJoinOf, Reads}
 use Rattle.cs_recovery.specs.Holding.{HoldsSurvivors, Holds}
 use Rattle.cs_recovery.specs.Expected.{AreExpected}
 use Rattle.cs_recovery.specs.Verdicts.{NamesItsSites, IsVerdict, IsWalkedBy, IsRebuildVerdict, IsCheckVerdict, Verdict}
-use Rattle.cs_recovery.specs.Tables.{is_twice}
+use Rattle.cs_order.specs.Tables.{is_twice}
 use Rattle.cs_recovery.specs.Claims.{IsAccepted, IsOnlyTable, SameSurvivors, IsRebuildAnswer, IsCheckAnswer, IsRecovered, put_over}
 use Rattle.cs_store.specs.FileSet.{Files}
 use Rattle.cs_store.specs.FileSet.{contents_of}
 
--- files of one name hold one content: the laws of the texts
-pub record OneReading (C : CatalogData) : Type 0 where
-  pub one_image : (F : FileContents) (p s : ℕ) (m n : ImageData) → IsImageOf C F p s m → IsImageOf C F p s n → m ≡ n
-  pub one_join : (F : FileContents) (p s q : ℕ) (e f : List Place) → IsJoinOf F p s q e → IsJoinOf F p s q f → e ≡ f
-
 -- where the surviving files of a safe loss hold a table, every verdict on them is that table
 abbrev pub VerdictIsTheTable : Type 0
-VerdictIsTheTable = (C : CatalogData) → IsCatalog C → OneReading C → (F : FileContents) (L : Sites) (T : List Row) → IsSafe C L → HoldsSurvivors C F L T → (v : Verdict) → IsVerdict C F L v → v ≡ Ok T
+VerdictIsTheTable = (C : CatalogData) → IsCatalog C → (F : FileContents) (L : Sites) (T : List Row) → IsSafe C L → HoldsSurvivors C F L T → (v : Verdict) → IsVerdict C F L v → v ≡ Ok T
 
 -- every answer on what survives of an accepted store is want of memory, or the files that recover its table
 abbrev pub AcceptedStoresRecover : Type 0
 AcceptedStoresRecover =
-    (C : CatalogData) → IsCatalog C → OneReading C → (F G : FileContents) (L : Sites) (k : ℕ) (T : List Row)
+    (C : CatalogData) → IsCatalog C → (F G : FileContents) (L : Sites) (k : ℕ) (T : List Row)
     → IsAccepted C F k T → IsLoss C L → length L ≤ k → SameSurvivors C L F G → (r : Result Files Fault) → IsRebuildAnswer C G L r → IsRecovered C F L T r
 
 -- a verdict that is a table is held by the surviving files
@@ -42,20 +37,20 @@ VerdictTableIsHeld = (C : CatalogData) → IsCatalog C → (F : FileContents) (L
 
 -- the surviving files with the expected ones put over them hold the table again
 abbrev pub WholeAgain : Type 0
-WholeAgain = (C : CatalogData) → IsCatalog C → OneReading C → (F : FileContents) (L : Sites) (T : List Row) → HoldsSurvivors C F L T → (out : FileContents) → AreExpected C F L T out → Holds C (put_over out F) T
+WholeAgain = (C : CatalogData) → IsCatalog C → (F : FileContents) (L : Sites) (T : List Row) → HoldsSurvivors C F L T → (out : FileContents) → AreExpected C F L T out → Holds C (put_over out F) T
 
 -- what `rebuild` answers is one verdict: the answers of two runs agree, want of memory aside
 abbrev pub OneRebuildVerdict : Type 0
-OneRebuildVerdict = (C : CatalogData) → IsCatalog C → OneReading C → (F : FileContents) (L : Sites) (v u : Verdict) → IsRebuildVerdict C F L v → IsRebuildVerdict C F L u → v ≡ u
+OneRebuildVerdict = (C : CatalogData) → IsCatalog C → (F : FileContents) (L : Sites) (v u : Verdict) → IsRebuildVerdict C F L v → IsRebuildVerdict C F L u → v ≡ u
 
 -- what `check` answers is one verdict
 abbrev pub CheckHasOneVerdict : Type 0
-CheckHasOneVerdict = (C : CatalogData) → IsCatalog C → OneReading C → (F : FileContents) (k : ℕ) (v u : Verdict) → IsCheckVerdict C F k v → IsCheckVerdict C F k u → v ≡ u
+CheckHasOneVerdict = (C : CatalogData) → IsCatalog C → (F : FileContents) (k : ℕ) (v u : Verdict) → IsCheckVerdict C F k v → IsCheckVerdict C F k u → v ≡ u
 
 -- where the surviving files of a safe loss hold a table, the walk ends with exactly its rows, and no key twice
 abbrev pub WalkFindsTheTable : Type 0
 WalkFindsTheTable =
-    (C : CatalogData) → IsCatalog C → OneReading C → (F : FileContents) (L : Sites) (T : List Row) → IsSafe C L → HoldsSurvivors C F L T
+    (C : CatalogData) → IsCatalog C → (F : FileContents) (L : Sites) (T : List Row) → IsSafe C L → HoldsSurvivors C F L T
     → (S : Contents) (w : Result (List Row) Stray) → Reads C F L S → IsWalkedBy C.safety C L S w → (rows : List Row) × (w ≡ Ok rows) × ((r : Row) → IsIn r rows ↔ IsIn r T) × (is_twice C rows ≡ false)
 
 -- the last level of a walk by rows reaches none
@@ -75,7 +70,7 @@ pub record RebuildClauses (C : CatalogData) (F : FileContents) (L : Sites) (r : 
 
 abbrev pub RebuildAnswersSuffice : Type 0
 RebuildAnswersSuffice =
-    (C : CatalogData) → IsCatalog C → OneReading C → (F : FileContents) (L : Sites) → (NamesItsSites C L → IsLoss C L) → (r : Result Files Fault) → IsRebuildAnswer C F L r → RebuildClauses C F L r
+    (C : CatalogData) → IsCatalog C → (F : FileContents) (L : Sites) → (NamesItsSites C L → IsLoss C L) → (r : Result Files Fault) → IsRebuildAnswer C F L r → RebuildClauses C F L r
 
 -- the other clauses of `check` follow from its answer
 pub record CheckClauses (C : CatalogData) (F : FileContents) (k : ℕ) (r : Result ℕ Fault) : Type 0 where
@@ -83,4 +78,4 @@ pub record CheckClauses (C : CatalogData) (F : FileContents) (k : ℕ) (r : Resu
   pub exact : IfOk r (λ n. (T : List Row) × IsOnlyTable (IsAccepted C F k) T × (n ≡ length T))
 
 abbrev pub CheckAnswersSuffice : Type 0
-CheckAnswersSuffice = (C : CatalogData) → IsCatalog C → OneReading C → (F : FileContents) (k : ℕ) (r : Result ℕ Fault) → IsCheckAnswer C F k r → CheckClauses C F k r
+CheckAnswersSuffice = (C : CatalogData) → IsCatalog C → (F : FileContents) (k : ℕ) (r : Result ℕ Fault) → IsCheckAnswer C F k r → CheckClauses C F k r

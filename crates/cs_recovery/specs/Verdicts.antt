@@ -25,7 +25,8 @@ use Rattle.cs_rows.specs.WalkByRows.{walked_by_rows}
 use Rattle.cs_recovery.specs.Contents.{IsImageOf, IsJoinOf, Reads}
 use Rattle.cs_recovery.specs.Places.{entries_for}
 use Rattle.cs_recovery.specs.Holding.{agrees}
-use Rattle.cs_recovery.specs.Tables.{when, all_segments, table_of, is_twice}
+use Rattle.cs_recovery.specs.Tables.{when}
+use Rattle.cs_order.specs.Tables.{all_segments, table_of, is_twice}
 
 -- each site of the loss is one of the catalog's
 abbrev pub NamesItsSites : CatalogData → Sites → Type 0

@@ -1,4 +1,5 @@
 -- The end of a walk: the plan fits the catalog, and the filled columns are the walked rows.
+use Rattle.std.proofs.Props.{props}
 use Rattle.std.proofs.Common.{◌≡◌, ℕ, zero, suc, ◌<◌, ◌≤◌, List, [], ◌∷◌, length, map, get_or, refl, sym, ap, ◌∙◌, subst, arith, Bool, true, false, ◌||◌, Option, Some, None, ◌⊎◌, inl, inr, eqb, eq-eqb, Ok, Err}
 use Rattle.std.specs.Prelude.{slice_index, pos, MatchOption}
 use Rattle.std.specs.List.{find}
@@ -21,6 +22,7 @@ use Rattle.cs_safety.proofs.Distances.{path_exists}
 use Rattle.cs_schema.proofs.Lists.{at_in}
 use Rattle.cs_rows.specs.declared.range.WalkFault.{WalkFault}
 use Rattle.cs_rows.specs.Steps.{PlanFits}
+use Rattle.cs_rows.proofs.RouteLemmas.{plan_depth, plan_follows}
 use Rattle.cs_rows.specs.Columns.{ColumnsFit, AreWalked, IsRowFault}
 use Rattle.cs_rows.specs.WalkedView.{row_of, rows_of, count_of, AreColumns}
 use Rattle.cs_rows.specs.Range.{walked_among, IsWalkFault}
@@ -49,8 +51,14 @@ module _ (C : CatalogData) (cat : IsCatalog C) (L : Sites) (P : PlanData) (plan 
     sources = plan.sources;
     source = λ c h. path_exists C (alive C L) P.anchor plan.anchor.exists (slice_index P.source c) (plan.source c h).distance (plan.source c h).at_distance.path;
     planned = λ c h. let q : ℕ = slice_index P.source c in let s = plan.source c h in reached_planned q (prev_of P q) (plan.prev q (path_exists C (alive C L) P.anchor plan.anchor.exists q s.distance s.at_distance.path)) (s.distance, s.at_distance.path);
+    depth = λ q h e. ∣ plan_depth C L P plan q h e ∣₁;
+    follows = plan_follows C L P plan;
     holds = λ c h. (plan.source c h).column;
   }
+
+-- that a plan fits is one fact
+pub PlanFits-prop : (C : CatalogData) (P : PlanData) → IsProp (PlanFits C P)
+PlanFits-prop C P = hlevel props
 
 pub get_or_map_in : {X Y : Type 0} (f : X → Y) (xs : List X) (i : ℕ) (e y : Y) → i < length xs → ((d : X) → f (get_or xs i d) ≡ y) → get_or (map f xs) i e ≡ y
 get_or_map_in f [] i e y h k = absurd (omega arith)

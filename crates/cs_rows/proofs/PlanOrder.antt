@@ -11,13 +11,13 @@ use Rattle.cs_safety.proofs.Distances.{path_exists, path_zero, distance_one, dis
 use Rattle.cs_rows.proofs.StepLemmas.{stand_anchor, stand_enters}
 
 module _ (C : CatalogData) (L : Sites) (S : Contents) (P : PlanData) (plan : IsPlan C L P) (at : At) where
-  abbrev Near : ℕ → ℕ → Type 0
+  abbrev pub Near : ℕ → ℕ → Type 0
   Near q n = IsDistance C (alive C L) P.anchor q n
 
-  record Before (q n : ℕ) : Type 0 where
-    from : ℕ
-    is : prev_of P q ≡ Some from
-    near : Near from n
+  pub record Before (q n : ℕ) : Type 0 where
+    pub from : ℕ
+    pub is : prev_of P q ≡ Some from
+    pub near : Near from n
 
   not_anchor : (q n : ℕ) → Near q (suc n) → q ≡ P.anchor → ⊥
   not_anchor q n d e =
@@ -33,7 +33,7 @@ module _ (C : CatalogData) (L : Sites) (S : Contents) (P : PlanData) (plan : IsP
       let k : j ≡ n = omega arith in
       record { from = p; is = e; near = subst (Near p) k h.nearer.nearer.1.0 }
 
-  before : (q n : ℕ) → Near q (suc n) → Before q n
+  pub before : (q n : ℕ) → Near q (suc n) → Before q n
   before q n d = before_of q n d (prev_of P q) refl (plan.prev q (path_exists C (alive C L) P.anchor plan.anchor.exists q (suc n) d.path))
 
   enters : (q n m : ℕ) → (d : Near q (suc n)) → (b : Before q n) → stands C S P at (suc m) q ≡ option_and_then (follow C S b.from q) (stands C S P at m b.from)

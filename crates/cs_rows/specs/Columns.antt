@@ -8,7 +8,9 @@ use Rattle.cs_safety.specs.PlanData.{PlanData}
 use Rattle.cs_rows.specs.Walk.{Contents, At, is_astray, stand, walked_cell}
 use Rattle.cs_safety.specs.PlanData.{is_planned}
 use Rattle.cs_rows.specs.Steps.{IsAt}
+use Rattle.cs_rows.specs.Routes.{IsRoute}
 use Rattle.cs_rows.specs.declared.range.WalkFault.{WalkFault}
+use Rattle.cs_rows.specs.declared.range.Desk.{Desk}
 
 -- where the walk of a row stands in each of the first n projections that the plan reaches
 abbrev pub PlacesAre : CatalogData → Contents → PlanData → At → List At → ℕ → Type 0
@@ -17,6 +19,13 @@ PlacesAre C S P row places n = (q : ℕ) → q < n → is_planned P q ≡ true �
 -- the projection from which a column is read, and its number there
 abbrev pub read_of : CatalogData → PlanData → ℕ → ℕ × ℕ
 read_of C P c = (slice_index P.source c, position_or_len (λ d. d == c) (projection C (slice_index P.source c)).columns)
+
+-- where each column is read, the route of the plan, and a place for each projection
+pub record IsDesk (C : CatalogData) (P : PlanData) (desk : Desk) : Type 0 where
+  pub count : length desk.reads.items ≡ length C.columns
+  pub reads : (c : ℕ) → c < length C.columns → slice_index_or desk.reads.items c (0, 0) ≡ read_of C P c
+  pub route : IsRoute C P desk.route.items
+  pub places : length desk.places.items ≡ length C.projections
 
 -- the cells of one row stand at the end of each of the first n columns
 abbrev pub Pushed : CatalogData → Contents → PlanData → At → List Cells → List Cells → ℕ → Type 0

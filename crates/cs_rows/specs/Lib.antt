@@ -1,8 +1,12 @@
 pub mod Walk
 pub mod WalkByRows
-pub mod RowParts
+pub mod RangeByRows
+pub mod RowSteps
 pub mod WalkedView
 pub mod Survivors
+pub mod PutLaws
+pub mod Routes
 pub mod Steps
 pub mod Range
 pub mod Columns
+pub mod Repeats

@@ -1,10 +1,23 @@
-//! Walks from anchor rows through the join indexes.
+//! Walks through the join indexes of surviving segments.
+//!
+//! `walk_range` gives the rows that a plan's walk finds from some rows of its anchor, `walk_rows` the full rows that
+//! the walks from some surviving rows find, and each refuses the first row that is led astray. A row costs one look
+//! at a join index for each projection that is reached, and no memory but that of its cells. `Walked::once` leaves
+//! out the later rows of a key. `laws` has what a put changes.
 #![tactic(auto)]
 
+pub mod by_rows;
+pub mod counts;
+pub mod laws;
+mod levels;
 mod numbers;
 pub mod range;
+mod repeats;
+mod route;
 pub mod steps;
 pub mod survivors;
+#[cfg(test)]
+mod tests;
 pub mod walked;
 
 pub use survivors::Survivors;

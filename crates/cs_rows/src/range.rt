@@ -7,18 +7,17 @@ ghost use Rattle.cs_schema.specs.CatalogData.{column, projection, segments};
 ghost use Rattle.cs_schema.specs.CatalogRules.{IsCatalog};
 ghost use Rattle.cs_schema.specs.Values.{IsOfKind};
 ghost use Rattle.cs_rows.specs.Walk.{At, stand, is_astray, projection_rows, segment_rows};
-ghost use Rattle.cs_safety.specs.PlanData.{is_planned};
 ghost use Rattle.cs_schema.specs.declared.kinds.Kind.{Kind as KindValue};
 ghost use Rattle.cs_rows.specs.declared.range.WalkFault.TheVariants.{Memory};
 ghost use Rattle.cs_rows.specs.Survivors.{HasRoom, HoldsImages, contents_of, image_row};
 ghost use Rattle.cs_rows.specs.Steps.{IsAt, PlanFits};
-ghost use Rattle.cs_rows.specs.Columns.{PlacesAre, read_of, Pushed, ColumnsFit, AreWalked, IsRowFault, rows_from};
+ghost use Rattle.cs_rows.specs.Columns.{PlacesAre, read_of, IsDesk, Pushed, ColumnsFit, AreWalked, IsRowFault, rows_from};
+ghost use Rattle.cs_rows.specs.Routes.{IsRoute};
 ghost use Rattle.cs_rows.specs.Range.{walked_among, rows_between, IsPlanOf, IsWalkFault};
 
-use crate::numbers::{
-    anchor, column_count, columns_of, kind, prev, projection_count, segments, source,
-};
-use crate::steps::stand;
+use crate::numbers::{anchor, column_count, columns_of, kind, projection_count, segments, source};
+use crate::route::find_route;
+use crate::steps::follow;
 use crate::survivors::Survivors;
 use crate::walked::Walked;
 use cs_delta::image::Image;
@@ -29,6 +28,7 @@ use std::alloc::{AllocError, AllocFailed, Global};
 /// Why a walk gives no rows.
 #[derive(Debug, Clone, Copy, PartialEq, Eq)]
 pub enum WalkFault {
+    /// Want of memory.
     Memory,
     /// The first row that the join indexes lead astray: its projection, segment and position in the image.
     Astray { p: u16, s: u16, row: u32 },
@@ -50,12 +50,13 @@ impl<T: Drop> From<AllocFailed<T>> for WalkFault {
     }
 }
 
-/// Whether the plan reaches a projection.
-fn is_planned(plan: &Plan, q: usize) -> bool
-    requires { q < length plan.now.prev }
-    ensures { result ≡ is_planned plan.now q }
-{
-    q == anchor(plan) || prev(plan, q).is_some()
+/// What the walk of a plan's rows needs, made once for all rows: where each column is read, the steps of
+/// the walk, and room for a place in each projection.
+#[derive(Drop)]
+struct Desk {
+    reads: Vec<(usize, usize)>,
+    route: Vec<(usize, usize)>,
+    places: Vec<(u16, u32)>,
 }
 
 /// Finds where the walk of an anchor row stands in each projection that the plan reaches, and whether it is astray.
@@ -64,29 +65,34 @@ fn find_places(
     plan: &Plan,
     survivors: &Survivors,
     row: (u16, u32),
+    route: &[(usize, usize)],
     places: &mut [(u16, u32)],
 ) -> bool
     requires room { HasRoom catalog.now survivors.now }
     requires fits { PlanFits catalog.now plan.now }
     requires row { IsAt catalog.now (contents_of survivors.now) plan.now.anchor row }
+    requires route { IsRoute catalog.now plan.now route.now }
     requires places { length places.old ≡ length catalog.now.projections }
     ensures astray { result ≡ is_astray catalog.now (contents_of survivors.now) plan.now row }
     ensures places { result ≡ false → PlacesAre catalog.now (contents_of survivors.now) plan.now row places.new (length catalog.now.projections) }
 {
-    let count = projection_count(catalog);
-    for q in 0..count {
-        if is_planned(plan, q) {
-            match stand(catalog, plan, survivors, row, count, q) {
-                Some(at) => places[q] = at,
-                None => return true,
-            }
+    places[anchor(plan)] = row;
+    for (q, p) in route {
+        match follow(catalog, survivors, *p, *q, places[*p]) {
+            Some(at) => places[*q] = at,
+            None => return true,
         }
     }
     false
 }
 
 /// Puts the cell of an image's row at the end of a column.
-fn push_cell(cells: &mut Cells, image: &Image, row: u32, j: usize) -> Result<(), AllocError>
+pub(crate) fn push_cell(
+    cells: &mut Cells,
+    image: &Image,
+    row: u32,
+    j: usize,
+) -> Result<(), AllocError>
     requires row { row < length image.now.image.pairs }
     requires there { j < length image.now.kinds }
     requires kind { kind_of cells.old ≡ slice_index_or image.now.kinds j KindValue.Int }
@@ -134,63 +140,73 @@ fn walk_row(
     plan: &Plan,
     survivors: &Survivors,
     row: (u16, u32),
-    reads: &[(usize, usize)],
-    places: &mut [(u16, u32)],
+    desk: &mut Desk,
     columns: &mut Vec<Cells>,
 ) -> Result<(), WalkFault>
     requires room { HasRoom catalog.now survivors.now }
     requires made { HoldsImages catalog.now survivors.now }
     requires fits { PlanFits catalog.now plan.now }
-    requires places { length places.old ≡ length catalog.now.projections }
-    requires reads { (c : ℕ) → c < length catalog.now.columns → slice_index_or reads.now c (0, 0) ≡ read_of catalog.now plan.now c }
-    requires room_of_reads { length reads.now ≡ length catalog.now.columns }
+    requires desk { IsDesk catalog.now plan.now desk.old }
     requires columns { ColumnsFit catalog.now columns.old.items }
     requires row { IsAt catalog.now (contents_of survivors.now) plan.now.anchor row }
+    ensures desk { IsDesk catalog.now plan.now desk.new }
     ensures fit { OnOk result (ColumnsFit catalog.now columns.new.items) }
     ensures sound { OnOk result (find (is_astray catalog.now (contents_of survivors.now) plan.now) ((row ∷ [])) ≡ None) }
     ensures cells { OnOk result ((ats : List At) → AreWalked catalog.now (contents_of survivors.now) plan.now ats columns.old.items → AreWalked catalog.now (contents_of survivors.now) plan.now (ats ++ (row ∷ [])) columns.new.items) }
     ensures fault { IfErr result (IsRowFault catalog.now (contents_of survivors.now) plan.now ((row ∷ []))) }
 {
-    if find_places(catalog, plan, survivors, row, places) {
+    if find_places(
+        catalog,
+        plan,
+        survivors,
+        row,
+        desk.route.as_slice(),
+        desk.places.as_mut_slice(),
+    ) {
         return Err(WalkFault::Astray {
             p: anchor(plan) as u16,
             s: row.0,
             row: row.1,
         });
     }
-    push_row(catalog, plan, survivors, row, places, reads, columns)?;
+    push_row(
+        catalog,
+        plan,
+        survivors,
+        row,
+        desk.places.as_slice(),
+        desk.reads.as_slice(),
+        columns,
+    )?;
     Ok(())
 }
 
-/// Walks the rows from `start` to `end` of one of the anchor's segments.
+/// Walks the rows of one of the anchor's segments, from the first number up to the second.
 fn walk_segment(
     catalog: &Catalog,
     plan: &Plan,
     survivors: &Survivors,
     s: u16,
-    start: u32,
-    end: u32,
-    reads: &[(usize, usize)],
-    places: &mut [(u16, u32)],
+    rows: (u32, u32),
+    desk: &mut Desk,
     columns: &mut Vec<Cells>,
 ) -> Result<(), WalkFault>
     requires room { HasRoom catalog.now survivors.now }
     requires made { HoldsImages catalog.now survivors.now }
     requires fits { PlanFits catalog.now plan.now }
-    requires places { length places.old ≡ length catalog.now.projections }
-    requires reads { (c : ℕ) → c < length catalog.now.columns → slice_index_or reads.now c (0, 0) ≡ read_of catalog.now plan.now c }
-    requires room_of_reads { length reads.now ≡ length catalog.now.columns }
+    requires desk { IsDesk catalog.now plan.now desk.old }
     requires columns { ColumnsFit catalog.now columns.old.items }
     requires segment { s < segments catalog.now plan.now.anchor }
-    requires order { start ≤ end }
-    requires within { end ≤ length ((contents_of survivors.now).image plan.now.anchor s).pairs }
+    requires order { rows.0 ≤ rows.1 }
+    requires within { rows.1 ≤ length ((contents_of survivors.now).image plan.now.anchor s).pairs }
+    ensures desk { IsDesk catalog.now plan.now desk.new }
     ensures fit { OnOk result (ColumnsFit catalog.now columns.new.items) }
-    ensures sound { OnOk result (find (is_astray catalog.now (contents_of survivors.now) plan.now) (rows_from s start (end - start)) ≡ None) }
-    ensures cells { OnOk result ((ats : List At) → AreWalked catalog.now (contents_of survivors.now) plan.now ats columns.old.items → AreWalked catalog.now (contents_of survivors.now) plan.now (ats ++ rows_from s start (end - start)) columns.new.items) }
-    ensures fault { IfErr result (IsRowFault catalog.now (contents_of survivors.now) plan.now (rows_from s start (end - start))) }
+    ensures sound { OnOk result (find (is_astray catalog.now (contents_of survivors.now) plan.now) (rows_from s rows.0 (rows.1 - rows.0)) ≡ None) }
+    ensures cells { OnOk result ((ats : List At) → AreWalked catalog.now (contents_of survivors.now) plan.now ats columns.old.items → AreWalked catalog.now (contents_of survivors.now) plan.now (ats ++ rows_from s rows.0 (rows.1 - rows.0)) columns.new.items) }
+    ensures fault { IfErr result (IsRowFault catalog.now (contents_of survivors.now) plan.now (rows_from s rows.0 (rows.1 - rows.0))) }
 {
-    for i in start..end {
-        match walk_row(catalog, plan, survivors, (s, i), reads, places, columns) {
+    for i in rows.0..rows.1 {
+        match walk_row(catalog, plan, survivors, (s, i), desk, columns) {
             Ok(()) => {}
             Err(fault) => return Err(fault),
         }
@@ -199,7 +215,7 @@ fn walk_segment(
 }
 
 /// The number of rows of a segment's image, 0 where it isn't there.
-fn row_count(catalog: &Catalog, survivors: &Survivors, p: usize, s: usize) -> u32
+pub(crate) fn row_count(catalog: &Catalog, survivors: &Survivors, p: usize, s: usize) -> u32
     requires room { HasRoom catalog.now survivors.now }
     requires projection { p < length catalog.now.projections }
     requires segment { s < segments catalog.now p }
@@ -218,18 +234,16 @@ fn walk_segments(
     survivors: &Survivors,
     from: usize,
     to: usize,
-    reads: &[(usize, usize)],
-    places: &mut [(u16, u32)],
+    desk: &mut Desk,
     columns: &mut Vec<Cells>,
 ) -> Result<(), WalkFault>
     requires room { HasRoom catalog.now survivors.now }
     requires made { HoldsImages catalog.now survivors.now }
     requires fits { PlanFits catalog.now plan.now }
-    requires places { length places.old ≡ length catalog.now.projections }
-    requires reads { (c : ℕ) → c < length catalog.now.columns → slice_index_or reads.now c (0, 0) ≡ read_of catalog.now plan.now c }
-    requires room_of_reads { length reads.now ≡ length catalog.now.columns }
+    requires desk { IsDesk catalog.now plan.now desk.old }
     requires columns { ColumnsFit catalog.now columns.old.items }
     requires order { from ≤ to }
+    ensures desk { IsDesk catalog.now plan.now desk.new }
     ensures fit { OnOk result (ColumnsFit catalog.now columns.new.items) }
     ensures sound { OnOk result (find (is_astray catalog.now (contents_of survivors.now) plan.now) (rows_between catalog.now (contents_of survivors.now) plan.now from to) ≡ None) }
     ensures cells { OnOk result ((ats : List At) → AreWalked catalog.now (contents_of survivors.now) plan.now ats columns.old.items → AreWalked catalog.now (contents_of survivors.now) plan.now (ats ++ rows_between catalog.now (contents_of survivors.now) plan.now from to) columns.new.items) }
@@ -247,10 +261,8 @@ fn walk_segments(
             plan,
             survivors,
             s as u16,
-            start as u32,
-            end as u32,
-            reads,
-            places,
+            (start as u32, end as u32),
+            desk,
             columns,
         ) {
             Ok(()) => {}
@@ -262,8 +274,9 @@ fn walk_segments(
 }
 
 /// An empty column for each column of the table.
-fn new_columns(alloc: Global, catalog: &Catalog) -> Result<Vec<Cells>, AllocError>
+pub(crate) fn new_columns(alloc: Global, catalog: &Catalog) -> Result<Vec<Cells>, AllocError>
     ensures fit { IfOk result (λ columns. ColumnsFit catalog.now columns.items) }
+    ensures rules { IsCatalog catalog.now }
     ensures none { IfOk result (λ columns. (c : ℕ) (d : Cells) → c < length catalog.now.columns → values (slice_index_or columns.items c d) ≡ []) }
 {
     let mut columns: Vec<Cells> = Vec::new(alloc);
@@ -274,7 +287,7 @@ fn new_columns(alloc: Global, catalog: &Catalog) -> Result<Vec<Cells>, AllocErro
 }
 
 /// The number of a column among those of a projection.
-fn place_in(columns: &[u8], c: usize) -> usize
+pub(crate) fn place_in(columns: &[u8], c: usize) -> usize
     ensures { result ≡ position_or_len (λ d. d == c) columns.now }
 {
     for (j, column) in columns.iter().enumerate() {
@@ -314,8 +327,23 @@ fn new_places(alloc: Global, count: usize) -> Result<Vec<(u16, u32)>, AllocError
     Ok(places)
 }
 
-/// The rows that the walk gives for the anchor's rows numbered from `from` up to `to`.
-pub fn walk_range(
+/// What the walk of a plan's rows needs.
+fn new_desk(alloc: Global, catalog: &Catalog, plan: &Plan) -> Result<Desk, AllocError>
+    requires { PlanFits catalog.now plan.now }
+    ensures { IfOk result (IsDesk catalog.now plan.now) }
+{
+    let reads = find_reads(alloc, catalog, plan)?;
+    let route = find_route(alloc, catalog, plan)?;
+    let places = new_places(alloc, projection_count(catalog))?;
+    Ok(Desk {
+        reads,
+        route,
+        places,
+    })
+}
+
+/// Walks the anchor's rows numbered from `from` up to `to` into new columns.
+fn walk_planned(
     alloc: Global,
     catalog: &Catalog,
     plan: &Plan,
@@ -324,7 +352,7 @@ pub fn walk_range(
     to: usize,
 ) -> Result<Walked, WalkFault>
     requires catalog { IsCatalog catalog.now }
-    requires plan { IsPlanOf catalog.now plan.now }
+    requires fits { PlanFits catalog.now plan.now }
     requires room { HasRoom catalog.now survivors.now }
     requires made { HoldsImages catalog.now survivors.now }
     requires order { from ≤ to }
@@ -336,25 +364,35 @@ pub fn walk_range(
         Ok(columns) => columns,
         Err(_) => return Err(WalkFault::Memory),
     };
-    let reads = match find_reads(alloc, catalog, plan) {
-        Ok(reads) => reads,
+    let mut desk = match new_desk(alloc, catalog, plan) {
+        Ok(desk) => desk,
         Err(_) => return Err(WalkFault::Memory),
     };
-    let mut places = match new_places(alloc, projection_count(catalog)) {
-        Ok(places) => places,
-        Err(_) => return Err(WalkFault::Memory),
-    };
-    match walk_segments(
-        catalog,
-        plan,
-        survivors,
-        from,
-        to,
-        reads.as_slice(),
-        places.as_mut_slice(),
-        &mut columns,
-    ) {
+    match walk_segments(catalog, plan, survivors, from, to, &mut desk, &mut columns) {
         Ok(()) => Ok(Walked::from_columns(columns)),
         Err(fault) => Err(fault),
     }
+}
+
+/// The rows that the walk gives for the anchor's rows numbered from `from` up to `to`.
+///
+/// Refuses with `Astray` the first of these that the join indexes lead astray, and with `Memory` for want of memory alone.
+pub fn walk_range(
+    alloc: Global,
+    catalog: &Catalog,
+    plan: &Plan,
+    survivors: &Survivors,
+    from: usize,
+    to: usize,
+) -> Result<Walked, WalkFault>
+    requires catalog { IsCatalog catalog.now }
+    requires plan { ∥ IsPlanOf catalog.now plan.now ∥₁ }
+    requires room { HasRoom catalog.now survivors.now }
+    requires made { HoldsImages catalog.now survivors.now }
+    requires order { from ≤ to }
+    ensures kinds { IfOk result (λ walked. walked.kinds ≡ map (λ c. c.kind) catalog.now.columns) }
+    ensures rows { IfOk result (λ walked. Ok walked.rows ≡ walked_among catalog.now (contents_of survivors.now) plan.now (rows_between catalog.now (contents_of survivors.now) plan.now from to)) }
+    ensures fault { IfErr result (IsWalkFault (walked_among catalog.now (contents_of survivors.now) plan.now (rows_between catalog.now (contents_of survivors.now) plan.now from to))) }
+{
+    walk_planned(alloc, catalog, plan, survivors, from, to)
 }

@@ -1,11 +1,15 @@
 //! The rows that a walk gives, column by column.
-ghost use Rattle.std.specs.Prelude.{◌≡◌, ◌<◌, ◌++◌, ℕ, length, map, slice_get, slice_index_or, Some, [], OnOk, OnErr, take};
+ghost use Rattle.std.specs.Prelude.{◌≡◌, ◌<◌, ◌++◌, ℕ, length, map, slice_get, slice_index_or, Some, [], IfOk, OnOk, OnErr, take};
 ghost use Rattle.cs_schema.specs.Values.{values, kind_of};
 ghost use Rattle.cs_schema.specs.Rows.{cell};
+ghost use Rattle.cs_rows.specs.WalkByRows.{without_repeats};
 ghost use Rattle.cs_rows.specs.WalkedView.{walked_data, AreColumns};
 
-use cs_schema::{Cells, Value};
-use std::alloc::AllocError;
+use crate::numbers::key_column;
+use crate::range::new_columns;
+use crate::repeats::{find_repeats, keep_columns, memory_of};
+use cs_schema::{Catalog, Cells, Value};
+use std::alloc::{AllocError, Global};
 use std::marker::Model;
 
 /// Leaves so many cells in each column.
@@ -64,12 +68,21 @@ impl Model for Walked {
 }
 
 impl Walked {
-    /// The rows that stand across columns.
-    pub(crate) fn from_columns(columns: Vec<Cells>) -> Self
+    /// The rows that stand across columns of one length, of which there is one at least.
+    pub fn from_columns(columns: Vec<Cells>) -> Self
         requires { AreColumns columns.items }
         ensures { result ≡ walked_data columns.items }
     {
         Walked { columns }
+    }
+
+    /// No rows, with the columns of a catalog.
+    pub fn none(alloc: Global, catalog: &Catalog) -> Result<Self, AllocError>
+        ensures kinds { IfOk result (λ walked. walked.kinds ≡ map (λ c. c.kind) catalog.now.columns) }
+        ensures rows { IfOk result (λ walked. walked.rows ≡ []) }
+    {
+        let columns = new_columns(alloc, catalog)?;
+        Ok(Walked::from_columns(columns))
     }
 
     /// How many rows there are.
@@ -110,6 +123,19 @@ impl Walked {
             Ok(()) => {}
             Err(fault) => return Err(fault),
         }
+        Ok(())
+    }
+
+    /// Leaves out each row whose primary key stands in an earlier row, in n log n steps. A refusal changes nothing.
+    pub fn once(&mut self, catalog: &Catalog) -> Result<(), AllocError>
+        requires kinds { self.old.kinds ≡ map (λ c. c.kind) catalog.now.columns }
+        ensures kinds { self.new.kinds ≡ self.old.kinds }
+        ensures ok { OnOk result (self.new.rows ≡ without_repeats catalog.now self.old.rows) }
+        ensures err { OnErr result (self.new ≡ self.old) }
+    {
+        let keys = &self.columns[key_column(catalog)];
+        let marks = find_repeats(memory_of(keys), keys)?;
+        keep_columns(&mut self.columns, marks.as_slice());
         Ok(())
     }
 }

@@ -1,16 +1,11 @@
 -- The head of a segment's file.
-use Rattle.std.proofs.Common.{◌≡◌, ℕ, zero, suc, ◌+◌, ◌^◌, ◌<◌, ◌≤◌, List, [], ◌∷◌, ◌++◌, map, length, refl, sym, ap, subst, ◌∙◌, arith, append_assoc, Option, Some, None}
-use Rattle.std.specs.Prelude.{codes, IfNone}
-use Rattle.std.specs.List.{concat}
+use Rattle.std.proofs.Common.{◌≡◌, ℕ, ◌+◌, ◌^◌, ◌<◌, ◌≤◌, List, [], ◌++◌, length, refl, sym, ap, subst, ◌∙◌, arith}
+use Rattle.std.specs.Prelude.{codes}
 use Rattle.std.proofs.lemmas.List.{append_cancel_left}
-use Rattle.cs_schema.specs.declared.cells.Value.{Value}
 use Rattle.cs_schema.specs.CatalogData.{CatalogData, projection}
 use Rattle.cs_segment.specs.Bytes.{be16, be32}
-use Rattle.cs_codec.specs.ColumnText.{FitsColumn}
-use Rattle.cs_schema.specs.Lists.{numbers_below}
-use Rattle.cs_segment.specs.SegmentFile.{sealed, Base, IsBase, IsSegmentFile, base_column, column_part, segment_body}
-use Rattle.cs_schema.specs.CatalogData.{code_at, kind_at}
-use Rattle.cs_segment.specs.Parts.{BeginsWithHead, head_text, parts_text, AllFrom, IsColumnAt, AreParts}
+use Rattle.cs_segment.specs.SegmentFile.{sealed, Base, IsBase, IsSegmentFile, base_column, segment_body}
+use Rattle.cs_segment.specs.Parts.{BeginsWithHead, head_text, parts_text, IsColumnAt, AreParts}
 use Rattle.cs_segment.proofs.Numbers.{be16_begins, be32_begins}
 use Rattle.cs_segment.proofs.Sealing.{sealed_once}
 use Rattle.cs_segment.proofs.PartLists.{parts_of, all-at, all-made}

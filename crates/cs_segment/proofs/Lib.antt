@@ -6,3 +6,4 @@ pub mod PartLists
 pub mod Heads
 pub mod OneText
 pub mod PieceColumns
+mod SegmentColumns

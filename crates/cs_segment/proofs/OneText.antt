@@ -1,8 +1,8 @@
 -- Bytes are the file of one segment.
-use Rattle.std.proofs.Common.{◌≡◌, ℕ, zero, suc, ◌+◌, ◌≤◌, List, [], ◌∷◌, ◌++◌, length, refl, sym, ap, ◌∙◌, arith}
+use Rattle.std.proofs.Common.{◌≡◌, ℕ, ◌+◌, List, [], ◌∷◌, length, refl, sym, ap, ◌∙◌, arith}
 use Rattle.cs_schema.specs.declared.cells.Value.{Value}
 use Rattle.cs_schema.specs.CatalogData.{CatalogData, projection}
-use Rattle.cs_segment.specs.SegmentFile.{Base, IsSegmentFile, segment_body}
+use Rattle.cs_segment.specs.SegmentFile.{Base, segment_body}
 use Rattle.cs_schema.specs.CatalogData.{code_at, kind_at}
 use Rattle.cs_schema.proofs.Widths.{at_most_32}
 use Rattle.cs_piece.proofs.Variants.{have_one_column}

@@ -1,7 +1,7 @@
 -- The parts of a segment's columns.
-use Rattle.std.proofs.Common.{◌≡◌, ℕ, zero, suc, ◌+◌, ◌-◌, ◌^◌, ◌<◌, ◌≤◌, List, [], ◌∷◌, ◌++◌, map, length, get_or, refl, sym, ap, subst, ◌∙◌, arith, append_assoc, add-zero, add-one}
+use Rattle.std.proofs.Common.{◌≡◌, ℕ, zero, suc, ◌+◌, ◌-◌, ◌<◌, ◌≤◌, List, [], ◌∷◌, ◌++◌, map, length, get_or, refl, sym, ap, subst, ◌∙◌, arith, append_assoc, add-zero}
 use Rattle.std.specs.List.{concat, range_with_len}
-use Rattle.std.proofs.lemmas.List.{length-append, length_push, append_cancel_left, append-nil, get_or_at}
+use Rattle.std.proofs.lemmas.List.{length_push, append_cancel_left, append-nil, get_or_at}
 use Rattle.cs_schema.specs.declared.kinds.Kind.{Kind}
 use Rattle.cs_schema.specs.declared.kinds.Code.{Code}
 use Rattle.cs_schema.specs.declared.cells.Value.{Value}
@@ -9,7 +9,7 @@ use Rattle.cs_schema.specs.CatalogData.{CatalogData, projection}
 use Rattle.cs_segment.specs.Bytes.{be32}
 use Rattle.cs_codec.specs.ColumnText.{column_text, FitsColumn}
 use Rattle.cs_schema.specs.Lists.{numbers_below}
-use Rattle.cs_segment.specs.SegmentFile.{Base, IsBase, base_column, column_part}
+use Rattle.cs_segment.specs.SegmentFile.{Base, base_column, column_part}
 use Rattle.cs_schema.specs.CatalogData.{code_at, kind_at}
 use Rattle.cs_piece.proofs.ShortTexts.{column_texts_are_short}
 use Rattle.cs_segment.specs.Parts.{part_text, parts_text, AllFrom, IsColumnAt, AreParts, BeginsWithPart}

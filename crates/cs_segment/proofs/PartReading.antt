@@ -1,15 +1,15 @@
 -- Reading the part of a column.
-use Rattle.std.proofs.Common.{◌≡◌, ℕ, zero, suc, ◌+◌, ◌^◌, ◌<◌, ◌≤◌, List, [], ◌∷◌, ◌++◌, length, refl, sym, ap, ◌∙◌, arith, append_assoc}
+use Rattle.std.proofs.Common.{◌≡◌, ℕ, ◌^◌, ◌<◌, List, [], ◌∷◌, ◌++◌, length, sym, ap, ◌∙◌, arith}
 use Rattle.std.proofs.lemmas.List.{length-append, append_cancel_left}
 use Rattle.cs_schema.specs.declared.kinds.Kind.{Kind}
 use Rattle.cs_schema.specs.declared.kinds.Code.{Code}
 use Rattle.cs_schema.specs.declared.cells.Value.{Value}
 use Rattle.cs_segment.specs.Bytes.{be32}
-use Rattle.cs_codec.specs.ColumnText.{column_text, FitsColumn}
+use Rattle.cs_codec.specs.ColumnText.{column_text}
 use Rattle.cs_segment.specs.SegmentFile.{code_number, kind_number}
 use Rattle.cs_piece.specs.Columns.{IsColumnOf}
 use Rattle.cs_piece.proofs.ShortTexts.{column_texts_are_short}
-use Rattle.cs_segment.specs.Parts.{part_text, BeginsWithPart}
+use Rattle.cs_segment.specs.Parts.{BeginsWithPart}
 use Rattle.cs_segment.proofs.Numbers.{same_fronts, be32_begins}
 
 abbrev pub head : Code → Kind → List ℕ

@@ -1,15 +1,13 @@
 -- Pieces and the columns of a base.
-use Rattle.std.proofs.Common.{◌≡◌, ℕ, ◌+◌, ◌<◌, ◌≤◌, List, [], ◌∷◌, ◌++◌, length, get_or, take, refl, sym, ap, subst, ◌∙◌, arith, append_assoc}
+use Rattle.std.proofs.Common.{◌≡◌, ℕ, ◌+◌, ◌<◌, ◌≤◌, List, [], ◌++◌, length, get_or, take, sym, ap, subst, ◌∙◌, arith, append_assoc}
 use Rattle.std.proofs.lemmas.List.{take_more, take_all, length-take}
-use Rattle.cs_schema.specs.declared.kinds.Kind.{Kind}
-use Rattle.cs_schema.specs.declared.kinds.Code.{Code}
 use Rattle.cs_schema.specs.declared.cells.Value.{Value}
 use Rattle.cs_schema.specs.CatalogData.{CatalogData, projection, code_at, kind_at}
 use Rattle.cs_codec.specs.ColumnText.{FitsColumn}
 use Rattle.cs_piece.specs.declared.pieces.Piece.{Piece}
 use Rattle.cs_piece.specs.Pieces.{IsPieceOf}
 use Rattle.cs_segment.specs.SegmentFile.{Base, base_column, segment_body}
-use Rattle.cs_segment.specs.Parts.{AllFrom, head_text, part_text, parts_text}
+use Rattle.cs_segment.specs.Parts.{head_text, part_text, parts_text}
 use Rattle.cs_segment.specs.SegmentPieces.{ArePiecesOf}
 use Rattle.cs_segment.proofs.PartLists.{all-at, parts_text-push}
 use Rattle.cs_segment.proofs.Heads.{head_of}

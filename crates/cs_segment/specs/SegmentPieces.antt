@@ -1,6 +1,6 @@
 -- Pieces that are the columns of a segment.
 use Rattle.std.specs.Prelude.{◌≡◌, ℕ, List, length}
-use Rattle.cs_schema.specs.CatalogData.{CatalogData, projection, code_at, kind_at}
+use Rattle.cs_schema.specs.CatalogData.{CatalogData, code_at, kind_at}
 use Rattle.cs_piece.specs.declared.pieces.Piece.{Piece}
 use Rattle.cs_piece.specs.Pieces.{IsPieceOf}
 use Rattle.cs_segment.specs.SegmentFile.{Base, IsBase, base_column}

@@ -1,4 +1,7 @@
 //! Files of segments, and the digest that ends each file of a store.
+//!
+//! Bytes are the sealed text of one body, or of none. A segment's file is read exactly: bytes are the file of one base or
+//! `Damaged`, and what is written of the pieces of a base's columns is its file.
 #![tactic(auto)]
 
 pub mod bytes;
@@ -6,4 +9,10 @@ pub mod fault;
 pub mod laws;
 pub mod seal;
 pub mod segment;
+#[cfg(test)]
+mod tests;
 pub mod writing;
+
+pub use fault::FileFault;
+pub use segment::{Segment, read_segment};
+pub use writing::write_segment;

@@ -1,15 +1,14 @@
-use Rattle.std.proofs.Common.{◌≡◌, ◌≤◌, ℕ, List, map, length, ap, sym, subst, ◌∙◌, arith, refl}
+use Rattle.std.proofs.Common.{◌≡◌, ◌≤◌, ℕ, List, map, length, ap, sym, subst, ◌∙◌, arith, refl, inl, inr}
+use Rattle.std.proofs.lemmas.List.{length-map}
 use Rattle.std.proofs.lemmas.Result.{err_from_is_err_and}
-use Rattle.cs_schema.specs.declared.cells.Value.{Value}
-use Rattle.cs_schema.specs.declared.kinds.Kind.{Kind}
 use Rattle.cs_schema.specs.Values.{values, kind_of}
 use Rattle.cs_delta.specs.Image.{base_pairs}
 use Rattle.cs_segment.specs.SegmentData.{SegmentData}
 use Rattle.cs_segment.specs.SegmentView.{segment_data}
 use Rattle.cs_delta.specs.ItemView.{changes_of}
 use Rattle.cs_delta.specs.DeltaView.{delta_data}
-use Rattle.cs_delta.specs.Layers.{AreLayers, HaveLength, IsMadeBy, key_of}
-use Rattle.cs_delta.specs.DeltaFile.{DeltaData, CanMerge}
+use Rattle.cs_delta.specs.Layers.{AreLayers, HaveLength}
+use Rattle.cs_delta.specs.DeltaFile.{DeltaData, CanMerge, HasVersion}
 use Rattle.cs_delta.specs.KindedImage.{MayMerge, merged_image, base_keys}
 use Rattle.cs_delta.proofs.LayerCounts.{may_merge}
 use Rattle.cs_delta.proofs.Merged.{length-base_keys, base_are, merged_is, can_merge}
@@ -27,19 +26,30 @@ can x s y d e f h =
     let D : DeltaData → Type 0 = λ a. CanMerge x.base a in
     subst D (sym f) (subst S (sym e) h)
 
+-- a delta has a layer
+some_layers : (version layers : ℕ) → HasVersion version layers → 1 ≤ layers
+some_layers version layers (inl h) = let one = h.1 in omega arith
+some_layers version layers (inr h) = h.1
+
+pub apply_layers-requires-clause-some : goal.apply_layers-requires-clause-some
+apply_layers-requires-clause-some c =
+    let d = c.args.delta.now in
+    let some = some_layers d.version (length d.layers) c.requires.delta.version in
+    let layers = ap (λ (x : DeltaData). length x.layers) c.delta.view_is in
+    omega (arith, some, layers, length-map c.delta.inside.layers.items changes_of, ap length c.deref-3.ensures.value)
+
+pub apply_layers-requires-clause-layers : goal.apply_layers-requires-clause-layers
+apply_layers-requires-clause-layers c =
+    let req = may (segment_data c.segment.inside) c.args.segment.now (delta_data c.delta.inside) c.args.delta.now c.segment.view_is c.delta.view_is (may_merge c.args.segment.now c.args.delta.now c.requires) in
+    let same : c.segment.inside.rows ≡ c.delta.inside.rows = omega arith in
+    let N : List ℕ → Type 0 = λ n. AreLayers (map kind_of c.segment.inside.columns.items) n (map changes_of c.delta.inside.layers.items) in
+    rw (c.deref.ensures.value, c.deref-2.ensures.value, c.deref-3.ensures.value) (subst N (sym (c.in_ok-keys.ensures ∙ ap base_keys same)) req.layers)
+
 pub apply_layers-requires-clause-lengths : goal.apply_layers-requires-clause-lengths
 apply_layers-requires-clause-lengths c =
     let req = may (segment_data c.segment.inside) c.args.segment.now (delta_data c.delta.inside) c.args.delta.now c.segment.view_is c.delta.view_is (may_merge c.args.segment.now c.args.delta.now c.requires) in
-    let H : List (List Value) → Type 0 = λ x. HaveLength c.segment.inside.rows x in
-    let N : ℕ → Type 0 = λ n. HaveLength n (map values c.in_ok-columns.columns.items) in
-    let copy = rw c.deref.ensures.value at c.in_ok-columns.ensures.values in
-    subst N (sym (ap length c.in_ok-keys.ensures ∙ length-base_keys c.segment.inside.rows)) (subst H (sym copy) req.lengths)
-
-pub apply_layers-requires-clause-few : goal.apply_layers-requires-clause-few
-apply_layers-requires-clause-few c =
-    let req = may (segment_data c.segment.inside) c.args.segment.now (delta_data c.delta.inside) c.args.delta.now c.segment.view_is c.delta.view_is (may_merge c.args.segment.now c.args.delta.now c.requires) in
-    let count : c.segment.inside.rows ≤ 1048576 = req.count in
-    omega (arith, ap length c.in_ok-keys.ensures, length-base_keys c.segment.inside.rows)
+    let N : ℕ → Type 0 = λ n. HaveLength n (map values c.segment.inside.columns.items) in
+    rw (c.deref.ensures.value, c.deref-2.ensures.value) (subst N (sym (ap length c.in_ok-keys.ensures ∙ length-base_keys c.segment.inside.rows)) req.lengths)
 
 pub returns-in_err-rows-clause-refused : goal.returns-in_err-rows-clause-refused
 returns-in_err-rows-clause-refused c = λ damaged h.
@@ -47,7 +57,7 @@ returns-in_err-rows-clause-refused c = λ damaged h.
     let req = may (segment_data c.segment.inside) c.args.segment.now (delta_data c.delta.inside) c.args.delta.now c.segment.view_is c.delta.view_is (may_merge c.args.segment.now c.args.delta.now c.requires) in
     let fit = can (segment_data c.segment.inside) c.args.segment.now (delta_data c.delta.inside) c.args.delta.now c.segment.view_is c.delta.view_is h in
     let base = (segment_data c.segment.inside).base in
-    let many = rw c.deref-2.ensures.value at c.in_err-rows.ensures.many in
+    let many = rw (c.deref.ensures.value, c.deref-3.ensures.value) at c.in_err-rows.ensures.many in
     many (let r1 = q.1 in let r2 = q.2 in cc) (base_pairs base) ((base_are base req.lengths).keys_are ∙ sym c.in_ok-keys.ensures) fit.few
 
 pub returns-clause-merged : goal.returns-clause-merged
@@ -55,10 +65,9 @@ returns-clause-merged c =
     let req = may (segment_data c.segment.inside) c.args.segment.now (delta_data c.delta.inside) c.args.delta.now c.segment.view_is c.delta.view_is (may_merge c.args.segment.now c.args.delta.now c.requires) in
     let x = segment_data c.segment.inside in
     let y = delta_data c.delta.inside in
-    let copy = rw c.deref.ensures.value at c.in_ok-columns.ensures.values in
-    let copied = rw c.deref.ensures.value at c.in_ok-columns.ensures.kinds in
-    let made = rw (c.in_ok-keys.ensures, copy, c.deref-2.ensures.value) at c.in_ok-rows.ensures.made in
-    merged_is x.base y x.kinds (map kind_of c.in_ok-rows.rows.columns.items) c.in_ok-rows.rows.keys.items (map values c.in_ok-rows.rows.columns.items) c.delta.inside.top req.lengths made refl (c.in_ok-rows.ensures.kinds ∙ copied)
+    let kinds = rw c.deref-2.ensures.value at c.in_ok-rows.ensures.kinds in
+    let made = rw (c.deref.ensures.value, c.in_ok-keys.ensures, c.deref-2.ensures.value, c.deref-3.ensures.value) at c.in_ok-rows.ensures.made in
+    merged_is x.base y x.kinds (map kind_of c.in_ok-rows.rows.columns.items) c.in_ok-rows.rows.keys.items (map values c.in_ok-rows.rows.columns.items) c.delta.inside.top req.lengths made refl kinds
     ∙ ap (λ (s : SegmentData). merged_image s y) c.segment.view_is ∙ ap (λ (d : DeltaData). merged_image c.args.segment.now d) c.delta.view_is
 
 pub returns-clause-can : goal.returns-clause-can
@@ -66,16 +75,5 @@ returns-clause-can c =
     let req = may (segment_data c.segment.inside) c.args.segment.now (delta_data c.delta.inside) c.args.delta.now c.segment.view_is c.delta.view_is (may_merge c.args.segment.now c.args.delta.now c.requires) in
     let x = segment_data c.segment.inside in
     let y = delta_data c.delta.inside in
-    let copy = rw c.deref.ensures.value at c.in_ok-columns.ensures.values in
-    let made = rw (c.in_ok-keys.ensures, copy, c.deref-2.ensures.value) at c.in_ok-rows.ensures.made in
+    let made = rw (c.deref.ensures.value, c.in_ok-keys.ensures, c.deref-2.ensures.value, c.deref-3.ensures.value) at c.in_ok-rows.ensures.made in
     can c.args.segment.now x c.args.delta.now y (sym c.segment.view_is) (sym c.delta.view_is) (can_merge x.base y c.in_ok-rows.rows.keys.items (map values c.in_ok-rows.rows.columns.items) req.lengths (omega arith) made)
-
-pub apply_layers-requires-clause-layers : goal.apply_layers-requires-clause-layers
-apply_layers-requires-clause-layers c =
-    let req = may (segment_data c.segment.inside) c.args.segment.now (delta_data c.delta.inside) c.args.delta.now c.segment.view_is c.delta.view_is (may_merge c.args.segment.now c.args.delta.now c.requires) in
-    let copy = rw c.deref.ensures.value at c.in_ok-columns.ensures.kinds in
-    let same : c.segment.inside.rows ≡ c.delta.inside.rows = omega arith in
-    let layers = map changes_of c.delta.inside.layers.items in
-    let K : List Kind → Type 0 = λ k. AreLayers k (base_keys c.delta.inside.rows) layers in
-    let N : List ℕ → Type 0 = λ n. AreLayers (map kind_of c.in_ok-columns.columns.items) n layers in
-    rw c.deref-2.ensures.value (subst N (sym (c.in_ok-keys.ensures ∙ ap base_keys same)) (subst K (sym copy) req.layers))

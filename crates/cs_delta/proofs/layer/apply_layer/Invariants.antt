@@ -1,4 +1,4 @@
-use Rattle.std.proofs.Common.{◌≡◌, map, length, take}
+use Rattle.std.proofs.Common.{◌≡◌, map, take}
 use Rattle.cs_schema.specs.Values.{values, kind_of}
 use Rattle.cs_delta.specs.ItemView.{change_of}
 use Rattle.cs_delta.specs.Layers.{edited_columns}

@@ -1,13 +1,12 @@
-use Rattle.std.proofs.Common.{◌≡◌, ◌-◌, take, drop, ℕ, pos, List, [], ◌∷◌, ◌++◌, ◌<◌, true, ap, sym, subst, ◌∙◌, cond, Some, None, Bool, eq-eqb, length}
-use Rattle.std.specs.List.{cons_option, filter_map}
+use Rattle.std.proofs.Common.{◌≡◌, ◌-◌, take, drop, pos, List, [], ◌∷◌, ◌++◌, ap, subst, ◌∙◌, cond, Some, None, Bool, eq-eqb}
+use Rattle.std.specs.List.{cons_option}
 use Rattle.std.proofs.lemmas.List.{get_or_read}
 use Rattle.cs_schema.specs.declared.cells.Value.{Value}
 use Rattle.cs_schema.specs.Values.{values, kind_of}
 use Rattle.cs_schema.specs.Rows.{cell}
-use Rattle.cs_delta.specs.Image.{Change}
 use Rattle.cs_delta.specs.declared.item.Item.{Item}
 use Rattle.cs_delta.specs.Edits.{Edit}
-use Rattle.cs_delta.specs.ItemView.{change_of, cell_edit, cell_edits, HasKind}
+use Rattle.cs_delta.specs.ItemView.{change_of, cell_edits, HasKind}
 use Rattle.cs_delta.specs.MergeSteps.{Makes}
 use Rattle.cs_delta.proofs.MakeSteps.{put_makes, cut_makes, change_makes}
 use Rattle.cs_delta.proofs.merging.apply_to_column.Goals as goal

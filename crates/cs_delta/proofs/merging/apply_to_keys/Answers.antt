@@ -1,4 +1,4 @@
-use Rattle.std.proofs.Common.{◌≡◌, ◌-◌, take, drop, ℕ, List, [], ◌∷◌, ◌++◌, ap, sym, subst, ◌∙◌}
+use Rattle.std.proofs.Common.{ℕ, List, [], ◌∷◌, ◌++◌, ap, subst, ◌∙◌}
 use Rattle.cs_delta.specs.declared.item.Item.{Item}
 use Rattle.cs_delta.specs.ItemView.{change_of, key_edits}
 use Rattle.cs_delta.specs.MergeSteps.{Makes}

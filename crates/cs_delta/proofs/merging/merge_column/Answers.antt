@@ -1,8 +1,6 @@
-use Rattle.std.proofs.Common.{◌≡◌, ◌-◌, ◌+◌, ℕ, List, [], ◌∷◌, ◌++◌, map, length, take, drop, ap, sym, subst, ◌∙◌, arith}
+use Rattle.std.proofs.Common.{◌≡◌, ◌-◌, ◌+◌, List, [], ◌++◌, map, take, drop, ap, subst, ◌∙◌, arith}
 use Rattle.std.proofs.lemmas.List.{drop_all}
-use Rattle.cs_schema.specs.declared.cells.Value.{Value}
-use Rattle.cs_schema.specs.Values.{values, kind_of}
-use Rattle.cs_delta.specs.Image.{Change}
+use Rattle.cs_schema.specs.Values.{values}
 use Rattle.cs_delta.specs.declared.item.Item.{Item}
 use Rattle.cs_delta.specs.Edits.{edited_from}
 use Rattle.cs_delta.specs.ItemView.{change_of, cell_edits}

@@ -1,4 +1,4 @@
-use Rattle.std.proofs.Common.{◌≡◌, ◌-◌, refl, get_or, arith}
+use Rattle.std.proofs.Common.{refl, arith}
 use Rattle.std.proofs.lemmas.Bool.{false≢true}
 use Rattle.cs_delta.proofs.KeyLists.{distinct_sorted, not_distinct}
 use Rattle.cs_delta.proofs.reading.are_distinct.Goals as goal

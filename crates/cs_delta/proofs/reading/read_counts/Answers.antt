@@ -1,5 +1,5 @@
 use Rattle.std.proofs.Common.{List, ℕ, ◌++◌, ap, sym, ◌∙◌, arith}
-use Rattle.cs_segment.specs.Bytes.{be16, be32}
+use Rattle.cs_segment.specs.Bytes.{be16}
 use Rattle.cs_delta.proofs.HeadTexts.{counts_text, placed_is, counts_are}
 use Rattle.cs_delta.proofs.reading.read_counts.Goals as goal
 

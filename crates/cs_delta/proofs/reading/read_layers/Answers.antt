@@ -1,12 +1,12 @@
-use Rattle.std.proofs.Common.{◌≡◌, ◌+◌, ℕ, List, [], ◌++◌, map, length, ap, sym, subst, ◌∙◌, arith}
+use Rattle.std.proofs.Common.{◌≡◌, ◌+◌, ℕ, List, [], map, length, ap, sym, subst, ◌∙◌, arith}
 use Rattle.std.specs.List.{concat}
 use Rattle.std.proofs.lemmas.List.{length-map, length_push, map_push, append-nil}
 use Rattle.std.proofs.lemmas.Result.{err_from_is_err_and}
 use Rattle.cs_delta.specs.Image.{Change}
-use Rattle.cs_delta.specs.ItemView.{change_of, changes_of}
+use Rattle.cs_delta.specs.ItemView.{changes_of}
 use Rattle.cs_delta.specs.DeltaFile.{IsLayer, layer_text, rows_after}
 use Rattle.cs_delta.specs.Reading.{counted}
-use Rattle.cs_delta.proofs.Sequences.{along, along-push, read_more, stands_next, same_sequence}
+use Rattle.cs_delta.proofs.Sequences.{along-push, read_more, stands_next, same_sequence}
 use Rattle.cs_delta.proofs.ItemTexts.{one_layer, layers_along}
 use Rattle.cs_delta.proofs.reading.read_layers.Goals as goal
 

@@ -3,4 +3,4 @@ use Rattle.cs_recovery.proofs.Read.{layers}
 use Rattle.cs_recovery.proofs.laws.check_answers_suffice.Goals as goal
 
 pub returns : goal.returns
-returns c = λ C cat one F k r a. check_clauses C cat (layers C one) F k r a
+returns c = λ C cat F k r a. check_clauses C cat (layers C cat) F k r a

@@ -3,4 +3,4 @@ use Rattle.cs_recovery.proofs.Read.{layers}
 use Rattle.cs_recovery.proofs.laws.check_has_one_verdict.Goals as goal
 
 pub returns : goal.returns
-returns c = λ C cat one F k. one_check_verdict C cat (layers C one) F k
+returns c = λ C cat F k. one_check_verdict C cat (layers C cat) F k

@@ -3,4 +3,4 @@ use Rattle.cs_recovery.proofs.Read.{layers}
 use Rattle.cs_recovery.proofs.laws.expected_files_make_whole.Goals as goal
 
 pub returns : goal.returns
-returns c = λ C cat one F L T h out x. whole_again C cat (layers C one) F L T h out x
+returns c = λ C cat F L T h out x. whole_again C cat (layers C cat) F L T h out x

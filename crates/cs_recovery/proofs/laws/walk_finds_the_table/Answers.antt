@@ -3,4 +3,4 @@ use Rattle.cs_recovery.proofs.Read.{layers}
 use Rattle.cs_recovery.proofs.laws.walk_finds_the_table.Goals as goal
 
 pub returns : goal.returns
-returns c = λ C cat one F L T safe h S w r k. walk_finds C cat (layers C one) F L T safe h S w r k
+returns c = λ C cat F L T safe h S w r k. walk_finds C cat (layers C cat) F L T safe h S w r k

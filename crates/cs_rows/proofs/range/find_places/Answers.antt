@@ -1,18 +1,36 @@
-use Rattle.std.proofs.Common.{◌≡◌, ◌&&◌, arith, sym, ap, ◌∙◌, ℕ, length}
-use Rattle.std.specs.Option.{is_none}
-use Rattle.cs_rows.specs.Walk.{stand, stands}
-use Rattle.cs_safety.specs.PlanData.{is_planned}
+use Rattle.std.proofs.Common.{◌≡◌, ℕ, List, set, ap, sym, subst, ◌∙◌}
+use Rattle.std.proofs.lemmas.List.{length-set}
+use Rattle.cs_rows.specs.Walk.{At}
 use Rattle.cs_rows.specs.Survivors.{contents_of}
-use Rattle.cs_rows.proofs.RowLemmas.{none_below, some_below}
+use Rattle.cs_rows.proofs.RouteLemmas.{ArePlaced, placed_first, step_there, placed_more, astray_here, all_placed, not_astray}
 use Rattle.cs_rows.proofs.range.find_places.Goals as goal
+
+pub loop-q-init : goal.loop-q-init
+loop-q-init c =
+    let e : set c.args.places.now c.anchor.result c.args.row ≡ set c.args.places.now c.args.plan.now.anchor c.args.row = ap (λ (n : ℕ). set c.args.places.now n c.args.row) c.anchor.ensures in (
+      length-set c.args.places.now c.anchor.result c.args.row ∙ c.requires.places,
+      subst (λ (l : List At). ArePlaced c.args.catalog.now (contents_of c.args.survivors.now) c.args.plan.now c.args.row c.args.route.now l 0) (sym e)
+          (placed_first c.args.catalog.now (contents_of c.args.survivors.now) c.args.plan.now c.args.row c.requires.fits c.requires.row c.args.route.now c.args.places.now c.requires.places),
+    )
+
+pub follow-requires-clause-row : goal.follow-requires-clause-row
+follow-requires-clause-row c =
+    step_there c.args.catalog.now (contents_of c.args.survivors.now) c.args.plan.now c.args.row c.requires.fits c.requires.row c.args.route.now c.requires.route c.loop-q.places c.loop-q.invariant.0 c.loop-q.q-index (0, 0) c.loop-q-test.true c.loop-q.invariant.1
 
 pub returns-in-None-clause-astray : goal.returns-in-None-clause-astray
 returns-in-None-clause-astray c =
-    let n : c.projection_count-count.result ≡ length c.args.catalog.now.projections = c.projection_count-count.ensures.count in
-    sym (some_below (λ q. is_planned c.args.plan.now q && is_none (stand c.args.catalog.now (contents_of c.args.survivors.now) c.args.plan.now c.args.row q)) (length c.args.catalog.now.projections) c.loop-q.q (omega arith)
-    (λ i. (sym c.is_planned.ensures ∙ c.if-is_planned.true) i && is_none (sym (c.in-None.ensures.leads ∙ ap (λ (m : ℕ). stands c.args.catalog.now (contents_of c.args.survivors.now) c.args.plan.now c.args.row m c.loop-q.q) n) i)))
+    sym (astray_here c.args.catalog.now (contents_of c.args.survivors.now) c.args.plan.now c.args.row c.requires.fits c.requires.row c.args.route.now c.requires.route c.loop-q.places c.loop-q.invariant.0 c.loop-q.q-index (0, 0) c.loop-q-test.true c.loop-q.invariant.1 c.in-None.ensures.leads)
+
+pub loop-q-preserved : goal.loop-q-preserved
+loop-q-preserved c = (
+  length-set c.loop-q.places _ c.in-Some.at ∙ c.loop-q.invariant.0,
+  placed_more c.args.catalog.now (contents_of c.args.survivors.now) c.args.plan.now c.args.row c.requires.fits c.requires.row c.args.route.now c.requires.route c.loop-q.places c.loop-q.invariant.0 c.loop-q.q-index (0, 0) c.loop-q-test.true c.loop-q.invariant.1 c.in-Some.at c.in-Some.ensures.leads c.in-Some.ensures.there,
+)
 
 pub returns-clause-astray : goal.returns-clause-astray
 returns-clause-astray c =
-    let n : c.projection_count-count.result ≡ length c.args.catalog.now.projections = c.projection_count-count.ensures.count in
-    sym (none_below (λ q. is_planned c.args.plan.now q && is_none (stand c.args.catalog.now (contents_of c.args.survivors.now) c.args.plan.now c.args.row q)) (length c.args.catalog.now.projections) (λ k h. c.loop-q.invariant.2 k (omega arith)))
+    sym (not_astray c.args.catalog.now (contents_of c.args.survivors.now) c.args.plan.now c.args.row c.requires.fits c.requires.row c.args.route.now c.requires.route c.loop-q.places c.loop-q.q-index c.loop-q-test.false c.loop-q.invariant.1)
+
+pub returns-clause-places : goal.returns-clause-places
+returns-clause-places c = λ _.
+    all_placed c.args.catalog.now (contents_of c.args.survivors.now) c.args.plan.now c.args.row c.requires.fits c.requires.row c.args.route.now c.requires.route c.loop-q.places c.loop-q.q-index c.loop-q-test.false c.loop-q.invariant.1

@@ -16,7 +16,7 @@ loop-s-preserved c =
     let rows : rows_from c.loop-s.s c.min-start.result (c.min-end.result - c.min-start.result) ≡ here (contents_of c.args.survivors.now) c.args.plan.now.anchor c.args.from c.args.to c.loop-s.first c.loop-s.s = λ i. rows_from c.loop-s.s (starts i) (ends i - starts i) in
     let more = part_more (contents_of c.args.survivors.now) c.args.plan.now.anchor c.args.from c.args.to c.loop-s.first c.loop-s.s c.loop-s.invariant.3 ∙ ap (λ (l : List At). part (contents_of c.args.survivors.now) c.args.plan.now.anchor c.args.from c.args.to c.loop-s.s ++ l) (sym rows) in (
       omega arith,
-      c.walk_segment.auto.places ∙ c.loop-s.invariant.1,
+      c.walk_segment.ensures.desk,
       c.in-Ok.ensures.fit,
       ap (λ (k : ℕ). c.loop-s.first + k) n ∙ first_more (contents_of c.args.survivors.now) c.args.plan.now.anchor c.loop-s.first c.loop-s.s c.loop-s.invariant.3,
       ap (find (is_astray c.args.catalog.now (contents_of c.args.survivors.now) c.args.plan.now)) more ∙ found_none c.args.catalog.now (contents_of c.args.survivors.now) c.args.plan.now (part (contents_of c.args.survivors.now) c.args.plan.now.anchor c.args.from c.args.to c.loop-s.s) (rows_from c.loop-s.s c.min-start.result (c.min-end.result - c.min-start.result)) c.loop-s.invariant.4 c.in-Ok.ensures.sound,

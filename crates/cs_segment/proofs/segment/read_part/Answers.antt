@@ -1,5 +1,5 @@
-use Rattle.std.proofs.Common.{◌≡◌, ℕ, List, [], ◌∷◌, ap, ◌∙◌}
-use Rattle.cs_segment.specs.SegmentFile.{code_number, kind_number}
+use Rattle.std.proofs.Common.{ℕ, List, [], ◌∷◌, ap, ◌∙◌}
+use Rattle.cs_segment.specs.SegmentFile.{code_number}
 use Rattle.cs_segment.proofs.PartReading.{no_column}
 use Rattle.cs_segment.proofs.segment.read_part.Goals as goal
 

@@ -1,4 +1,4 @@
-use Rattle.std.proofs.Common.{◌≡◌, ◌++◌, ◌≤◌, map, length, ℕ}
+use Rattle.std.proofs.Common.{◌≡◌, ◌++◌, map, length}
 use Rattle.std.specs.List.{range_with_len}
 use Rattle.cs_schema.specs.Values.{values, kind_of}
 use Rattle.cs_schema.specs.CatalogData.{kind_at}

@@ -1,7 +1,6 @@
-use Rattle.std.proofs.Common.{◌≤◌, ℕ, map, length, subst, sym, refl}
+use Rattle.std.proofs.Common.{map, refl}
 use Rattle.std.proofs.lemmas.Result.{err_from_is_err_and}
 use Rattle.cs_schema.specs.Values.{values}
-use Rattle.cs_schema.specs.CatalogData.{projection}
 use Rattle.cs_segment.specs.Parts.{parts_text}
 use Rattle.cs_segment.proofs.Heads.{file_head, file_parts, file_found}
 use Rattle.cs_segment.proofs.OneText.{one_segment}

@@ -1,4 +1,4 @@
-use Rattle.std.proofs.Common.{◌≡◌, ℕ, ap, ◌∙◌, arith}
+use Rattle.std.proofs.Common.{ap, ◌∙◌, arith}
 use Rattle.cs_segment.specs.SegmentFile.{sealed, base_column}
 use Rattle.cs_segment.proofs.PieceColumns.{column_at, text_more, body_made}
 use Rattle.cs_segment.proofs.writing.write_segment.Goals as goal

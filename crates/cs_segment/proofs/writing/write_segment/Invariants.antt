@@ -1,4 +1,4 @@
-use Rattle.std.proofs.Common.{◌≡◌, ◌++◌, take, length, List, ℕ}
+use Rattle.std.proofs.Common.{◌≡◌, ◌++◌, take, length}
 use Rattle.cs_schema.specs.CatalogData.{projection}
 use Rattle.cs_segment.specs.SegmentFile.{Base}
 use Rattle.cs_segment.specs.Parts.{head_text, parts_text}

@@ -1,46 +1,21 @@
 use Rattle.std.proofs.Common.{arith}
 use Rattle.std.proofs.lemmas.List.{length-append}
-use Rattle.cs_codec.proofs.BitmapSteps.{at_cut, joins_more, each_joined, no_entries}
 use Rattle.cs_codec.proofs.bitmaps.BitmapsEncoding.join.Goals as goal
 
-pub add_bitmap-requires-clause-below : goal.add_bitmap-requires-clause-below
-add_bitmap-requires-clause-below g c =
-    let cut = at_cut g.C.PartialEq.eq g.C.Ord.cmp c.args.left.count c.args.left.bitmaps c.args.right.bitmaps c.loop-value.bitmaps c.loop-value.others c.requires.front c.requires.back c.in-Some.value c.in-Some.bitmap c.loop-value.invariant.joins c.in-Some.ensures.value c.requires.left_part.each c.requires.right_part.each c.requires.left_part.count_is in
-    cut.below
-
-pub add_bitmap-requires-clause-some : goal.add_bitmap-requires-clause-some
-add_bitmap-requires-clause-some g c =
-    let cut = at_cut g.C.PartialEq.eq g.C.Ord.cmp c.args.left.count c.args.left.bitmaps c.args.right.bitmaps c.loop-value.bitmaps c.loop-value.others c.requires.front c.requires.back c.in-Some.value c.in-Some.bitmap c.loop-value.invariant.joins c.in-Some.ensures.value c.requires.left_part.each c.requires.right_part.each c.requires.left_part.count_is in
-    cut.some
-
-pub add_bitmap-requires-clause-short : goal.add_bitmap-requires-clause-short
-add_bitmap-requires-clause-short g c =
-    let cut = at_cut g.C.PartialEq.eq g.C.Ord.cmp c.args.left.count c.args.left.bitmaps c.args.right.bitmaps c.loop-value.bitmaps c.loop-value.others c.requires.front c.requires.back c.in-Some.value c.in-Some.bitmap c.loop-value.invariant.joins c.in-Some.ensures.value c.requires.left_part.each c.requires.right_part.each c.requires.left_part.count_is in
-    let size = length-append c.requires.front c.requires.back in
-    let short = c.requires.joined in
-    let front = c.requires.left_part.count_is in
-    let within = cut.within in
-    omega (arith, size, short, front, within)
-
-pub add_bitmap-requires-clause-few : goal.add_bitmap-requires-clause-few
-add_bitmap-requires-clause-few g c =
-    let cut = at_cut g.C.PartialEq.eq g.C.Ord.cmp c.args.left.count c.args.left.bitmaps c.args.right.bitmaps c.loop-value.bitmaps c.loop-value.others c.requires.front c.requires.back c.in-Some.value c.in-Some.bitmap c.loop-value.invariant.joins c.in-Some.ensures.value c.requires.left_part.each c.requires.right_part.each c.requires.left_part.count_is in
-    let size = length-append c.requires.front c.requires.back in
-    let short = c.requires.joined in
-    let front = c.requires.left_part.count_is in
-    let few = cut.few in
-    let few_before = cut.few_before in
-    omega (arith, size, short, front, few, few_before)
-
-pub loop-value-preserved : goal.loop-value-preserved
-loop-value-preserved g c = record {
-  joins = joins_more g.C.PartialEq.eq (record { itself = g.met.C.Eq.laws.refl; exact = g.met.C.Cell.exact }) g.C.Ord.cmp g.met.C.Ord.matches_eq c.args.left.count c.args.left.bitmaps c.args.right.bitmaps c.loop-value.bitmaps c.add_bitmap.new.bitmaps c.loop-value.others c.pop_first.new.self c.in-Some.value c.in-Some.bitmap c.loop-value.invariant.joins c.in-Some.ensures.value c.in-Some.ensures.updates.0 c.in_ok-add_bitmap.ensures.added;
-  ordered = c.in_ok-add_bitmap.ensures.ordered;
+pub add_kept-requires : goal.add_kept-requires
+add_kept-requires g c = record {
+  back = c.requires.back;
+  they_are = c.requires.right_part.keeps;
+  room = record {
+    front = c.requires.front;
+    are = c.in_ok-bitmaps.ensures c.requires.front c.requires.left_part.keeps;
+    before_is = c.requires.left_part.count_is;
+    short = omega (arith, length-append c.requires.front c.requires.back, c.requires.joined);
+  };
 }
 
 pub returns : goal.returns
 returns g c = λ x y hx hy. record {
-  each = each_joined g.C.PartialEq.eq g.C.Ord.cmp c.args.left.count c.args.left.bitmaps c.args.right.bitmaps c.loop-value.bitmaps c.loop-value.others x y c.loop-value.invariant.joins (no_entries c.loop-value.others.entries (λ lt. let f = c.in_default.ensures.variant.1 lt in absurd cc)) hx.each hy.each hx.count_is;
-  ordered = c.loop-value.invariant.ordered;
+  keeps = c.in_ok-add_kept.ensures y hy.keeps x hx.count_is (c.in_ok-bitmaps.ensures x hx.keeps);
   count_is = omega (arith, length-append x y, hx.count_is, hy.count_is);
 }

@@ -1,4 +1,4 @@
-use Rattle.std.proofs.Common.{◌<◌, length, List, [], ap, sym, ◌∙◌, map, arith, subst, ℕ}
+use Rattle.std.proofs.Common.{◌<◌, length, List, [], ap, sym, ◌∙◌, map, arith, subst}
 use Rattle.std.proofs.lemmas.List.{get_or-map, length-map}
 use Rattle.cs_schema.specs.declared.kinds.Kind.{Kind}
 use Rattle.cs_schema.specs.Values.{values, kind_of}

@@ -1,8 +1,7 @@
-use Rattle.std.proofs.Common.{◌≡◌, ℕ, List, get_or, ap, sym, ◌∙◌, map, arith, Some, None, Option}
+use Rattle.std.proofs.Common.{◌≡◌, get_or, ap, sym, ◌∙◌, map, arith}
 use Rattle.std.specs.List.{position}
 use Rattle.std.proofs.lemmas.List.{get_or_read, get_or_past}
 use Rattle.cs_schema.specs.Values.{values}
-use Rattle.cs_delta.specs.Image.{image_keys}
 use Rattle.cs_delta.specs.KindedImage.{KindedImage}
 use Rattle.cs_delta.proofs.Merged.{keys_are}
 use Rattle.cs_delta.proofs.KeyPlaces.{is_key, place_none, place_some}

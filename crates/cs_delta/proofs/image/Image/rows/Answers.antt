@@ -1,4 +1,4 @@
-use Rattle.std.proofs.Common.{ap, sym, ◌∙◌, map, arith}
+use Rattle.std.proofs.Common.{ap, sym, map, arith}
 use Rattle.cs_schema.specs.Values.{values}
 use Rattle.cs_delta.specs.KindedImage.{KindedImage}
 use Rattle.cs_delta.proofs.Merged.{rows_are}

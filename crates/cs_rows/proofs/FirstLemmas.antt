@@ -1,0 +1,75 @@
+-- The first element that passes a test, sought from the front.
+use Rattle.std.proofs.Common.{◌≡◌, ℕ, zero, suc, ◌+◌, ◌<◌, ◌≤◌, List, [], ◌∷◌, length, take, get_or, refl, sym, ap, ◌∙◌, subst, arith, Bool, true, false, cond, not, ◌&&◌, ◌||◌, ◌==◌, Some, None}
+use Rattle.std.specs.Prelude.{All}
+use Rattle.std.specs.List.{find, list_all, list_any, position_or_len, range_with_len}
+use Rattle.std.proofs.lemmas.Option.{none-some, same_Some}
+use Rattle.std.proofs.lemmas.List.Elements.{All-head, All-tail}
+use Rattle.std.specs.Option.{option_or}
+use Rattle.std.proofs.lemmas.List.Folds.{find-append}
+use Rattle.std.proofs.lemmas.List.{take_all, take_more}
+use Rattle.cs_schema.specs.Lists.{numbers_below}
+
+module _ {X : Type 0} (p : X → Bool) where
+  pub none_before : (xs : List X) (k : ℕ) (d : X) → k < length xs → find p (take k xs) ≡ None → p (get_or xs k d) ≡ false → find p (take (k + 1) xs) ≡ None
+  none_before xs k d h e f =
+      ap (find p) (take_more xs k d h) ∙ find-append p (take k xs) (get_or xs k d ∷ []) ∙ (λ i. option_or (e i) (cond (f i) (Some (get_or xs k d)) None))
+
+  pub first_at : (xs : List X) (k : ℕ) (d : X) → k < length xs → find p (take k xs) ≡ None → p (get_or xs k d) ≡ true → find p xs ≡ Some (get_or xs k d)
+  first_at [] k d h e f = absurd (omega arith)
+  first_at (x ∷ xs) zero d h e f = ap (λ (b : Bool). cond b (Some x) (find p xs)) f
+  first_at (x ∷ xs) (suc k) d h e f = go (p x) e (λ g. first_at xs k d (omega arith) g f)
+    where
+      go : (b : Bool) → cond b (Some x) (find p (take k xs)) ≡ None → (find p (take k xs) ≡ None → find p xs ≡ Some (get_or xs k d)) → cond b (Some x) (find p xs) ≡ Some (get_or xs k d)
+      go true g r = absurd (none-some x (sym g))
+      go false g r = r g
+
+  pub none_at_all : (xs : List X) (k : ℕ) → length xs ≤ k → find p (take k xs) ≡ None → find p xs ≡ None
+  none_at_all xs k h e = ap (find p) (sym (take_all k xs h)) ∙ e
+
+  pub first_holds : (P : X → Type 0) (xs : List X) (x : X) → All P xs → find p xs ≡ Some x → P x
+  first_holds P [] x all e = absurd (none-some x e)
+  first_holds P (y ∷ ys) x all e = go (p y) e (λ g. first_holds P ys x (All-tail P y ys all) g)
+    where
+      go : (b : Bool) → cond b (Some y) (find p ys) ≡ Some x → (find p ys ≡ Some x → P x) → P x
+      go true g r = subst P (same_Some y x g) (All-head P y ys all)
+      go false g r = r g
+
+-- the place of a number that stands in a list, and of one that doesn't
+pub found_in : (c : ℕ) (xs : List ℕ) → position_or_len (λ d. d == c) xs < length xs → list_any (λ d. d == c) xs ≡ true
+found_in c [] h = absurd (omega arith)
+found_in c (x ∷ xs) h = go (x == c) h (λ k. found_in c xs k)
+  where
+    go : (b : Bool) → cond (not b) (1 + position_or_len (λ d. d == c) xs) 0 < suc (length xs) → (position_or_len (λ d. d == c) xs < length xs → list_any (λ d. d == c) xs ≡ true) → (b || list_any (λ d. d == c) xs) ≡ true
+    go true k r = refl
+    go false k r = r (omega arith)
+
+pub missing_in : (c : ℕ) (xs : List ℕ) → length xs ≤ position_or_len (λ d. d == c) xs → list_any (λ d. d == c) xs ≡ false
+missing_in c [] h = refl
+missing_in c (x ∷ xs) h = go (x == c) h (λ k. missing_in c xs k)
+  where
+    go : (b : Bool) → suc (length xs) ≤ cond (not b) (1 + position_or_len (λ d. d == c) xs) 0 → (length xs ≤ position_or_len (λ d. d == c) xs → list_any (λ d. d == c) xs ≡ false) → (b || list_any (λ d. d == c) xs) ≡ false
+    go true k r = absurd (omega arith)
+    go false k r = r (omega arith)
+
+-- ---- all numbers below n
+
+all_from : (t : ℕ → Bool) (a n : ℕ) → ((k : ℕ) → a ≤ k → k < a + n → t k ≡ true) → list_all t (range_with_len a n) ≡ true
+all_from t a zero h = refl
+all_from t a (suc n) h = (λ i. h a (omega arith) (omega arith) i && list_all t (range_with_len (a + 1) n)) ∙ all_from t (a + 1) n (λ k l m. h k (omega arith) (omega arith))
+
+pub all_below : (t : ℕ → Bool) (n : ℕ) → ((k : ℕ) → k < n → t k ≡ true) → list_all t (numbers_below n) ≡ true
+all_below t n h = all_from t 0 n (λ k l m. h k (omega arith))
+
+fails_from : (t : ℕ → Bool) (a n i : ℕ) → i < n → t (a + i) ≡ false → list_all t (range_with_len a n) ≡ false
+fails_from t a zero i h e = absurd (omega arith)
+fails_from t a (suc n) zero h e = let z : a ≡ a + 0 = omega arith in ap (λ (b : Bool). b && list_all t (range_with_len (a + 1) n)) (ap t z ∙ e)
+fails_from t a (suc n) (suc i) h e =
+    let s : a + 1 + i ≡ a + suc i = omega arith in
+    ap (λ (b : Bool). t a && b) (fails_from t (a + 1) n i (omega arith) (ap t s ∙ e)) ∙ and_false (t a)
+  where
+    and_false : (b : Bool) → (b && false) ≡ false
+    and_false true = refl
+    and_false false = refl
+
+pub fails_below : (t : ℕ → Bool) (n k : ℕ) → k < n → t k ≡ false → list_all t (numbers_below n) ≡ false
+fails_below t n k h e = let z : 0 + k ≡ k = omega arith in fails_from t 0 n k h (ap t z ∙ e)

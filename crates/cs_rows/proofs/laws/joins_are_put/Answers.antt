@@ -1,0 +1,5 @@
+use Rattle.cs_rows.proofs.PutLemmas as law
+use Rattle.cs_rows.proofs.laws.joins_are_put.Goals as goal
+
+pub returns : goal.returns
+returns c = law.joins_are_put

@@ -1,0 +1,25 @@
+-- The walk by rows of some of the surviving rows.
+use Rattle.std.specs.Prelude.{ℕ, Bool, List, take, drop, Option, Result, Ok, Err}
+use Rattle.std.specs.List.{filter_map, find}
+use Rattle.std.specs.Option.{is_none, option_and_then, option_map_or}
+use Rattle.cs_schema.specs.CatalogData.{CatalogData}
+use Rattle.cs_schema.specs.Losses.{Sites}
+use Rattle.cs_schema.specs.Rows.{Row}
+use Rattle.cs_rows.specs.Walk.{Contents, Stray}
+use Rattle.cs_rows.specs.WalkByRows.{Reached, found_from, full_row, surviving_rows}
+
+-- the walk from a row is astray
+abbrev pub is_stray_row : CatalogData → Sites → Contents → Reached → Bool
+is_stray_row C L S x = is_none (found_from C L S x.0 x.1)
+
+-- the row that the walk from a row finds, where it is full
+abbrev pub row_from : CatalogData → Sites → Contents → Reached → Option Row
+row_from C L S x = option_and_then (full_row C S) (found_from C L S x.0 x.1)
+
+-- the surviving rows numbered from..to, through all segments
+abbrev pub surviving_between : CatalogData → Sites → Contents → ℕ → ℕ → List Reached
+surviving_between C L S start end = drop start (take end (surviving_rows C L S))
+
+-- the full rows that the walks from some rows find, or the first of these that is astray
+abbrev pub found_among : CatalogData → Sites → Contents → List Reached → Result (List Row) Stray
+found_among C L S xs = option_map_or (λ (x : Reached). Err (x.0, x.1.0, x.1.1)) (find (is_stray_row C L S) xs) (Ok (filter_map (row_from C L S) xs))

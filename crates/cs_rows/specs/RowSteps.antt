@@ -1,0 +1,96 @@
+-- What the steps of a walk by rows need to know.
+use Rattle.std.specs.Prelude.{ℕ, ◌≡◌, ◌<◌, ◌==◌, ◌++◌, List, [], ◌∷◌, All, map, length, slice_index_or, Some, if◌then◌else◌}
+use Rattle.std.specs.List.{find, flat_map, position_or_len, range_with_len}
+use Rattle.cs_schema.specs.declared.cells.Cells.{Cells}
+use Rattle.cs_schema.specs.Values.{values, kind_of}
+use Rattle.cs_schema.specs.CatalogData.{CatalogData, projection, segments}
+use Rattle.cs_schema.specs.Lists.{numbers_below}
+use Rattle.cs_schema.specs.Losses.{Sites, lost}
+use Rattle.cs_schema.specs.Rows.{Row, cell}
+use Rattle.cs_rows.specs.declared.levels.Landed.{Landed}
+use Rattle.cs_rows.specs.declared.by_rows.Source.{Source}
+use Rattle.cs_rows.specs.declared.range.WalkFault.{WalkFault}
+use Rattle.cs_rows.specs.Walk.{Contents}
+use Rattle.cs_rows.specs.WalkByRows.{Reached, Found, Landing, source_in}
+use Rattle.cs_rows.specs.RangeByRows.{is_stray_row}
+use Rattle.cs_rows.specs.Steps.{IsAt}
+
+-- ---- levels
+
+abbrev pub landing_of : Landed → Landing
+landing_of Landed.Astray = Landing.astray
+landing_of Landed.Lost = Landing.in_lost
+landing_of (Landed.Row at) = Landing.at_row at
+
+-- a projection that a level looks at, with its landing
+abbrev pub landing_at : ℕ → Landed → ℕ × Landing
+landing_at q l = (q, landing_of l)
+
+abbrev pub landings_of : List (ℕ × Landed) → List (ℕ × Landing)
+landings_of xs = map (λ (x : ℕ × Landed). landing_at x.0 x.1) xs
+
+-- a walk that has found the row alone from which it starts
+abbrev pub started : Reached → Found
+started row = record { reached = row ∷ []; last = row ∷ []; marked = [] }
+
+-- a row of an image
+abbrev pub Stands : CatalogData → Contents → Reached → Type 0
+Stands C S row = (row.0 < length C.projections) × IsAt C S row.0 row.1
+
+-- a landing at a row is at a row of an image
+abbrev pub LandsWell : CatalogData → Contents → ℕ → Landed → Type 0
+LandsWell C S q Landed.Astray = Unit {0}
+LandsWell C S q Landed.Lost = Unit {0}
+LandsWell C S q (Landed.Row at) = Stands C S (q, at)
+
+abbrev pub AllLandWell : CatalogData → Contents → List (ℕ × Landed) → Type 0
+AllLandWell C S xs = All (λ (x : ℕ × Landed). LandsWell C S x.0 x.1) xs
+
+-- what a walk has reached are rows of images
+pub record AllStand (C : CatalogData) (S : Contents) (F : Found) : Type 0 where
+  pub reached : All (Stands C S) F.reached
+  pub last : All (Stands C S) F.last
+
+-- ---- rows
+
+-- where a column of a found row is read: the first reached projection with it, and its number there
+pub record IsSource (C : CatalogData) (F : Found) (c : ℕ) (source : Source) : Type 0 where
+  pub first : source_in C F c ≡ Some source.row
+  pub place : source.place ≡ position_or_len (λ d. d == c) (projection C source.row.0).columns
+  pub there : source.place < length (projection C source.row.0).columns
+
+abbrev pub AreSources : CatalogData → Found → List Source → ℕ → Type 0
+AreSources C F sources n = (c : ℕ) (d : Source) → c < n → IsSource C F c (slice_index_or sources c d)
+
+-- the cells of a row stand at the end of each of the first n columns
+abbrev pub RowPushed : Row → List Cells → List Cells → ℕ → Type 0
+RowPushed row before after n = (c : ℕ) (d : Cells) → c < n → (kind_of (slice_index_or after c d) ≡ kind_of (slice_index_or before c d)) × (values (slice_index_or after c d) ≡ values (slice_index_or before c d) ++ cell row c ∷ [])
+
+-- the columns have the cells of some rows
+abbrev pub AreRows : CatalogData → List Row → List Cells → Type 0
+AreRows C rows columns = (c : ℕ) (d : Cells) → c < length C.columns → values (slice_index_or columns c d) ≡ map (λ r. cell r c) rows
+
+-- a row of a segment
+abbrev pub row_at : ℕ → ℕ → ℕ → Reached
+row_at p s i = (p, (s, i))
+
+-- the rows of a segment from start on
+abbrev pub reached_from : ℕ → ℕ → ℕ → ℕ → List Reached
+reached_from p s start n = map (row_at p s) (range_with_len start n)
+
+-- how many rows survive in a segment
+abbrev pub kept_count : CatalogData → Sites → Contents → ℕ → ℕ → ℕ
+kept_count C L S p s = if lost C L p s then 0 else length (S.image p s).pairs
+
+-- the surviving rows of a segment
+abbrev pub kept_rows : CatalogData → Sites → Contents → ℕ → ℕ → List Reached
+kept_rows C L S p s = reached_from p s 0 (kept_count C L S p s)
+
+-- the surviving rows of a projection
+abbrev pub projection_kept : CatalogData → Sites → Contents → ℕ → List Reached
+projection_kept C L S p = flat_map (kept_rows C L S p) (numbers_below (segments C p))
+
+-- want of memory, or the first row that is astray
+abbrev pub IsStrayFault : CatalogData → Sites → Contents → List Reached → WalkFault → Type 0
+IsStrayFault C L S xs WalkFault.Memory = Unit {0}
+IsStrayFault C L S xs (WalkFault.Astray p s row) = find (is_stray_row C L S) xs ≡ Some (row_at p s row)
