@@ -1,13 +1,17 @@
 //! Measures the layers on stores that it makes in memory.
 //!
-//! With the word `time` it prints how long each call took. Without words it makes the same calls and
-//! prints no time, so that its output is always the same.
+//! With the word `time` it prints how long each call took, with the numbers ROWS WORKERS CUT how long each round of
+//! `rebuild` and of `check` took. Without words it makes the same calls on less and prints no time, so that its output is
+//! always the same.
 #![tactic(auto)]
 
 mod catalogs;
 mod columns;
 mod orders;
 mod pieces;
+mod recoveries;
+mod rounds;
+mod stores;
 
 use anyhow::{Result, anyhow};
 use cs_order::samples::walked_rows;
@@ -17,6 +21,9 @@ use std::env;
 use std::rt::Clock;
 use std::thread::Threads;
 use std::time::Instant;
+
+const USAGE: &str =
+    "usage: cs_bench [time | ROWS WORKERS CUT], with up to 1048576 rows, 64 workers";
 
 /// Prints what was done, and how long it took since `start` where it is asked for.
 fn tell(rt: &(impl Print + Clock), what: &str, start: Instant, timed: bool) -> Result<()> {
@@ -89,23 +96,44 @@ fn order(
     }
 }
 
-fn main(rt: HostRuntime) -> Result<()> {
-    let timed = env::args(&rt)?.any(|word| word.as_str() == "time");
+/// Makes each layer's calls.
+fn layers(rt: &(impl Print + Clock + AllocGlobal + Threads + Sync), timed: bool) -> Result<()> {
     let large = catalogs::padded(rt.alloc())?;
-    read(&rt, "read a catalog of 100 KB", large.as_str(), timed)?;
-    decide(&rt, "3-safe by whole projections, 16 sites", "whole", timed)?;
-    decide(&rt, "3-safe by rows, 16 sites", "rows", timed)?;
-    if timed {
-        order(
-            &rt,
-            "order 1,000,000 rows by three projections",
-            1_000_000,
-            timed,
-        )?;
-    } else {
-        order(&rt, "order 1,000 rows by three projections", 1_000, timed)?;
-    }
+    read(rt, "read a catalog of 100 KB", large.as_str(), timed)?;
+    decide(rt, "3-safe by whole projections, 16 sites", "whole", timed)?;
+    decide(rt, "3-safe by rows, 16 sites", "rows", timed)?;
     let rows = if timed { 1_000_000 } else { 1000 };
-    columns::measure(&rt, rows, timed)?;
-    pieces::measure(&rt, rows, timed)
+    order(rt, "order rows by three projections", rows, timed)?;
+    columns::measure(rt, rows, timed)?;
+    pieces::measure(rt, rows, timed)
+}
+
+/// Rebuilds and checks a store of so many rows, by so many workers, cut so.
+fn recover(
+    rt: &(impl Print + Clock + AllocGlobal + Threads + Sync),
+    words: &[String],
+) -> Result<()> {
+    let [rows, workers, cut] = words else {
+        return Err(anyhow!(USAGE));
+    };
+    let rows = rows.as_str().parse::<u32>()?;
+    let workers = workers.as_str().parse::<u32>()?;
+    let cut = cut.as_str().parse::<u32>()?;
+    if rows > 1_048_576 || workers < 1 || workers > 64 || cut < 1 || cut > 1_048_576 {
+        return Err(anyhow!(USAGE));
+    }
+    recoveries::measure(rt, rows, workers, cut, true)
+}
+
+fn main(rt: HostRuntime) -> Result<()> {
+    let words = env::args(&rt)?.skip(1).collect::<Vec<String>>(rt.alloc())?;
+    match words.as_slice() {
+        [] => {
+            layers(&rt, false)?;
+            recoveries::measure(&rt, 1000, 1, 100, false)?;
+            recoveries::measure(&rt, 1000, 4, 65_536, false)
+        }
+        [word] if word.as_str() == "time" => layers(&rt, true),
+        words => recover(&rt, words),
+    }
 }

@@ -1,0 +1,51 @@
+//! Where stores are found and outputs are made.
+ghost use Rattle.std.specs.Prelude.{◌≡◌, ℕ, List, ◌≤◌, IfOk, IfErr, IsErrOf};
+ghost use Rattle.cs_store.specs.Fault.{CountsFault};
+ghost use Rattle.cs_store.specs.declared.fault.StoreFault.{StoreFault};
+
+use cs_store::{Sink, Source, StoreFault};
+
+/// Stores and outputs by path. Places in memory can say by their ghost members what they found and made; those over
+/// folders say nothing.
+pub trait Places {
+    /// A store's files.
+    type Store: Source + Drop;
+
+    /// What takes the files of a recovery.
+    type Output: Sink + Drop;
+
+    /// One store that was found: the state before, the path, the bytes of the catalog, the store, and the state after.
+    ghost finds: { Self → List ℕ → List ℕ → Self.Store → Self → Type 0 };
+
+    /// One output that was made: the state before, the path, the output, and the state after.
+    ghost makes: { Self → List ℕ → Self.Output → Self → Type 0 };
+
+    /// One store that was not found: the state before, the path, why, and the state after.
+    ghost misses: { Self → List ℕ → StoreFault → Self → Type 0 };
+
+    /// One output that was not made: the state before, the path, why, and the state after.
+    ghost denies: { Self → List ℕ → StoreFault → Self → Type 0 };
+
+    /// How many faults of the device it has met.
+    ghost fault_count: { Self → ℕ };
+
+    /// The bytes of the catalog of the store at this path, and the store. It fails where the catalog can't be read.
+    fn store(&mut self, path: &str) -> Result<(Vec<u8>, Self::Store), StoreFault>
+        ensures ok { IfOk result (λ found. finds self.old path.now found.0.items found.1 self.new) }
+        ensures err { IfErr result (λ fault. misses self.old path.now fault self.new) }
+        ensures device { IsErrOf result StoreFault.Device
+            → CountsFault (fault_count self.old) (fault_count self.new) }
+        ensures counted { fault_count self.old ≤ fault_count self.new };
+
+    /// Makes the output at this path, where nothing may be yet.
+    fn output(&mut self, path: &str) -> Result<Self::Output, StoreFault>
+        ensures ok { IfOk result (λ output. makes self.old path.now output self.new) }
+        ensures err { IfErr result (λ fault. denies self.old path.now fault self.new) }
+        ensures device { IsErrOf result StoreFault.Device
+            → CountsFault (fault_count self.old) (fault_count self.new) }
+        ensures counted { fault_count self.old ≤ fault_count self.new };
+
+    /// How many faults of the device it has met.
+    fn faults(&self) -> u64
+        ensures { result ≡ fault_count self.now };
+}

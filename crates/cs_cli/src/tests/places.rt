@@ -1,0 +1,152 @@
+ghost use Rattle.std.specs.Prelude.{◌≡◌, ⊤};
+
+use crate::places::Places;
+use crate::sample;
+use cs_delta::write_empty_delta;
+use cs_schema::FileName;
+use cs_store::memory::{Failure, MemorySink, MemorySource};
+use cs_store::{FileSet, Sink, StoreFault};
+use std::alloc::{AllocError, Global};
+use std::cell::RefCell;
+use std::rc::Rc;
+use std::test::Fail;
+
+/// What an output took: each file's name and length, and the mark.
+#[derive(Drop)]
+pub struct Taken {
+    pub files: Vec<(FileName, usize)>,
+    pub mark: Option<u64>,
+}
+
+/// The sample's store, whole, and one output that the tests can look into.
+#[derive(Drop)]
+pub struct MemoryPlaces {
+    pub catalog: Option<&'static [u8]>,
+    pub read_failure: Option<Failure>,
+    pub write_failure: Option<Failure>,
+    pub taken: Rc<RefCell<Taken>>,
+    pub is_made: bool,
+    faults: u64,
+    alloc: Global,
+}
+
+/// An output that shares with the tests what it took.
+#[derive(Drop)]
+pub struct SharedOutput {
+    sink: MemorySink,
+    taken: Rc<RefCell<Taken>>,
+}
+
+/// Places where nothing fails.
+pub fn places(alloc: Global) -> Result<MemoryPlaces, Fail> {
+    let taken = Taken {
+        files: Vec::new(alloc),
+        mark: None,
+    };
+    Ok(MemoryPlaces {
+        catalog: Some(sample::CATALOG.as_bytes()),
+        read_failure: None,
+        write_failure: None,
+        taken: Rc::new(alloc, RefCell::new(taken))?,
+        is_made: false,
+        faults: 0,
+        alloc,
+    })
+}
+
+/// The files of both projections.
+fn whole_sample(alloc: Global) -> Result<FileSet, AllocError> {
+    let mut files = sample::survivors(alloc)?;
+    let columns = [[1, 2, 3, 4], [30, 10, 20, 10]];
+    files.put(
+        FileName::Seg { p: 0, s: 0 },
+        sample::segment(alloc, 0, columns)?,
+    )?;
+    files.put(
+        FileName::Del { p: 0, s: 0 },
+        write_empty_delta(alloc, 0, 0, 4)?,
+    )?;
+    Ok(files)
+}
+
+impl Places for MemoryPlaces {
+    type Store = MemorySource;
+
+    type Output = SharedOutput;
+
+    ghost finds = { λ s path bytes store t. ⊤ };
+
+    ghost makes = { λ s path output t. ⊤ };
+
+    ghost misses = { λ s path fault t. ⊤ };
+
+    ghost denies = { λ s path fault t. ⊤ };
+
+    ghost fault_count = { λ s. s.faults };
+
+    fn store(&mut self, _path: &str) -> Result<(Vec<u8>, MemorySource), StoreFault> {
+        let Some(catalog) = self.catalog else {
+            self.faults = self.faults.saturating_add(1);
+            return Err(StoreFault::Device);
+        };
+        let bytes = Vec::from_slice(self.alloc, catalog).map_err(|_| StoreFault::Memory)?;
+        let files = whole_sample(self.alloc).map_err(|_| StoreFault::Memory)?;
+        Ok((
+            bytes,
+            MemorySource::new(self.alloc, files, self.read_failure),
+        ))
+    }
+
+    fn output(&mut self, _path: &str) -> Result<SharedOutput, StoreFault> {
+        if self.is_made {
+            self.faults = self.faults.saturating_add(1);
+            return Err(StoreFault::Device);
+        }
+        self.is_made = true;
+        let files = FileSet::new(self.alloc).map_err(|_| StoreFault::Memory)?;
+        Ok(SharedOutput {
+            sink: MemorySink::new(self.alloc, files, self.write_failure),
+            taken: self.taken.clone().map_err(|_| StoreFault::Memory)?,
+        })
+    }
+
+    fn faults(&self) -> u64 {
+        self.faults
+    }
+}
+
+impl Sink for SharedOutput {
+    ghost takes = { λ s name bytes t. ⊤ };
+
+    ghost marks = { λ s files t. ⊤ };
+
+    ghost refuses = { λ s at fault t. ⊤ };
+
+    ghost fault_count = { λ s. s.sink.faults };
+
+    fn put(&mut self, name: FileName, bytes: &[u8]) -> Result<(), StoreFault> {
+        self.sink.put(name, bytes)?;
+        match self.taken.try_borrow_mut() {
+            Ok(mut taken) => match taken.files.push((name, bytes.len())) {
+                Ok(()) => Ok(()),
+                Err(_) => Err(StoreFault::Memory),
+            },
+            Err(_) => Err(StoreFault::Memory),
+        }
+    }
+
+    fn mark(&mut self, files: u64) -> Result<(), StoreFault> {
+        self.sink.mark(files)?;
+        match self.taken.try_borrow_mut() {
+            Ok(mut taken) => {
+                taken.mark = Some(files);
+                Ok(())
+            }
+            Err(_) => Err(StoreFault::Memory),
+        }
+    }
+
+    fn faults(&self) -> u64 {
+        self.sink.faults()
+    }
+}

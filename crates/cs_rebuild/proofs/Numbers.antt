@@ -1,0 +1,25 @@
+-- Numbers that are equal or not, and tests that decide the same.
+use Rattle.std.proofs.Common.{◌≡◌, ◌≢◌, ℕ, refl, sym, ◌∙◌, Bool, true, false, not, ◌==◌, eqb-true, eq-eqb}
+use Rattle.cs_schema.proofs.Ascending.{false≢true}
+
+-- two numbers are equal or not
+pub by_equal : {X : Type 0} (x y : ℕ) → (x ≡ y → X) → (x ≢ y → X) → X
+by_equal {X} x y f g = go (x == y) refl
+  where
+    go : (b : Bool) → (x == y) ≡ b → X
+    go true e = f (eqb-true x y e)
+    go false e = g (λ k. false≢true (sym e ∙ eq-eqb x y k))
+
+pub differ : (x y : ℕ) → x ≢ y → (x == y) ≡ false
+differ x y n = go (x == y) refl
+  where
+    go : (b : Bool) → (x == y) ≡ b → b ≡ false
+    go true e = absurd (n (eqb-true x y e))
+    go false e = refl
+
+-- tests that hold of the same
+pub decided : (b t : Bool) → (b ≡ true → t ≡ true) → (t ≡ true → b ≡ true) → b ≡ not (not t)
+decided true true f g = refl
+decided true false f g = sym (f refl)
+decided false true f g = g refl
+decided false false f g = refl

@@ -1,0 +1,70 @@
+-- Pieces that are taken from the end of a list, the first last.
+use Rattle.std.proofs.Common.{◌≡◌, ℕ, zero, suc, ◌+◌, ◌-◌, ◌*◌, ◌/◌, ◌%◌, ◌<◌, List, [], ◌∷◌, ◌++◌, length, length-append, refl, sym, ap, subst, ◌∙◌, Some, arith, get_or}
+use Rattle.std.specs.List.{slice_get}
+use Rattle.std.proofs.lemmas.Nat.{div-mul-add, mod-mul-add, mul-add-lt}
+use Rattle.std.proofs.lemmas.Option.{slice_get-get_or, slice_get_within, get_or_from_slice_get, none-some, same_Some}
+use Rattle.std.specs.List.{ReversedBelow}
+use Rattle.cs_schema.specs.CatalogData.{CatalogData, code_at, kind_at}
+use Rattle.cs_schema.specs.Rows.{Row}
+use Rattle.cs_piece.specs.declared.pieces.Piece.{Piece}
+use Rattle.cs_piece.specs.Pieces.{IsPieceOf}
+use Rattle.cs_segment.specs.Parts.{AllFrom}
+use Rattle.cs_rebuild.specs.Encoding.{pieces_of, values_at, cut_at, EncodeAnswerAt}
+
+module _ {X : Type 0} where
+  front_at : (xs ys : List X) (m : ℕ) (x : X) → slice_get xs m ≡ Some x → slice_get (xs ++ ys) m ≡ Some x
+  front_at [] ys m x e = absurd (none-some x e)
+  front_at (y ∷ xs) ys zero x e = e
+  front_at (y ∷ xs) ys (suc m) x e = front_at xs ys m x e
+
+  last_at : (xs : List X) (x : X) → slice_get (xs ++ x ∷ []) (length xs) ≡ Some x
+  last_at [] x = refl
+  last_at (y ∷ xs) x = last_at xs x
+
+  module _ (P : ℕ → X → Type 0) (total : ℕ) where
+    abbrev pub AreLeft : List X → Type 0
+    AreLeft rest = (m : ℕ) (out : X) → slice_get rest m ≡ Some out → P (total - 1 - m) out
+
+    pub left_but_one : (old new : List X) (x : X) → old ≡ new ++ x ∷ [] → AreLeft old → AreLeft new
+    left_but_one old new x e h m out at = h m out (ap (λ l. slice_get l m) e ∙ front_at new (x ∷ []) m out at)
+
+    pub taken : (old new : List X) (x : X) (i : ℕ) → old ≡ new ++ x ∷ [] → length old + i ≡ total → AreLeft old → P i x
+    taken old new x i e l h =
+        let long = ap length e ∙ length-append new (x ∷ []) in
+        let place : total - 1 - length new ≡ i = omega (arith, l, long) in
+        subst (λ n. P n x) place (h (length new) x (ap (λ l. slice_get l (length new)) e ∙ last_at new x))
+
+    -- the list from its end
+    pub all_left : (xs rest : List X) → length xs ≡ total → length rest ≡ length xs → ReversedBelow xs rest (length xs) → ((i : ℕ) (out : X) → slice_get xs i ≡ Some out → P i out) → AreLeft rest
+    all_left xs rest l long back h m out at =
+        let inside : m < length rest = slice_get_within rest m out at in
+        let below : m < length xs = omega (arith, inside, long) in
+        let place : length xs - 1 - m ≡ total - 1 - m = omega (arith, l) in
+        let there : get_or xs (length xs - 1 - m) out ≡ out = sym (back m out below) ∙ get_or_from_slice_get rest m out out at in
+        subst (λ n. P n out) place (h (length xs - 1 - m) out (slice_get-get_or xs (length xs - 1 - m) out (omega (arith, below)) ∙ ap Some there))
+
+  pub each_pushed : (P : ℕ → X → Type 0) (xs : List X) (x : X) → ((i : ℕ) (y : X) → slice_get xs i ≡ Some y → P i y) → P (length xs) x → (i : ℕ) (y : X) → slice_get (xs ++ x ∷ []) i ≡ Some y → P i y
+  each_pushed P [] x h e zero y at = subst (P 0) (same_Some x y at) e
+  each_pushed P [] x h e (suc i) y at = absurd (none-some y at)
+  each_pushed P (z ∷ xs) x h e zero y at = h 0 y at
+  each_pushed P (z ∷ xs) x h e (suc i) y at = each_pushed (λ n. P (suc n)) xs x (λ k. h (suc k)) e i y at
+
+  -- what holds of each element with its number
+  pub all_from : (P : ℕ → X → Type 0) (xs : List X) (n : ℕ) → ((i : ℕ) (x : X) → slice_get xs i ≡ Some x → P (n + i) x) → AllFrom P n xs
+  all_from P [] n h = tt
+  all_from P (x ∷ xs) n h =
+      let start : n + 0 ≡ n = omega arith in
+      (subst (λ m. P m x) start (h 0 x refl), all_from P xs (n + 1) (λ i y e. let next : n + suc i ≡ n + 1 + i = omega arith in subst (λ m. P m y) next (h (suc i) y e)))
+
+-- a piece by its column and its number there
+pub piece_there : (C : CatalogData) (p : ℕ) (rows : List Row) (numbers : List ℕ) (cut per j k : ℕ) (out : Piece) → per ≡ pieces_of (length numbers) cut → k < per → EncodeAnswerAt C p rows numbers cut (j * per + k) out
+    → IsPieceOf out (code_at C p j) (kind_at C p j) (values_at C p rows j (cut_at cut numbers k))
+piece_there C p rows numbers cut per j k out e l h =
+    let i : ℕ = j * per + k in
+    let P : ℕ → ℕ → Type 0 = λ a b. IsPieceOf out (code_at C p a) (kind_at C p a) (values_at C p rows a (cut_at cut numbers b)) in
+    let here : P (i / per) (i % per) = subst (λ w. P (i / w) (i % w)) (sym e) h in
+    subst (λ a. P a k) (div-mul-add j per k l) (subst (P (i / per)) (mod-mul-add j per k l) here)
+
+-- the number of a piece is one of them
+pub piece_below : (j k per width pieces : ℕ) → pieces ≡ width * per → j < width → k < per → j * per + k < pieces
+piece_below j k per width pieces e a b = let l = mul-add-lt j per k width a b in let c : per * width ≡ width * per = grind arith in omega (arith, l, c, e)

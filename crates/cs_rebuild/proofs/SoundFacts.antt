@@ -1,0 +1,100 @@
+-- What a sound store gives to those who write what is lost.
+use Rattle.std.proofs.Common.{◌≡◌, ℕ, ◌+◌, ◌<◌, List, [], ◌∷◌, map, length, refl, sym, ap, subst, ◌∙◌, Option, Some, None, arith, pos}
+use Rattle.std.specs.Prelude.{slice_index}
+use Rattle.std.specs.List.{slice_get}
+use Rattle.std.specs.Option.{option_or}
+use Rattle.std.proofs.lemmas.List.FromFn.{length-map-range_with_len}
+use Rattle.std.proofs.lemmas.Option.{none-some, slice_get-get_or, get_or_from_slice_get, slice_get_within}
+use Rattle.cs_schema.specs.declared.cells.Value.{Value}
+use Rattle.cs_schema.specs.declared.kinds.Code.{Code}
+use Rattle.cs_schema.specs.declared.kinds.Kind.{Kind}
+use Rattle.cs_schema.specs.CatalogData.{CatalogData, HasSegment, projection, code_at, kind_at}
+use Rattle.cs_schema.specs.CatalogRules.{IsCatalog}
+use Rattle.cs_schema.specs.FileNames.{FileContents}
+use Rattle.cs_schema.specs.Losses.{Sites}
+use Rattle.cs_schema.specs.Order.{Fits, rows_of}
+use Rattle.cs_schema.specs.Rows.{Row, IsTable, cell, project}
+use Rattle.cs_schema.proofs.Lists.{slice_get_map}
+use Rattle.cs_piece.specs.declared.pieces.Piece.{Piece}
+use Rattle.cs_piece.specs.Pieces.{IsPieceOf}
+use Rattle.cs_segment.specs.SegmentFile.{base_of, base_column}
+use Rattle.cs_segment.specs.SegmentPieces.{ArePiecesOf}
+use Rattle.cs_jix.specs.JoinIndex.{IsJoinIndexFile, join_index_text}
+use Rattle.cs_rows.specs.Survivors.{SurvivorsData, contents_of}
+use Rattle.cs_rows.specs.WalkedView.{WalkedData}
+use Rattle.cs_order.specs.Orders.{OrdersData, row_at, numbers_in}
+use Rattle.cs_order.specs.Tables.{table_of}
+use Rattle.cs_recovery.specs.Holding.{AreContentsOf}
+use Rattle.cs_recovery.specs.Places.{entries_for}
+use Rattle.cs_recovery.specs.Verdicts.{twice, full}
+use Rattle.cs_recovery.proofs.Afresh.{base_is, column_is, count_is, never_falls}
+use Rattle.cs_recovery.proofs.Judged.{full_fits, judged_contents, table_of_rows, walked_are_rows}
+use Rattle.cs_recovery.proofs.KeptKinds.{walk_keeps_kinds}
+use Rattle.cs_recovery.proofs.Read.{layers}
+use Rattle.cs_recovery.proofs.RowKinds.{rows_keep_kinds}
+use Rattle.cs_recovery.proofs.Whole.{entries_file}
+use Rattle.cs_rebuild.specs.Encoding.{Rises, values_at}
+use Rattle.cs_rebuild.specs.Ground.{AreInOrder}
+use Rattle.cs_rebuild.specs.Steps.{AreSound}
+use Rattle.cs_rebuild.proofs.Counts.{none_twice}
+use Rattle.cs_rebuild.proofs.Rests.{all_from}
+
+second_none : {X : Type 0} (a b : Option X) → option_or a b ≡ None → b ≡ None
+second_none None b e = e
+second_none (Some x) b e = absurd (none-some x (sym e))
+
+-- ---- the columns of some rows
+
+module _ (C : CatalogData) (p : ℕ) (rows : List Row) (j : ℕ) (below : j < length (projection C p).columns) where
+  kept_cell : (r : Row) → cell (project C p r) j ≡ cell r (slice_index (projection C p).columns j)
+  kept_cell r = get_or_from_slice_get (project C p r) j (cell r (slice_index (projection C p).columns j)) (Value.Int (pos 0)) (slice_get_map (cell r) (projection C p).columns j (slice_index (projection C p).columns j) (slice_get-get_or (projection C p).columns j 0 below))
+
+  pub values_are : (numbers : List ℕ) → map (λ x. cell x j) (map (project C p) (map (row_at rows) numbers)) ≡ values_at C p rows j numbers
+  values_are [] = refl
+  values_are (n ∷ ns) = ap (λ v. v ∷ map (λ x. cell x j) (map (project C p) (map (row_at rows) ns))) (kept_cell (row_at rows n)) ∙ ap (λ l. cell (row_at rows n) (slice_index (projection C p).columns j) ∷ l) (values_are ns)
+
+module _ (C : CatalogData) (cat : IsCatalog C) (F : FileContents) (L : Sites) (v : SurvivorsData) (w : WalkedData) (o : OrdersData) (sound : AreSound C F L v w o) where
+  abbrev T : List Row
+  T = table_of C w.rows
+
+  pub table : IsTable C T
+  table = table_of_rows C w.rows (walked_are_rows C F L (walk_keeps_kinds C cat F L) (rows_keep_kinds C cat F L) (contents_of v) sound.read.reads C.safety w.rows sound.walked.walk)
+
+  none_full : full C T ≡ None
+  none_full = second_none (twice C w.rows) (full C T) sound.rows_sound
+
+  pub fits : Fits C T
+  fits = full_fits C T none_full
+
+  pub same : AreContentsOf C L (contents_of v) T
+  same = judged_contents C cat L (contents_of v) w.rows T (record { is = refl; once = none_twice C w.rows sound.rows_sound; full = none_full; misplaced = sound.placed; misled = sound.led })
+
+  pub entries_are : (p s q : ℕ) → HasSegment C p s → q < length C.projections → IsJoinIndexFile p s q (join_index_text p s q (entries_for C L (contents_of v) T p s q)) (entries_for C L (contents_of v) T p s q)
+  entries_are p s q h k = entries_file C cat (layers C cat) F L (contents_of v) sound.read.reads T table fits same p s q h k
+
+  module _ (p s : ℕ) (there : HasSegment C p s) (each : AreInOrder C w.rows o) where
+    abbrev cells_of : ℕ → List Value
+    cells_of j = map (λ x. cell x j) (map (project C p) (rows_of C T p s))
+
+    column_values : (j : ℕ) → j < length (projection C p).columns → cells_of j ≡ values_at C p w.rows j (numbers_in o p s)
+    column_values j l = ap (λ x. map (λ x. cell x j) (map (project C p) x)) (sym (each p s there.0)) ∙ values_are C p w.rows j l (numbers_in o p s)
+
+    pub rises : (j : ℕ) → j < length (projection C p).columns → code_at C p j ≡ Code.Differences → (kind_at C p j ≡ Kind.Int) × Rises (values_at C p w.rows j (numbers_in o p s))
+    rises j l e = let r = never_falls C cat T table fits p s there j l e in (r.0, subst Rises (column_values j l) r.1)
+
+    -- pieces of all columns are those of the segment's base
+    pub pieces_of_base : (pieces : List Piece) → length pieces ≡ length (projection C p).columns
+        → ((j : ℕ) (piece : Piece) → slice_get pieces j ≡ Some piece → IsPieceOf piece (code_at C p j) (kind_at C p j) (values_at C p w.rows j (numbers_in o p s)))
+        → ArePiecesOf C p (length (rows_of C T p s)) pieces (base_of C p (map (project C p) (rows_of C T p s)))
+    pieces_of_base pieces width h =
+        let xs : List (List Value) = map (project C p) (rows_of C T p s) in
+        let P : ℕ → Piece → Type 0 = λ j piece. IsPieceOf piece (code_at C p j) (kind_at C p j) (base_column (base_of C p xs) j) in
+        record {
+          base = base_is C cat T table fits p s there;
+          rows_are = count_is C cat T table fits p s there;
+          width = width ∙ sym (length-map-range_with_len (λ j. map (λ x. cell x j) xs) 0 (length (projection C p).columns));
+          pieces_are = all_from P pieces 0 (λ j piece at.
+              let l : j < length (projection C p).columns = subst (λ n. j < n) width (slice_get_within pieces j piece at) in
+              let start : j ≡ 0 + j = omega arith in
+              subst (λ n. P n piece) start (subst (IsPieceOf piece (code_at C p j) (kind_at C p j)) (sym (column_is C cat T table fits p s there j l ∙ column_values j l)) (h j piece at)));
+        }

@@ -1,0 +1,19 @@
+use Rattle.std.proofs.Common.{◌<◌, ◌*◌, ◌/◌, ◌%◌, length, sym, subst}
+use Rattle.std.proofs.Math.Nat.{div-lt_iff_lt-mul}
+use Rattle.cs_schema.specs.CatalogData.{projection, code_at, kind_at}
+use Rattle.cs_codec.specs.ColumnText.{FitsCode}
+use Rattle.cs_rebuild.specs.Encoding.{values_at}
+use Rattle.cs_rebuild.proofs.Encodings.{cut_fits}
+use Rattle.cs_rebuild.proofs.encoding.EncodeWorkWork.piece.Goals as goal
+
+pub encode_rows-requires-clause-order : goal.encode_rows-requires-clause-order
+encode_rows-requires-clause-order c =
+    let w = c.args.self.now in
+    let C = w.ground.now.catalog.now in
+    let rows = w.ground.now.walked.now.rows in
+    let j = c.args.i / w.per in
+    let width = length (projection C w.p).columns in
+    let inside : c.args.i < width * w.per = subst (λ n. c.args.i < n) w.pieces_are c.requires in
+    let below : j < width = (div-lt_iff_lt-mul w.some).1 inside in
+    subst (λ l. FitsCode (code_at C w.p j) (kind_at C w.p j) (values_at C w.p rows j l)) (sym c.cut_of-numbers.ensures)
+    (cut_fits C w.p rows j w.numbers.now (w.rises j below) w.cut (c.args.i % w.per))

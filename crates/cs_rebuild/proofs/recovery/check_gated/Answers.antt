@@ -1,0 +1,36 @@
+use Rattle.std.proofs.Common.{sym, subst, ◌∙◌, Err}
+use Rattle.cs_store.specs.FileSet.{contents_of}
+use Rattle.cs_order.specs.Tables.{table_of}
+use Rattle.cs_recovery.specs.Claims.{IsCheckAnswer}
+use Rattle.cs_recovery.specs.Verdicts.{IsVerdict}
+use Rattle.cs_store.specs.Fault.{MemoryOr}
+use Rattle.cs_rebuild.specs.Steps.{AreSound}
+use Rattle.cs_rebuild.proofs.Counts.{length_table, none_twice}
+use Rattle.cs_rebuild.proofs.Verdicts.{unsafe_catalog, checked, not_checked, check_ends}
+use Rattle.cs_rebuild.proofs.recovery.check_gated.Goals as goal
+
+pub returns-in-Err-clause-answer : goal.returns-in-Err-clause-answer
+returns-in-Err-clause-answer g c =
+    subst (λ f. IsCheckAnswer c.args.catalog.now (contents_of c.args.files.now) c.args.k (Err f)) (sym c.safety_refusal.ensures) (unsafe_catalog c.args.catalog.now (contents_of c.args.files.now) c.args.k c.in-Err.fault c.in-Err.ensures.refused)
+
+pub returns-in-Err-clause-clauses : goal.returns-in-Err-clause-clauses
+returns-in-Err-clause-clauses g c = check_ends c.args.catalog.now c.projection_count-rules.ensures.rules (contents_of c.args.files.now) c.args.k _ (returns-in-Err-clause-answer g c)
+
+pub returns-in-Ok-clause-answer : goal.returns-in-Ok-clause-answer
+returns-in-Ok-clause-answer g c =
+    let C = c.args.catalog.now in
+    let F = contents_of c.args.files.now in
+    let rows = c.in-Ok.store.walked.rows in
+    let sound = subst (λ L. AreSound C F L c.in-Ok.store.survivors c.in-Ok.store.walked c.in-Ok.store.orders) c.no_loss.ensures.none c.in-Ok.ensures.ok in
+    (table_of C rows, checked C F c.args.k c.in_default.ensures.limit c.in_default.ensures.safe c.in-Ok.store.survivors c.in-Ok.store.walked c.in-Ok.store.orders sound, c.rows.ensures ∙ sym (length_table C rows (none_twice C rows sound.rows_sound)))
+
+pub returns-in-Ok-clause-clauses : goal.returns-in-Ok-clause-clauses
+returns-in-Ok-clause-clauses g c = check_ends c.args.catalog.now c.projection_count-rules.ensures.rules (contents_of c.args.files.now) c.args.k _ (returns-in-Ok-clause-answer g c)
+
+pub returns-in-Err-judge-clause-answer : goal.returns-in-Err-judge-clause-answer
+returns-in-Err-judge-clause-answer g c =
+    not_checked c.args.catalog.now (contents_of c.args.files.now) c.args.k c.in_default.ensures.limit c.in_default.ensures.safe c.in-Err-judge.fault
+    (subst (λ L. MemoryOr c.in-Err-judge.fault (IsVerdict c.args.catalog.now (contents_of c.args.files.now) L (Err c.in-Err-judge.fault))) c.no_loss.ensures.none c.in-Err-judge.ensures.err)
+
+pub returns-in-Err-judge-clause-clauses : goal.returns-in-Err-judge-clause-clauses
+returns-in-Err-judge-clause-clauses g c = check_ends c.args.catalog.now c.projection_count-rules.ensures.rules (contents_of c.args.files.now) c.args.k _ (returns-in-Err-judge-clause-answer g c)

@@ -1,0 +1,36 @@
+use Rattle.std.proofs.Common.{◌≤◌, ◌*◌, List, refl, sym, ap, subst, ◌∙◌, inr, Ok}
+use Rattle.std.specs.List.{filter_map}
+use Rattle.std.proofs.lemmas.List.Elements.{filter_map-append}
+use Rattle.cs_board.specs.Pieces.{IsLeastFault}
+use Rattle.cs_board.specs.RunFault.{IfAt}
+use Rattle.cs_schema.specs.Rows.{Row}
+use Rattle.cs_rows.specs.Survivors.{contents_of}
+use Rattle.cs_rows.specs.Walk.{Stray}
+use Rattle.cs_rows.specs.WalkByRows.{Reached, surviving_rows}
+use Rattle.cs_rows.specs.RangeByRows.{is_stray_row, row_from}
+use Rattle.cs_rows.proofs.WalkParts.{walk_by_rows_found, walk_by_rows_stray}
+use Rattle.cs_rebuild.specs.Walking.{RowsFaultAt}
+use Rattle.cs_rebuild.proofs.WalkPieces.{all_walked, first_astray}
+use Rattle.cs_rebuild.proofs.rowwise.walk_rowwise.Goals as goal
+
+pub returns-in-Ok-once-clause-rows : goal.returns-in-Ok-once-clause-rows
+returns-in-Ok-once-clause-rows g c =
+    let C = c.args.catalog.now in
+    let L = c.args.loss in
+    let S = contents_of c.args.survivors.now in
+    let e : Reached → Stray = λ x. (x.0, x.1.0, x.1.1) in
+    let f : List Reached → List Row = filter_map (row_from C L S) in
+    let cover = subst (λ n. n ≤ c.in-Some.pieces * c.args.crew.now.cut) c.surviving_row_count-rows.ensures c.in-Some.ensures.0 in
+    let whole = all_walked (is_stray_row C L S) e f (surviving_rows C L S) c.args.crew.now.cut refl (filter_map-append (row_from C L S)) c.in-Some.pieces cover c.in-Ok.ensures.ok.sound c.in-Ok.all.items c.in-Ok.ensures.ok.len (λ i w at. (c.in-Ok.ensures.ok.each i w at).1) in
+    walk_by_rows_found C L S c.in-Ok-append_all.walked.rows (sym (whole ∙ ap (λ r. Ok r) (sym c.in-Ok-append_all.ensures.rows))) ∙ ap (λ r. Ok r) (sym c.in-Ok-once.ensures.ok)
+
+pub returns-in-Err-At-clause-err : goal.returns-in-Err-At-clause-err
+returns-in-Err-At-clause-err g c =
+    let C = c.args.catalog.now in
+    let L = c.args.loss in
+    let S = contents_of c.args.survivors.now in
+    let e : Reached → Stray = λ x. (x.0, x.1.0, x.1.1) in
+    let f : List Reached → List Row = filter_map (row_from C L S) in
+    let least = subst (λ x. IfAt x (IsLeastFault (RowsFaultAt C L S c.args.crew.now.cut) c.in-Some.pieces)) c.in-Err-At.field-0-is c.in-Err-At.ensures.at in
+    let h = first_astray (is_stray_row C L S) e f (surviving_rows C L S) c.args.crew.now.cut c.in-Some.pieces c.in-Err-At.field-0-0 c.in-Err-At.fault least in
+    inr (h.0, walk_by_rows_stray C L S h.0 (sym h.1), h.2)

@@ -1,0 +1,35 @@
+-- The pieces into which the columns of a lost segment are cut.
+use Rattle.std.specs.Prelude.{◌≡◌, ℕ, ◌+◌, ◌-◌, ◌*◌, ◌/◌, ◌%◌, ◌<◌, List, map, length, max, take, drop, slice_index, slice_get, Some, ◌≤ℤ◌}
+use Rattle.cs_codec.specs.ColumnText.{int_of}
+use Rattle.cs_schema.specs.declared.cells.Value.{Value}
+use Rattle.cs_schema.specs.CatalogData.{CatalogData, projection, code_at, kind_at}
+use Rattle.cs_schema.specs.Rows.{Row, cell}
+use Rattle.cs_order.specs.Orders.{row_at}
+use Rattle.cs_piece.specs.declared.pieces.Piece.{Piece}
+use Rattle.cs_piece.specs.Pieces.{IsPieceOf}
+
+-- how many pieces a column of n rows has: one where it has no rows
+abbrev pub pieces_of : ℕ → ℕ → ℕ
+pieces_of n cut = max 1 ((n + cut - 1) / cut)
+
+-- the values of column j of a projection at some rows, by their numbers
+abbrev pub values_at : CatalogData → ℕ → List Row → ℕ → List ℕ → List Value
+values_at C p rows j numbers = map (λ r. cell (row_at rows r) (slice_index (projection C p).columns j)) numbers
+
+-- the numbers of the k-th piece
+abbrev pub cut_at : ℕ → List ℕ → ℕ → List ℕ
+cut_at cut numbers k = take cut (drop (k * cut) numbers)
+
+-- an answer at piece i: the pieces are numbered column by column
+abbrev pub EncodeAnswerAt : CatalogData → ℕ → List Row → List ℕ → ℕ → ℕ → Piece → Type 0
+EncodeAnswerAt C p rows numbers cut i out =
+    let per : ℕ = pieces_of (length numbers) cut in
+    IsPieceOf out (code_at C p (i / per)) (kind_at C p (i / per)) (values_at C p rows (i / per) (cut_at cut numbers (i % per)))
+
+-- no int is below the one before it, by positions
+abbrev pub Rises : List Value → Type 0
+Rises v = (i : ℕ) → i + 1 < length v → int_of (cell v i) ≤ℤ int_of (cell v (i + 1))
+
+-- Of `total` pieces some are left, the last first: what stands at place m is an answer at piece total - 1 - m.
+abbrev pub IsRestOf : CatalogData → ℕ → List Row → List ℕ → ℕ → ℕ → List Piece → Type 0
+IsRestOf C p rows numbers cut total rest = (m : ℕ) (out : Piece) → slice_get rest m ≡ Some out → EncodeAnswerAt C p rows numbers cut (total - 1 - m) out

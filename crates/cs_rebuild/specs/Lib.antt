@@ -1,0 +1,9 @@
+pub mod Encoding
+pub mod Ground
+pub mod Verifying
+pub mod Walking
+pub mod WorkLaws
+pub mod Steps
+pub mod Surveys
+pub mod Reading
+pub mod Writing

@@ -1,0 +1,109 @@
+-- What the reading of one segment's files finds.
+use Rattle.std.specs.Prelude.{◌≡◌, ℕ, ◌<◌, ◌≤◌, true, List, map, Option, Some, None, length, slice_get}
+use Rattle.std.specs.List.{filter}
+use Rattle.std.specs.declared.cmp.Ordering.TheVariants.{Less}
+use Rattle.cs_schema.specs.declared.file_name.FileName.{FileName}
+use Rattle.cs_store.specs.declared.fault.Fault.{Fault}
+use Rattle.cs_schema.specs.CatalogData.{CatalogData, has_join}
+use Rattle.cs_schema.specs.FileNames.{FileContents, HasName, name_cmp, projection_of, segment_of}
+use Rattle.cs_schema.specs.Lists.{IsIn, numbers_below}
+use Rattle.cs_segment.specs.declared.fault.FileFault.{FileFault as ReadFault}
+use Rattle.cs_segment.specs.SegmentFile.{IsSegmentFile, Base}
+use Rattle.cs_segment.specs.SegmentData.{SegmentData, kinds_at}
+use Rattle.cs_delta.specs.DeltaFile.{DeltaData, IsDeltaFile}
+use Rattle.cs_delta.specs.KindedImage.{KindedImage}
+use Rattle.cs_jix.specs.JoinIndex.{Place}
+use Rattle.cs_rows.specs.Survivors.{SurvivorsData, image_at, join_at}
+use Rattle.cs_recovery.specs.Contents.{IsImageOf, IsJoinOf}
+use Rattle.cs_recovery.specs.Verdicts.{IsSound, FileFault}
+use Rattle.cs_rebuild.specs.declared.reading.SegmentFiles.{SegmentFiles}
+
+-- how a file that could not be read is refused
+abbrev pub file_refusal : FileName → ReadFault → Fault
+file_refusal n ReadFault.Memory = Fault.Memory
+file_refusal n ReadFault.Damaged = Fault.Damaged n
+
+-- the file under the name is bad, and this is why
+abbrev pub IsRefused : CatalogData → FileContents → FileName → Fault → Type 0
+IsRefused C F n f = (¬ IsSound C F n) × FileFault F n f
+
+-- the name is one of this segment
+abbrev pub IsNameOf : ℕ × ℕ → FileName → Type 0
+IsNameOf a n = (projection_of n ≡ a.0) × (segment_of n ≡ a.1)
+
+-- all files of a segment are sound
+abbrev pub AreSoundFiles : CatalogData → FileContents → ℕ × ℕ → Type 0
+AreSoundFiles C F a = (n : FileName) → HasName C n → IsNameOf a n → IsSound C F n
+
+-- the least bad file of a segment, and why
+pub record IsFirstBadOf (C : CatalogData) (F : FileContents) (a : ℕ × ℕ) (f : Fault) : Type 0 where
+  pub name : FileName
+  pub has : HasName C name
+  pub of : IsNameOf a name
+  pub refused : IsRefused C F name f
+  pub before : (m : FileName) → HasName C m → IsNameOf a m → name_cmp m name ≡ Less → IsSound C F m
+
+-- what the fault of a segment's files is
+abbrev pub IsFilesFault : CatalogData → FileContents → ℕ × ℕ → Option Fault → Type 0
+IsFilesFault C F a None = AreSoundFiles C F a
+IsFilesFault C F a (Some f) = IsFirstBadOf C F a f
+
+-- the projections to which a projection declares a join
+abbrev pub joins_of : CatalogData → ℕ → List ℕ
+joins_of C p = filter (has_join C p) (numbers_below (length C.projections))
+
+-- the image of a segment, with the kinds of its projection's columns
+abbrev pub IsKindedImageOf : CatalogData → FileContents → ℕ → ℕ → KindedImage → Type 0
+IsKindedImageOf C F p s m = IsImageOf C F p s m.image × (m.kinds ≡ kinds_at C p)
+
+-- what the files of a segment hold
+pub record AreFilesOf (C : CatalogData) (F : FileContents) (a : ℕ × ℕ) (out : SegmentFiles) : Type 0 where
+  pub image : IsKindedImageOf C F a.0 a.1 out.image
+  pub targets : map (λ j. j.0) out.joins.items ≡ joins_of C a.0
+  pub joins : (j : ℕ × List Place) → IsIn j out.joins.items → IsJoinOf F a.0 a.1 j.0 j.1
+
+-- the segment's file holds the base, and no other
+pub record HoldsBase (C : CatalogData) (F : FileContents) (p s : ℕ) (segment : SegmentData) : Type 0 where
+  pub bytes : List ℕ
+  pub there : F (FileName.Seg p s) ≡ Some bytes
+  pub kinds : segment.kinds ≡ kinds_at C p
+  pub file : IsSegmentFile C p s bytes segment.base
+  pub only : (b : Base) → IsSegmentFile C p s bytes b → b ≡ segment.base
+
+-- the delta's file holds these changes, and no others
+pub record HoldsChanges (C : CatalogData) (F : FileContents) (p s : ℕ) (d : DeltaData) : Type 0 where
+  pub bytes : List ℕ
+  pub there : F (FileName.Del p s) ≡ Some bytes
+  pub file : IsDeltaFile C p s bytes d
+  pub only : (c : DeltaData) → IsDeltaFile C p s bytes c → c ≡ d
+
+-- the first target whose join index is bad
+pub record IsFirstBadJoin (C : CatalogData) (F : FileContents) (p s : ℕ) (f : Fault) : Type 0 where
+  pub target : ℕ
+  pub below : target < length C.projections
+  pub declared : has_join C p target ≡ true
+  pub refused : IsRefused C F (FileName.Jix p s target) f
+  pub before : (r : ℕ) → r < target → has_join C p r ≡ true → IsSound C F (FileName.Jix p s r)
+
+-- what the fault of the i-th of some segments is, and what an answer there meets
+abbrev pub FilesFaultAt : CatalogData → FileContents → List (ℕ × ℕ) → ℕ → Option Fault → Type 0
+FilesFaultAt C F segments i fault = (a : ℕ × ℕ) × (slice_get segments i ≡ Some a) × IsFilesFault C F a fault
+
+abbrev pub FilesAnswerAt : CatalogData → FileContents → List (ℕ × ℕ) → ℕ → SegmentFiles → Type 0
+FilesAnswerAt C F segments i out = (a : ℕ × ℕ) × (slice_get segments i ≡ Some a) × AreFilesOf C F a out
+
+-- ---- what is kept
+
+-- the image and the join indexes of a segment, as its files hold them, are kept
+pub record IsKept (C : CatalogData) (F : FileContents) (v : SurvivorsData) (a : ℕ × ℕ) : Type 0 where
+  pub image : (m : KindedImage) × (image_at v a.0 a.1 ≡ Some m) × IsImageOf C F a.0 a.1 m.image
+  pub joins : (q : ℕ) → IsIn q (joins_of C a.0) → (entries : List Place) × (join_at v a.0 a.1 q ≡ Some entries) × IsJoinOf F a.0 a.1 q entries
+
+-- what is kept of the other segments is not changed
+pub record AreOthersKept (v : SurvivorsData) (a : ℕ × ℕ) (w : SurvivorsData) : Type 0 where
+  pub images : (p s : ℕ) → ((p ≡ a.0) × (s ≡ a.1) → ⊥) → image_at w p s ≡ image_at v p s
+  pub joins : (p s q : ℕ) → ((p ≡ a.0) × (s ≡ a.1) → ⊥) → join_at w p s q ≡ join_at v p s q
+
+-- the join indexes of a list, from the n-th on, are there under their targets, or others of the list in their place
+abbrev pub AreJoinsKept : SurvivorsData → ℕ → ℕ → List (ℕ × List Place) → ℕ → Type 0
+AreJoinsKept v p s joins n = (k : ℕ) (j : ℕ × List Place) → n ≤ k → slice_get joins k ≡ Some j → (entries : List Place) × IsIn (j.0, entries) joins × (join_at v p s j.0 ≡ Some entries)

@@ -1,0 +1,74 @@
+-- What each step of a recovery finds.
+use Rattle.std.specs.Prelude.{◌≡◌, ◌<◌, ◌^◌, Bool, true, false, List, map, Option, None, Ok, Err, length}
+use Rattle.std.specs.Option.{option_or}
+use Rattle.cs_schema.specs.declared.file_name.FileName.{FileName}
+use Rattle.cs_schema.specs.CatalogData.{CatalogData}
+use Rattle.cs_schema.specs.FileNames.{FileContents}
+use Rattle.cs_schema.specs.Losses.{Sites}
+use Rattle.cs_schema.specs.Rows.{Row}
+use Rattle.cs_store.specs.declared.fault.Fault.{Fault}
+use Rattle.cs_safety.specs.declared.ksafety.SafetyFault.{SafetyFault}
+use Rattle.cs_rows.specs.Walk.{Contents, Stray}
+use Rattle.cs_rows.specs.Survivors.{SurvivorsData, HasRoom, HoldsImages, contents_of}
+use Rattle.cs_rows.specs.WalkedView.{WalkedData}
+use Rattle.cs_rebuild.specs.Ground.{AreImagesThere, AreJoinsThere}
+use Rattle.cs_order.specs.Orders.{OrdersData, AreOrdersOf}
+use Rattle.cs_recovery.specs.Contents.{Reads}
+use Rattle.cs_order.specs.Tables.{table_of}
+use Rattle.cs_recovery.specs.Verdicts.{IsFirstBadFile, IsWalkedBy, twice, full, misplaced, misled}
+
+-- want of memory, as a test
+abbrev pub is_memory : Fault → Bool
+is_memory Fault.Memory = true
+is_memory Fault.Site = false
+is_memory Fault.BadK = false
+is_memory (Fault.Unsafe L) = false
+is_memory (Fault.Missing n) = false
+is_memory (Fault.Damaged n) = false
+is_memory (Fault.Astray p s row) = false
+is_memory Fault.Twice = false
+is_memory (Fault.Full p s) = false
+is_memory (Fault.Misplaced p s) = false
+is_memory (Fault.Misled p s q) = false
+is_memory (Fault.Read n) = false
+is_memory (Fault.Write n) = false
+
+-- the fault of the least bad file
+abbrev pub IsBadFile : CatalogData → FileContents → Sites → Fault → Type 0
+IsBadFile C F L f = (n : FileName) × IsFirstBadFile C F L n f
+
+-- what the surviving files hold is kept
+pub record AreRead (C : CatalogData) (F : FileContents) (L : Sites) (v : SurvivorsData) : Type 0 where
+  pub reads : Reads C F L (contents_of v)
+  pub room : HasRoom C v
+  pub made : HoldsImages C v
+  pub images_there : AreImagesThere C L v
+  pub joins_there : AreJoinsThere C L v
+
+-- the fault of the first row that is astray
+abbrev pub IsStray : CatalogData → Sites → Contents → Fault → Type 0
+IsStray C L S f = (at : Stray) × IsWalkedBy C.safety C L S (Err at) × (f ≡ Fault.Astray at.0 at.1 at.2)
+
+-- the rows to which the walk leads, with the kinds of the table's columns
+pub record AreWalkedRows (C : CatalogData) (L : Sites) (S : Contents) (w : WalkedData) : Type 0 where
+  pub kinds : w.kinds ≡ map (λ c. c.kind) C.columns
+  pub few : length w.rows < 2 ^ 32
+  pub walk : IsWalkedBy C.safety C L S (Ok w.rows)
+
+-- a key twice, or else a range that is too large
+abbrev pub row_fault : CatalogData → List Row → Option Fault
+row_fault C rows = option_or (twice C rows) (full C (table_of C rows))
+
+-- What a sound store comes to: its contents, the rows to which its walk leads, and their orders.
+pub record AreSound (C : CatalogData) (F : FileContents) (L : Sites) (v : SurvivorsData) (w : WalkedData) (o : OrdersData) : Type 0 where
+  pub read : AreRead C F L v
+  pub walked : AreWalkedRows C L (contents_of v) w
+  pub rows_sound : row_fault C w.rows ≡ None
+  pub placed : misplaced C L (contents_of v) (table_of C w.rows) ≡ None
+  pub led : misled C L (contents_of v) (table_of C w.rows) ≡ None
+  pub orders : AreOrdersOf C w.rows o
+
+-- how a catalog that is not safe is refused
+abbrev pub safety_refusal : SafetyFault → Fault
+safety_refusal SafetyFault.BadK = Fault.BadK
+safety_refusal (SafetyFault.Unsafe L) = Fault.Unsafe L

@@ -1,0 +1,43 @@
+-- What comparing each surviving file with the table finds.
+use Rattle.std.specs.Prelude.{◌≡◌, ℕ, Bool, not, List, map, Option}
+use Rattle.std.specs.List.{slice_get}
+use Rattle.std.specs.Option.{option_and_then, unwrap_or}
+use lib.Pointwise.{pointwise}
+use Rattle.cs_store.specs.declared.fault.Fault.{Fault}
+use Rattle.cs_schema.specs.CatalogData.{CatalogData}
+use Rattle.cs_schema.specs.Losses.{Sites}
+use Rattle.cs_schema.specs.Rows.{Row, project}
+use Rattle.cs_schema.specs.Values.{value_eq}
+use Rattle.cs_schema.specs.Order.{rows_of}
+use Rattle.cs_delta.specs.Image.{image_rows}
+use Rattle.cs_jix.specs.JoinIndex.{Place, no_place, entry_at}
+use Rattle.cs_rows.specs.Walk.{Contents}
+use Rattle.cs_recovery.specs.Tables.{when}
+use Rattle.cs_recovery.specs.Holding.{agrees}
+use Rattle.cs_recovery.specs.Places.{entries_for}
+
+-- the image of a segment is not of the table's rows
+abbrev pub is_misplaced : CatalogData → Contents → List Row → ℕ × ℕ → Bool
+is_misplaced C S T a = not (pointwise (pointwise value_eq) (image_rows (S.image a.0 a.1)) (map (project C a.0) (rows_of C T a.0 a.1)))
+
+-- the fault of a segment
+abbrev pub misplaced_at : CatalogData → Contents → List Row → ℕ × ℕ → Option Fault
+misplaced_at C S T a = when (is_misplaced C S T a) (Fault.Misplaced a.0 a.1)
+
+abbrev pub PlacedFaultAt : CatalogData → Contents → List Row → List (ℕ × ℕ) → ℕ → Option Fault → Type 0
+PlacedFaultAt C S T segments i fault = fault ≡ option_and_then (misplaced_at C S T) (slice_get segments i)
+
+-- a join index does not lead to the places of its rows
+abbrev pub is_misled : CatalogData → Sites → Contents → List Row → ℕ × ℕ × ℕ → Bool
+is_misled C L S T a = not (pointwise (agrees C L a.2) (S.join a.0 a.1 a.2) (entries_for C L S T a.0 a.1 a.2))
+
+-- the fault of a join index
+abbrev pub misled_at : CatalogData → Sites → Contents → List Row → ℕ × ℕ × ℕ → Option Fault
+misled_at C L S T a = when (is_misled C L S T a) (Fault.Misled a.0 a.1 a.2)
+
+abbrev pub JoinedFaultAt : CatalogData → Sites → Contents → List Row → List (ℕ × ℕ × ℕ) → ℕ → Option Fault → Type 0
+JoinedFaultAt C L S T joins i fault = fault ≡ option_and_then (misled_at C L S T) (slice_get joins i)
+
+-- the entry at a key as the file has it, where an entry with no key has no segment
+abbrev pub raw_entry : List Place → ℕ → Place
+raw_entry entries key = unwrap_or (entry_at entries key) no_place

@@ -1,0 +1,44 @@
+-- What the walks of pieces of rows find, by the rule of whole projections and by rows.
+use Rattle.std.specs.Prelude.{◌≡◌, ℕ, ◌*◌, List, map, take, drop, Option}
+use Rattle.std.specs.Option.{option_map}
+use Rattle.std.specs.List.{find, filter_map}
+use Rattle.cs_store.specs.declared.fault.Fault.{Fault}
+use Rattle.cs_schema.specs.CatalogData.{CatalogData}
+use Rattle.cs_schema.specs.Losses.{Sites}
+use Rattle.cs_safety.specs.PlanData.{PlanData}
+use Rattle.cs_rows.specs.Walk.{Contents, At, projection_rows, walked_row, is_astray}
+use Rattle.cs_rows.specs.WalkByRows.{Reached, surviving_rows}
+use Rattle.cs_rows.specs.RangeByRows.{is_stray_row, row_from}
+use Rattle.cs_rows.specs.WalkedView.{WalkedData}
+
+-- the i-th piece of a list
+abbrev pub piece_of : {X : Type 0} → ℕ → List X → ℕ → List X
+piece_of cut xs i = take cut (drop (i * cut) xs)
+
+-- the kinds of the table's columns
+abbrev pub HasTableKinds : CatalogData → WalkedData → Type 0
+HasTableKinds C w = w.kinds ≡ map (λ c. c.kind) C.columns
+
+-- ---- by whole projections
+
+abbrev pub stray_fault : PlanData → At → Fault
+stray_fault P at = Fault.Astray P.anchor at.0 at.1
+
+-- the fault of the i-th piece: that of its first row that is astray
+abbrev pub WalkFaultAt : CatalogData → Contents → PlanData → ℕ → ℕ → Option Fault → Type 0
+WalkFaultAt C S P cut i fault = fault ≡ option_map (stray_fault P) (find (is_astray C S P) (piece_of cut (projection_rows C S P.anchor) i))
+
+-- an answer at the i-th piece: the rows to which its rows lead
+abbrev pub WalkAnswerAt : CatalogData → Contents → PlanData → ℕ → ℕ → WalkedData → Type 0
+WalkAnswerAt C S P cut i w = HasTableKinds C w × (w.rows ≡ map (walked_row C S P) (piece_of cut (projection_rows C S P.anchor) i))
+
+-- ---- by rows
+
+abbrev pub stray_row_fault : Reached → Fault
+stray_row_fault x = Fault.Astray x.0 x.1.0 x.1.1
+
+abbrev pub RowsFaultAt : CatalogData → Sites → Contents → ℕ → ℕ → Option Fault → Type 0
+RowsFaultAt C L S cut i fault = fault ≡ option_map stray_row_fault (find (is_stray_row C L S) (piece_of cut (surviving_rows C L S) i))
+
+abbrev pub RowsAnswerAt : CatalogData → Sites → Contents → ℕ → ℕ → WalkedData → Type 0
+RowsAnswerAt C L S cut i w = HasTableKinds C w × (w.rows ≡ filter_map (row_from C L S) (piece_of cut (surviving_rows C L S) i))

@@ -1,0 +1,178 @@
+//! Encoding the columns of a lost segment, in pieces.
+ghost use Rattle.std.specs.Prelude.{◌≡◌, ◌<◌, ◌≤◌, ◌*◌, ℕ, None, Some, length, map, slice_index, IfOk, IfErr};
+ghost use Rattle.cs_schema.specs.declared.kinds.Code.{Code as CodeData};
+ghost use Rattle.cs_schema.specs.declared.kinds.Kind.{Kind as KindData};
+ghost use Rattle.cs_schema.specs.CatalogData.{projection, code_at, kind_at, HasSegment};
+ghost use Rattle.cs_schema.specs.FileNames.{FileContents};
+ghost use Rattle.cs_schema.specs.Order.{rows_of, row_limit};
+ghost use Rattle.cs_schema.specs.Rows.{cell, project};
+ghost use Rattle.cs_schema.specs.Values.{values, kind_of};
+ghost use Rattle.cs_codec.specs.ColumnText.{FitsCode};
+ghost use Rattle.cs_piece.specs.Pieces.{IsPieceOf};
+ghost use Rattle.cs_segment.specs.SegmentFile.{base_of};
+ghost use Rattle.cs_segment.specs.SegmentPieces.{ArePiecesOf};
+ghost use Rattle.cs_store.specs.declared.fault.Fault.{Fault as FaultData};
+ghost use Rattle.cs_order.specs.Tables.{table_of};
+ghost use Rattle.cs_rebuild.specs.Steps.{AreSound, is_memory};
+ghost use Rattle.cs_rebuild.specs.Encoding.{pieces_of, values_at, cut_at, Rises, EncodeAnswerAt};
+ghost use Rattle.cs_rebuild.specs.WorkLaws.{no_fault_is_memory, one_value};
+
+use crate::columns::table_column;
+use crate::crew::Crew;
+use crate::ground::Ground;
+use cs_board::{Gate, RunFault, Work, run};
+use cs_piece::{Piece, encode_piece};
+use cs_schema::Cells;
+use cs_store::Fault;
+use std::alloc::{AllocError, Global};
+use std::marker::Sync;
+use std::thread::Threads;
+
+/// How many pieces a column of so many rows has.
+pub fn pieces_in(rows: usize, cut: u32) -> u32
+    requires rows { rows ≤ 1048576 }
+    requires cut { 1 ≤ cut }
+    ensures count { result ≡ pieces_of rows cut }
+    ensures few { (1 ≤ result) × (result ≤ 1048576) }
+{
+    if rows == 0 {
+        return 1;
+    }
+    ((rows + cut as usize - 1) / cut as usize) as u32
+}
+
+/// Copies of the cells of a column at some places, in their order.
+fn cells_at(alloc: Global, column: &Cells, numbers: &[u32]) -> Result<Cells, AllocError>
+    requires { (k : ℕ) → k < length numbers.now → slice_index numbers.now k < length (values column.now) }
+    ensures kind { IfOk result (λ cells. kind_of cells ≡ kind_of column.now) }
+    ensures cells { IfOk result (λ cells. values cells ≡ map (cell (values column.now)) numbers.now) }
+{
+    let mut cells = Cells::new(alloc, column.kind());
+    for k in 0..numbers.len() {
+        cells.push_cell(column, numbers[k] as usize)?;
+    }
+    Ok(cells)
+}
+
+/// Encodes the cells of a projection's column at some walked rows.
+fn encode_rows(
+    alloc: Global,
+    ground: &Ground<'_>,
+    p: u16,
+    j: usize,
+    numbers: &[u32],
+) -> Result<Piece, AllocError>
+    requires projection { p < length ground.now.catalog.now.projections }
+    requires column { j < length (projection ground.now.catalog.now p).columns }
+    requires below { (k : ℕ) → k < length numbers.now → slice_index numbers.now k < length ground.now.walked.now.rows }
+    requires few { length numbers.now ≤ row_limit }
+    requires order { FitsCode (code_at ground.now.catalog.now p j) (kind_at ground.now.catalog.now p j) (values_at ground.now.catalog.now p ground.now.walked.now.rows j numbers.now) }
+    ensures { IfOk result (λ piece. IsPieceOf piece (code_at ground.now.catalog.now p j) (kind_at ground.now.catalog.now p j) (values_at ground.now.catalog.now p ground.now.walked.now.rows j numbers.now)) }
+{
+    let column = ground.walked.column(table_column(ground.catalog, p, j));
+    let cells = cells_at(alloc, column, numbers)?;
+    encode_piece(alloc, ground.catalog.code(p, j), &cells)
+}
+
+/// The numbers of the k-th piece of `cut` numbers.
+fn cut_of(numbers: &[u32], cut: u32, k: u32) -> &[u32]
+    requires { cut ≤ 1048576 }
+    ensures { result.now ≡ cut_at cut numbers.now k }
+{
+    let from = (k as usize * cut as usize).min(numbers.len());
+    let to = (from + cut as usize).min(numbers.len());
+    &numbers[from..to]
+}
+
+/// The encoding of the columns of one segment, in pieces of `cut` rows.
+#[derive(Drop)]
+pub struct EncodeWork<'a> {
+    pub alloc: Global,
+    pub ground: &'a Ground<'a>,
+    pub p: u16,
+    pub numbers: &'a [u32],
+    pub cut: u32,
+    pub per: u32,
+    pub pieces: u32,
+    pub ghost exists: { p < length ground.now.catalog.now.projections },
+    pub ghost cut_range: { (1 ≤ cut) × (cut ≤ 1048576) },
+    pub ghost per_is: { per ≡ pieces_of (length numbers.now) cut },
+    pub ghost some: { 1 ≤ per },
+    pub ghost pieces_are: { pieces ≡ length (projection ground.now.catalog.now p).columns * per },
+    pub ghost below: { (k : ℕ) → k < length numbers.now → slice_index numbers.now k < length ground.now.walked.now.rows },
+    pub ghost few: { length numbers.now ≤ row_limit },
+    pub ghost rises: { (j : ℕ) → j < length (projection ground.now.catalog.now p).columns → code_at ground.now.catalog.now p j ≡ CodeData.Differences → (kind_at ground.now.catalog.now p j ≡ KindData.Int) × Rises (values_at ground.now.catalog.now p ground.now.walked.now.rows j numbers.now) },
+}
+
+impl Work for EncodeWork<'_> {
+    type Out = Piece;
+
+    type Fault = Fault;
+
+    ghost pieces = { λ work. work.pieces };
+
+    ghost fault_at = { λ work i fault. fault ≡ None };
+
+    ghost answers = { λ work i out. EncodeAnswerAt work.ground.now.catalog.now work.p work.ground.now.walked.now.rows work.numbers.now work.cut i out };
+
+    ghost of_memory = { is_memory };
+
+    fn count(&self) -> u32 {
+        self.pieces
+    }
+
+    fn piece(&self, i: u32) -> Result<Piece, Fault> {
+        let j = (i / self.per) as usize;
+        let numbers = cut_of(self.numbers, self.cut, i % self.per);
+        match encode_rows(self.alloc, self.ground, self.p, j, numbers) {
+            Ok(piece) => Ok(piece),
+            Err(_) => Err(Fault::Memory),
+        }
+    }
+
+    fn is_memory(fault: &Fault) -> bool
+        ensures { result ≡ is_memory fault.now }
+    {
+        match fault {
+            Fault::Memory => true,
+            _ => false,
+        }
+    }
+
+    ghost never_memory = { λ work i fault below at. no_fault_is_memory fault at };
+
+    ghost one_fault = { λ work i f g below a b. one_value None f g a b };
+}
+
+/// The columns of a lost segment, as the table has them, encoded in pieces by the crew.
+pub fn encode_columns<R: Threads + Sync, G: Gate + Sync>(
+    crew: &Crew<'_, R, G>,
+    ground: &Ground<'_>,
+    p: u16,
+    s: u16,
+) -> Result<Vec<Piece>, Fault>
+    requires segment { HasSegment ground.now.catalog.now p s }
+    requires sound { (F : FileContents) × AreSound ground.now.catalog.now F ground.now.loss ground.now.survivors.now ground.now.walked.now ground.now.orders.now }
+    ensures ok { IfOk result (λ pieces. ArePiecesOf ground.now.catalog.now p (length (rows_of ground.now.catalog.now (table_of ground.now.catalog.now ground.now.walked.now.rows) p s)) pieces.items (base_of ground.now.catalog.now p (map (project ground.now.catalog.now p) (rows_of ground.now.catalog.now (table_of ground.now.catalog.now ground.now.walked.now.rows) p s)))) }
+    ensures err { IfErr result (λ fault. fault ≡ FaultData.Memory) }
+{
+    let numbers = ground.orders.segment(p, s);
+    let per = pieces_in(numbers.len(), crew.cut);
+    let work = EncodeWork {
+        alloc: crew.alloc,
+        ground,
+        p,
+        numbers,
+        cut: crew.cut,
+        per,
+        pieces: ground.catalog.width(p) as u32 * per,
+    };
+    match run(crew.rt, crew.alloc, crew.workers, &work, crew.gate) {
+        Ok(pieces) => match work.join_columns(pieces) {
+            Ok(columns) => Ok(columns),
+            Err(_) => Err(Fault::Memory),
+        },
+        Err(RunFault::Memory) => Err(Fault::Memory),
+        Err(RunFault::At(_, fault)) => Err(fault),
+    }
+}

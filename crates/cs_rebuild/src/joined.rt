@@ -1,0 +1,160 @@
+//! Comparing the surviving join indexes with the places of their rows.
+ghost use Rattle.std.specs.Prelude.{◌≡◌, ◌<◌, ◌≤◌, ℕ, Some, None, IfErr, OnOk, length, not};
+ghost use Rattle.std.specs.List.{slice_get};
+ghost use Rattle.std.specs.Option.{option_and_then};
+ghost use lib.Pointwise.{pointwise};
+ghost use Rattle.cs_schema.specs.declared.file_name.FileName.{FileName as NameData};
+ghost use Rattle.cs_schema.specs.CatalogData.{segments};
+ghost use Rattle.cs_schema.specs.FileNames.{Survives};
+ghost use Rattle.cs_schema.specs.Lists.{IsIn};
+ghost use Rattle.cs_jix.specs.JoinIndex.{Place};
+ghost use Rattle.cs_store.specs.Fault.{MemoryOr};
+ghost use Rattle.cs_rows.specs.Survivors.{contents_of};
+ghost use Rattle.cs_order.specs.Tables.{table_of};
+ghost use Rattle.cs_recovery.specs.Holding.{agrees};
+ghost use Rattle.cs_recovery.specs.Places.{entries_for};
+ghost use Rattle.cs_recovery.specs.Verdicts.{surviving_joins, misled};
+ghost use Rattle.cs_rebuild.specs.Steps.{is_memory};
+ghost use Rattle.cs_rebuild.specs.Verifying.{JoinedFaultAt, is_misled, misled_at, raw_entry};
+ghost use Rattle.cs_rebuild.specs.WorkLaws.{misled_is_no_memory, one_value};
+
+use crate::crew::Crew;
+use crate::ground::Ground;
+use crate::places::{entry_for, top_after};
+use cs_board::{Gate, RunFault, Work, run};
+use cs_jix::JoinIndex;
+use cs_schema::{Catalog, Loss};
+use cs_store::Fault;
+use std::marker::Sync;
+use std::thread::Threads;
+
+/// The entry at a key, `(0, 0)` where it has no place.
+fn raw_entry(join: &JoinIndex, key: u32) -> (u16, u32)
+    ensures { result ≡ raw_entry join.now key }
+{
+    match join.entry(key) {
+        Some(place) => place,
+        None => (0, 0),
+    }
+}
+
+/// Whether an entry is the expected one. Of a place in a lost segment only the segment is fixed.
+fn agrees(catalog: &Catalog, loss: Loss, q: u16, entry: (u16, u32), place: (u16, u32)) -> bool
+    requires target { q < length catalog.now.projections }
+    requires segment { place.0 < segments catalog.now q }
+    ensures { result ≡ agrees catalog.now loss q entry place }
+{
+    if entry.0 != place.0 {
+        return false;
+    }
+    if place.1 != 0 && catalog.lost(q, place.0, loss) {
+        return entry.1 >= 1;
+    }
+    entry.1 == place.1
+}
+
+/// Whether a join index of a segment has the expected entries.
+fn leads(ground: &Ground<'_>, p: u16, s: u16, q: u16, join: &JoinIndex) -> bool
+    requires survives { Survives ground.now.catalog.now ground.now.loss (NameData.Jix p s q) }
+    requires target { q < length ground.now.catalog.now.projections }
+    requires entries { (e : Place) → IsIn e join.now → e.1 ≡ 0 → e.0 ≡ 0 }
+    ensures { result ≡ pointwise (agrees ground.now.catalog.now ground.now.loss q) join.now (entries_for ground.now.catalog.now ground.now.loss (contents_of ground.now.survivors.now) (table_of ground.now.catalog.now ground.now.walked.now.rows) p s q) }
+{
+    let top = top_after(ground, p, s);
+    if join.top() != top {
+        return false;
+    }
+    for i in 0..top {
+        let place = entry_for(ground, p, s, q, i + 1);
+        if !agrees(
+            ground.catalog,
+            ground.loss,
+            q,
+            raw_entry(join, i + 1),
+            place,
+        ) {
+            return false;
+        }
+    }
+    true
+}
+
+/// Whether a surviving join index leads to the places of its rows.
+fn is_led(ground: &Ground<'_>, p: u16, s: u16, q: u16) -> bool
+    requires { Survives ground.now.catalog.now ground.now.loss (NameData.Jix p s q) }
+    ensures { result ≡ not (is_misled ground.now.catalog.now ground.now.loss (contents_of ground.now.survivors.now) (table_of ground.now.catalog.now ground.now.walked.now.rows) (p, s, q)) }
+{
+    let _rules = ground.catalog.projection_count();
+    match ground.survivors.join(p as usize, s as usize, q as usize) {
+        Some(join) => leads(ground, p, s, q, join),
+        None => unreachable!(),
+    }
+}
+
+/// The comparing of some join indexes with the places of their rows.
+#[derive(Drop)]
+struct JoinedWork<'a> {
+    ground: &'a Ground<'a>,
+    joins: &'a [(u16, u16, u16)],
+    ghost few: { length joins.now ≤ 1024 },
+    ghost survive: { (a : ℕ × ℕ × ℕ) → IsIn a joins.now → Survives ground.now.catalog.now ground.now.loss (NameData.Jix a.0 a.1 a.2) },
+}
+
+impl Work for JoinedWork<'_> {
+    type Out = ();
+
+    type Fault = Fault;
+
+    ghost pieces = { λ work. length work.joins.now };
+
+    ghost fault_at = { λ work i fault. JoinedFaultAt work.ground.now.catalog.now work.ground.now.loss (contents_of work.ground.now.survivors.now) (table_of work.ground.now.catalog.now work.ground.now.walked.now.rows) work.joins.now i fault };
+
+    ghost answers = { λ work i out. Unit {0} };
+
+    ghost of_memory = { is_memory };
+
+    fn count(&self) -> u32 {
+        self.joins.len() as u32
+    }
+
+    fn piece(&self, i: u32) -> Result<(), Fault> {
+        let (p, s, q) = self.joins[i as usize];
+        if is_led(self.ground, p, s, q) {
+            Ok(())
+        } else {
+            Err(Fault::Misled { p, s, q })
+        }
+    }
+
+    fn is_memory(fault: &Fault) -> bool
+        ensures { result ≡ is_memory fault.now }
+    {
+        match fault {
+            Fault::Memory => true,
+            _ => false,
+        }
+    }
+
+    ghost never_memory = { λ work i fault below at. misled_is_no_memory work.ground.now.catalog.now work.ground.now.loss (contents_of work.ground.now.survivors.now) (table_of work.ground.now.catalog.now work.ground.now.walked.now.rows) (slice_get work.joins.now i) fault at };
+
+    ghost one_fault = { λ work i f g below a b. one_value (option_and_then (misled_at work.ground.now.catalog.now work.ground.now.loss (contents_of work.ground.now.survivors.now) (table_of work.ground.now.catalog.now work.ground.now.walked.now.rows)) (slice_get work.joins.now i)) f g a b };
+}
+
+/// Compares each surviving join index with the places of its rows.
+pub fn verify_joins<R: Threads + Sync, G: Gate + Sync>(
+    crew: &Crew<'_, R, G>,
+    ground: &Ground<'_>,
+    joins: &[(u16, u16, u16)],
+) -> Result<(), Fault>
+    requires few { length joins.now ≤ 1024 }
+    requires joins { joins.now ≡ surviving_joins ground.now.catalog.now ground.now.loss }
+    ensures ok { OnOk result (misled ground.now.catalog.now ground.now.loss (contents_of ground.now.survivors.now) (table_of ground.now.catalog.now ground.now.walked.now.rows) ≡ None) }
+    ensures err { IfErr result (λ fault. MemoryOr fault (misled ground.now.catalog.now ground.now.loss (contents_of ground.now.survivors.now) (table_of ground.now.catalog.now ground.now.walked.now.rows) ≡ Some fault)) }
+{
+    let work = JoinedWork { ground, joins };
+    match run(crew.rt, crew.alloc, crew.workers, &work, crew.gate) {
+        Ok(_done) => Ok(()),
+        Err(RunFault::Memory) => Err(Fault::Memory),
+        Err(RunFault::At(_, fault)) => Err(fault),
+    }
+}

@@ -1,0 +1,33 @@
+//! The orders of the walked rows.
+ghost use Rattle.std.specs.Prelude.{◌≡◌, ◌<◌, ◌^◌, length, map, Some, None, IfOk, IfErr};
+ghost use Rattle.cs_store.specs.Fault.{MemoryOr};
+ghost use Rattle.cs_order.specs.Orders.{AreOrdersOf};
+ghost use Rattle.cs_rebuild.specs.Steps.{row_fault};
+
+use crate::crew::Crew;
+use cs_order::{OrderFault, Orders, orders};
+use cs_rows::Walked;
+use cs_schema::Catalog;
+use cs_store::Fault;
+use std::marker::Sync;
+use std::thread::Threads;
+
+/// The orders of the walked rows, unless a key stands twice or a range is too large.
+pub fn orders_of<R: Threads + Sync, G>(
+    crew: &Crew<'_, R, G>,
+    catalog: &Catalog,
+    walked: &Walked,
+) -> Result<Orders, Fault>
+    requires kinds { walked.now.kinds ≡ map (λ c. c.kind) catalog.now.columns }
+    requires few { length walked.now.rows < 2 ^ 32 }
+    ensures ok { IfOk result (AreOrdersOf catalog.now walked.now.rows) }
+    ensures sound { IfOk result (λ _. row_fault catalog.now walked.now.rows ≡ None) }
+    ensures err { IfErr result (λ fault. MemoryOr fault (row_fault catalog.now walked.now.rows ≡ Some fault)) }
+{
+    match orders(crew.rt, crew.alloc, walked, catalog) {
+        Ok(orders) => Ok(orders),
+        Err(OrderFault::Memory) => Err(Fault::Memory),
+        Err(OrderFault::Twice) => Err(Fault::Twice),
+        Err(OrderFault::Full { p, s }) => Err(Fault::Full { p, s }),
+    }
+}

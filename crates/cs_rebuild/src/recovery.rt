@@ -1,0 +1,161 @@
+//! Recovery and the check of a store.
+ghost use Rattle.std.specs.Prelude.{◌≡◌, ◌≤◌, []};
+ghost use Rattle.cs_safety.specs.Safety.{IsSafe, IsKSafe};
+ghost use Rattle.cs_store.specs.FileSet.{contents_of};
+ghost use Rattle.cs_recovery.specs.Claims.{IsRebuildAnswer, IsCheckAnswer};
+ghost use Rattle.cs_recovery.specs.Laws.{RebuildClauses, CheckClauses};
+ghost use Rattle.cs_rebuild.specs.Steps.{safety_refusal as refusal_of};
+
+use crate::crew::Crew;
+use crate::ground::ground_of;
+use crate::judging::judge;
+use crate::writing::write_lost;
+use cs_board::{Gate, OpenGate};
+use cs_safety::{SafetyFault, ksafe, safe};
+use cs_schema::{Catalog, Loss};
+use cs_store::{Fault, FileSet};
+use std::alloc::Global;
+use std::marker::Sync;
+use std::thread::Threads;
+
+/// The files that recover what a loss takes from a store: the lost segments with their deltas and join indexes, and the
+/// join indexes that lead to lost segments. Only the files of surviving segments are looked at. `cut` is the number of
+/// rows of a piece of work.
+///
+/// The first refusal that applies comes: `Site`, `Unsafe`, `Missing` or `Damaged` of the least such file, `Astray`, `Twice`,
+/// `Full`, `Misplaced`, `Misled`. `Memory` may take the place of any answer.
+pub fn rebuild<R: Threads + Sync>(
+    rt: &R,
+    alloc: Global,
+    catalog: &Catalog,
+    files: &FileSet,
+    loss: Loss,
+    workers: u32,
+    cut: u32,
+) -> Result<FileSet, Fault>
+    requires workers { (1 ≤ workers) × (workers ≤ 64) }
+    requires cut { (1 ≤ cut) × (cut ≤ 1048576) }
+    ensures answer { IsRebuildAnswer catalog.now (contents_of files.now) loss result }
+    ensures clauses { RebuildClauses catalog.now (contents_of files.now) loss result }
+{
+    rebuild_gated(rt, alloc, catalog, files, loss, workers, cut, &OpenGate)
+}
+
+/// `rebuild`, where the gate is told of each piece as it is begun.
+pub fn rebuild_gated<R: Threads + Sync, G: Gate + Sync>(
+    rt: &R,
+    alloc: Global,
+    catalog: &Catalog,
+    files: &FileSet,
+    loss: Loss,
+    workers: u32,
+    cut: u32,
+    gate: &G,
+) -> Result<FileSet, Fault>
+    requires workers { (1 ≤ workers) × (workers ≤ 64) }
+    requires cut { (1 ≤ cut) × (cut ≤ 1048576) }
+    ensures answer { IsRebuildAnswer catalog.now (contents_of files.now) loss result }
+    ensures clauses { RebuildClauses catalog.now (contents_of files.now) loss result }
+{
+    let _rules = catalog.projection_count();
+    let _sites = loss.count();
+    if !catalog.has_sites(loss) {
+        return Err(Fault::Site);
+    }
+    if !safe(catalog, loss) {
+        return Err(Fault::Unsafe(loss));
+    }
+    let crew = Crew {
+        rt,
+        alloc,
+        workers,
+        cut,
+        gate,
+    };
+    match judge(&crew, catalog, files, loss) {
+        Ok(store) => {
+            let ground = ground_of(
+                catalog,
+                loss,
+                &store.survivors,
+                &store.walked,
+                &store.orders,
+            );
+            write_lost(&crew, &ground)
+        }
+        Err(fault) => Err(fault),
+    }
+}
+
+/// The number of rows of a store that is sound, and safe for losses of at most `k` sites.
+///
+/// The first refusal that applies comes: `BadK`, `Unsafe` with the first loss that isn't safe, then those of `rebuild`
+/// where nothing is lost. `Memory` may take the place of any answer.
+pub fn check<R: Threads + Sync>(
+    rt: &R,
+    alloc: Global,
+    catalog: &Catalog,
+    files: &FileSet,
+    k: u8,
+    workers: u32,
+    cut: u32,
+) -> Result<u64, Fault>
+    requires workers { (1 ≤ workers) × (workers ≤ 64) }
+    requires cut { (1 ≤ cut) × (cut ≤ 1048576) }
+    ensures answer { IsCheckAnswer catalog.now (contents_of files.now) k result }
+    ensures clauses { CheckClauses catalog.now (contents_of files.now) k result }
+{
+    check_gated(rt, alloc, catalog, files, k, workers, cut, &OpenGate)
+}
+
+/// `check`, where the gate is told of each piece as it is begun.
+pub fn check_gated<R: Threads + Sync, G: Gate + Sync>(
+    rt: &R,
+    alloc: Global,
+    catalog: &Catalog,
+    files: &FileSet,
+    k: u8,
+    workers: u32,
+    cut: u32,
+    gate: &G,
+) -> Result<u64, Fault>
+    requires workers { (1 ≤ workers) × (workers ≤ 64) }
+    requires cut { (1 ≤ cut) × (cut ≤ 1048576) }
+    ensures answer { IsCheckAnswer catalog.now (contents_of files.now) k result }
+    ensures clauses { CheckClauses catalog.now (contents_of files.now) k result }
+{
+    let _rules = catalog.projection_count();
+    if let Err(fault) = ksafe(catalog, k) {
+        return Err(safety_refusal(fault));
+    }
+    let crew = Crew {
+        rt,
+        alloc,
+        workers,
+        cut,
+        gate,
+    };
+    match judge(&crew, catalog, files, no_loss(catalog, k)) {
+        Ok(store) => Ok(store.walked.rows() as u64),
+        Err(fault) => Err(fault),
+    }
+}
+
+/// How a catalog that is not safe is refused.
+fn safety_refusal(fault: SafetyFault) -> Fault
+    ensures { result ≡ refusal_of fault }
+{
+    match fault {
+        SafetyFault::BadK => Fault::BadK,
+        SafetyFault::Unsafe(loss) => Fault::Unsafe(loss),
+    }
+}
+
+/// The loss of no site, which is safe where any is.
+fn no_loss(catalog: &Catalog, k: u8) -> Loss
+    requires { IsKSafe catalog.now k }
+    ensures none { result ≡ [] }
+    ensures safe { IsSafe catalog.now result }
+{
+    Loss::none()
+}
