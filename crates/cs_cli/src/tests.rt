@@ -1,5 +1,8 @@
+//! The program, over places in memory.
+mod devices;
 mod places;
 mod recovery;
+mod stores;
 mod streams;
 
 use crate::program::run;

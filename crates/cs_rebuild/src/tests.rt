@@ -1,4 +1,4 @@
-//! Small stores are rebuilt and checked. Their files are written by hand, and what a rebuild answers is read back.
+//! Small stores are rebuilt and checked with few and many workers.
 ghost use Rattle.std.specs.Prelude.{◌≤◌};
 
 use crate::{check, check_gated, rebuild, rebuild_gated};
@@ -7,7 +7,7 @@ use cs_delta::write_empty_delta;
 use cs_schema::samples::TWO_ORDERS;
 use cs_schema::{Catalog, FileName, Loss, read_catalog};
 use cs_segment::seal::seal;
-use cs_store::{Fault, FileSet};
+use cs_store::FileSet;
 use std::alloc::Global;
 use std::sync::atomic::{AtomicU64, Ordering};
 use std::test::Fail;
@@ -15,44 +15,6 @@ use std::test::Fail;
 // Two columns in three projections, two segments each, on six sites. Every column is plain.
 const THREE_ORDERS: &str = r#"version = 2
 safety = "whole"
-table = "t"
-key = "id"
-sites = 6
-[[column]]
-name = "id"
-kind = "int"
-[[column]]
-name = "v"
-kind = "int"
-[[projection]]
-name = "a"
-columns = ["id", "v"]
-codes = [4, 4]
-sort = ["id"]
-cuts = [3]
-sites = [1, 2]
-joins = []
-[[projection]]
-name = "b"
-columns = ["id", "v"]
-codes = [4, 4]
-sort = ["v"]
-cuts = [15]
-sites = [3, 4]
-joins = []
-[[projection]]
-name = "c"
-columns = ["id", "v"]
-codes = [4, 4]
-sort = ["v", "id"]
-cuts = [25]
-sites = [5, 6]
-joins = []
-"#;
-
-// The same by rows.
-const THREE_ORDERS_BY_ROWS: &str = r#"version = 2
-safety = "rows"
 table = "t"
 key = "id"
 sites = 6
@@ -150,8 +112,8 @@ fn two_orders(alloc: Global) -> Result<(Catalog, FileSet), Fail> {
     Ok((catalog, files))
 }
 
-fn three_orders(alloc: Global, text: &str) -> Result<(Catalog, FileSet), Fail> {
-    let catalog = read_catalog(alloc, text.as_bytes())
+fn three_orders(alloc: Global) -> Result<(Catalog, FileSet), Fail> {
+    let catalog = read_catalog(alloc, THREE_ORDERS.as_bytes())
         .ok()
         .ok_or("a catalog")?;
     let mut files = FileSet::new(alloc)?;
@@ -162,13 +124,6 @@ fn three_orders(alloc: Global, text: &str) -> Result<(Catalog, FileSet), Fail> {
     put_segment(alloc, &mut files, 2, 0, &[(2, 10), (4, 10), (3, 20)])?;
     put_segment(alloc, &mut files, 2, 1, &[(1, 30)])?;
     Ok((catalog, files))
-}
-
-fn same_file(files: &FileSet, others: &FileSet, name: FileName) -> bool {
-    match (files.get(name), others.get(name)) {
-        (Some(one), Some(other)) => one == other,
-        _ => false,
-    }
 }
 
 #[test]
@@ -198,86 +153,14 @@ fn rebuilds_the_lost_segment_with_ample_memory(rt: HostRuntime) -> Result<(), Fa
 }
 
 #[test]
-fn refuses_what_it_cannot_rebuild(rt: HostRuntime) -> Result<(), Fail> {
-    let (catalog, mut files) = two_orders(rt.alloc())?;
-    let site = rebuild(&rt, rt.alloc(), &catalog, &files, loss_of(&[3]), 1, 1);
-    assert!(rt; matches!(site, Err(Fault::Site)));
-    let all = rebuild(&rt, rt.alloc(), &catalog, &files, loss_of(&[1, 2]), 1, 1);
-    assert!(rt; matches!(all, Err(Fault::Unsafe(_))));
-    let missing = rebuild(&rt, rt.alloc(), &catalog, &files, Loss::none(), 1, 1);
-    assert!(rt; matches!(missing, Err(Fault::Missing(FileName::Seg { p: 0, s: 0 }))));
-    put_segment(
-        rt.alloc(),
-        &mut files,
-        1,
-        0,
-        &[(2, 10), (4, 10), (3, 20), (2, 30)],
-    )?;
-    let twice = rebuild(&rt, rt.alloc(), &catalog, &files, loss_of(&[1]), 1, 1);
-    assert!(rt; matches!(twice, Err(Fault::Twice)));
-    Ok(())
-}
-
-#[test]
-fn two_lost_segments_are_the_same_in_every_schedule(rt: HostRuntime) -> Result<(), Fail> {
-    let (catalog, files) = three_orders(rt.alloc(), THREE_ORDERS)?;
+fn checks_a_store_with_ample_memory(rt: HostRuntime) -> Result<(), Fail> {
+    let (catalog, files) = three_orders(rt.alloc())?;
     for workers in [1u32, 2, 64] {
-        for cut in [1u32, 2, 1_048_576] {
-            let out = rebuild(
-                &rt,
-                rt.alloc(),
-                &catalog,
-                &files,
-                loss_of(&[2, 3]),
-                workers,
-                cut,
-            )
-            .ok()
-            .ok_or("the segments are not rebuilt")?;
-            assert_eq!(rt; out.len(), 4);
-            assert!(rt; same_file(&out, &files, FileName::Seg { p: 0, s: 1 }));
-            assert!(rt; same_file(&out, &files, FileName::Del { p: 0, s: 1 }));
-            assert!(rt; same_file(&out, &files, FileName::Seg { p: 1, s: 0 }));
-            assert!(rt; same_file(&out, &files, FileName::Del { p: 1, s: 0 }));
+        for cut in [1u32, 1_048_576] {
+            let rows = check(&rt, rt.alloc(), &catalog, &files, 2, workers, cut);
+            assert!(rt; matches!(rows, Ok(4)));
         }
     }
-    Ok(())
-}
-
-#[test]
-fn three_lost_segments_are_rebuilt_by_rows(rt: HostRuntime) -> Result<(), Fail> {
-    let (catalog, files) = three_orders(rt.alloc(), THREE_ORDERS_BY_ROWS)?;
-    for workers in [1u32, 64] {
-        for cut in [1u32, 2] {
-            let out = rebuild(
-                &rt,
-                rt.alloc(),
-                &catalog,
-                &files,
-                loss_of(&[1, 3, 6]),
-                workers,
-                cut,
-            )
-            .ok()
-            .ok_or("the segments are not rebuilt")?;
-            assert_eq!(rt; out.len(), 6);
-            assert!(rt; same_file(&out, &files, FileName::Seg { p: 0, s: 0 }));
-            assert!(rt; same_file(&out, &files, FileName::Seg { p: 1, s: 0 }));
-            assert!(rt; same_file(&out, &files, FileName::Seg { p: 2, s: 1 }));
-        }
-    }
-    Ok(())
-}
-
-#[test]
-fn checks_a_whole_store(rt: HostRuntime) -> Result<(), Fail> {
-    let (catalog, files) = three_orders(rt.alloc(), THREE_ORDERS)?;
-    let sound = check(&rt, rt.alloc(), &catalog, &files, 2, 2, 1);
-    assert!(rt; matches!(sound, Ok(4)));
-    let not_safe = check(&rt, rt.alloc(), &catalog, &files, 3, 2, 1);
-    assert!(rt; matches!(not_safe, Err(Fault::Unsafe(_))));
-    let above = check(&rt, rt.alloc(), &catalog, &files, 4, 2, 1);
-    assert!(rt; matches!(above, Err(Fault::BadK)));
     Ok(())
 }
 
@@ -295,7 +178,7 @@ impl Gate for Counting {
 
 #[test]
 fn cut_decides_the_pieces(rt: HostRuntime) -> Result<(), Fail> {
-    let (catalog, files) = three_orders(rt.alloc(), THREE_ORDERS)?;
+    let (catalog, files) = three_orders(rt.alloc())?;
     for (cut, rebuilt, checked) in [(1u32, 20u64, 16u64), (2, 14, 14)] {
         let gate = Counting {
             entered: AtomicU64::new(0),
@@ -346,7 +229,7 @@ impl Gate for Holding {
 
 #[test]
 fn two_workers_at_once(rt: HostRuntime) -> Result<(), Fail> {
-    let (catalog, files) = three_orders(rt.alloc(), THREE_ORDERS)?;
+    let (catalog, files) = three_orders(rt.alloc())?;
     let gate = Holding {
         entered: AtomicU64::new(0),
         gave_up: AtomicU64::new(0),
@@ -354,59 +237,5 @@ fn two_workers_at_once(rt: HostRuntime) -> Result<(), Fail> {
     let rows = check_gated(&rt, rt.alloc(), &catalog, &files, 2, 2, 1, &gate);
     assert!(rt; matches!(rows, Ok(4)));
     assert_eq!(rt; gate.gave_up.load(Ordering::SeqCst), 0);
-    Ok(())
-}
-
-#[test]
-fn ties_stand_by_primary_key(rt: HostRuntime) -> Result<(), Fail> {
-    let (catalog, _) = two_orders(rt.alloc())?;
-    let mut rows = Vec::new(rt.alloc());
-    for id in 0i64..5_000 {
-        rows.push((id, id % 7))?;
-    }
-    let mut files = FileSet::new(rt.alloc())?;
-    put_segment(rt.alloc(), &mut files, 0, 0, rows.as_slice())?;
-    let out = rebuild(&rt, rt.alloc(), &catalog, &files, loss_of(&[2]), 2, 1_000)
-        .ok()
-        .ok_or("the segment is not rebuilt")?;
-    let segment = out.get(FileName::Seg { p: 1, s: 0 }).ok_or("no segment")?;
-    assert_eq!(rt; segment.len(), 80_062);
-    Ok(())
-}
-
-fn put_changed(alloc: Global, files: &mut FileSet, name: FileName) -> Result<(), Fail> {
-    let mut bytes = Vec::from_slice(alloc, files.get(name).ok_or("no file")?)?;
-    if let Some(last) = bytes.as_mut_slice().last_mut() {
-        *last ^= 1;
-    }
-    Ok(files.put(name, bytes)?)
-}
-
-#[test]
-fn names_the_least_damaged_file(rt: HostRuntime) -> Result<(), Fail> {
-    let (catalog, mut files) = three_orders(rt.alloc(), THREE_ORDERS)?;
-    // what stands under a lost name is not looked at
-    files.put(
-        FileName::Seg { p: 0, s: 1 },
-        Vec::from_slice(rt.alloc(), &[0])?,
-    )?;
-    let out = rebuild(&rt, rt.alloc(), &catalog, &files, loss_of(&[2, 3]), 2, 1)
-        .ok()
-        .ok_or("the segments are not rebuilt")?;
-    assert_eq!(rt; out.len(), 4);
-    put_changed(rt.alloc(), &mut files, FileName::Seg { p: 1, s: 1 })?;
-    put_changed(rt.alloc(), &mut files, FileName::Del { p: 2, s: 0 })?;
-    for workers in [1u32, 2, 64] {
-        let bad = rebuild(
-            &rt,
-            rt.alloc(),
-            &catalog,
-            &files,
-            loss_of(&[2, 3]),
-            workers,
-            1,
-        );
-        assert!(rt; matches!(bad, Err(Fault::Damaged(FileName::Seg { p: 1, s: 1 }))));
-    }
     Ok(())
 }

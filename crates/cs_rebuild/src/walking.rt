@@ -1,5 +1,5 @@
 //! Walking the surviving rows, by the catalog's rule.
-ghost use Rattle.std.specs.Prelude.{◌≡◌, ◌<◌, ◌≤◌, ◌+◌, ◌*◌, ◌^◌, All, map, length, IfOk, IfErr, IfSome};
+ghost use Rattle.std.specs.Prelude.{◌≡◌, ◌<◌, ◌≤◌, ◌+◌, ◌*◌, ◌^◌, All, map, length, None, IfOk, IfErr, IfSome};
 ghost use Rattle.std.specs.List.{flat_map};
 ghost use Rattle.cs_schema.specs.FileNames.{FileContents};
 ghost use Rattle.cs_store.specs.Fault.{MemoryOr};
@@ -23,7 +23,8 @@ use std::thread::Threads;
 /// The number of pieces of `cut` rows, the last of which may have fewer; none where it is no `u32`.
 pub fn count_pieces(rows: usize, cut: u32) -> Option<u32>
     requires { 1 ≤ cut }
-    ensures { IfSome result (λ pieces. (rows ≤ pieces * cut) × (pieces * cut < rows + cut)) }
+    ensures some { IfSome result (λ pieces. (rows ≤ pieces * cut) × (pieces * cut < rows + cut)) }
+    ensures none { result ≡ None → 4294967295 * cut < rows }
 {
     let whole = rows / cut as usize;
     if rows % cut as usize == 0 {

@@ -325,6 +325,21 @@ fn rows_of_surviving_segments(rt: HostRuntime) -> Result<(), Fail> {
     Ok(())
 }
 
+// One segment is left, in which a key stands twice.
+#[test]
+fn rows_with_a_key_twice(rt: HostRuntime) -> Result<(), Fail> {
+    let alloc = rt.alloc();
+    let mut store = Store::of(alloc, THREE_ORDERS)?;
+    store.put_segment(alloc, 2, 0, &[&[2, 4, 3, 2], &[10, 10, 20, 30]], &[])?;
+    let loss = Loss::none().with(1).with(2).with(3).with(4).with(6);
+    let mut walked = store.walk_by_rows(alloc, loss)?;
+    assert_eq!(rt; walked.rows(), 4);
+    walked.once(&store.catalog)?;
+    let rows: [&[i64]; 3] = [&[2, 10], &[4, 10], &[3, 20]];
+    assert!(rt; shows(&walked, &store.catalog, &rows));
+    Ok(())
+}
+
 // One segment of the second projection is lost: the rows there are marked, and full without it.
 #[test]
 fn rows_with_a_marked_projection(rt: HostRuntime) -> Result<(), Fail> {

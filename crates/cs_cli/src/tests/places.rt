@@ -1,5 +1,7 @@
+//! Places in memory, for one store and one output.
 ghost use Rattle.std.specs.Prelude.{◌≡◌, ⊤};
 
+use super::stores::Stored;
 use crate::places::Places;
 use crate::sample;
 use cs_delta::write_empty_delta;
@@ -11,17 +13,18 @@ use std::cell::RefCell;
 use std::rc::Rc;
 use std::test::Fail;
 
-/// What an output took: each file's name and length, and the mark.
+/// What an output took: the files, and the mark.
 #[derive(Drop)]
 pub struct Taken {
-    pub files: Vec<(FileName, usize)>,
+    pub files: FileSet,
     pub mark: Option<u64>,
 }
 
-/// The sample's store, whole, and one output that the tests can look into.
+/// One store, and one output that the tests can look into.
 #[derive(Drop)]
 pub struct MemoryPlaces {
     pub catalog: Option<&'static [u8]>,
+    pub files: FileSet,
     pub read_failure: Option<Failure>,
     pub write_failure: Option<Failure>,
     pub taken: Rc<RefCell<Taken>>,
@@ -35,16 +38,27 @@ pub struct MemoryPlaces {
 pub struct SharedOutput {
     sink: MemorySink,
     taken: Rc<RefCell<Taken>>,
+    alloc: Global,
 }
 
-/// Places where nothing fails.
+/// Places with the sample's store, whole, where nothing fails.
 pub fn places(alloc: Global) -> Result<MemoryPlaces, Fail> {
+    let stored = Stored {
+        catalog: sample::CATALOG.as_bytes(),
+        files: whole_sample(alloc)?,
+    };
+    places_of(alloc, &stored)
+}
+
+/// Places with this store, where nothing fails.
+pub fn places_of(alloc: Global, stored: &Stored) -> Result<MemoryPlaces, Fail> {
     let taken = Taken {
-        files: Vec::new(alloc),
+        files: FileSet::new(alloc)?,
         mark: None,
     };
     Ok(MemoryPlaces {
-        catalog: Some(sample::CATALOG.as_bytes()),
+        catalog: Some(stored.catalog),
+        files: copy_files(alloc, &stored.files)?,
         read_failure: None,
         write_failure: None,
         taken: Rc::new(alloc, RefCell::new(taken))?,
@@ -69,6 +83,16 @@ fn whole_sample(alloc: Global) -> Result<FileSet, AllocError> {
     Ok(files)
 }
 
+/// The same files.
+fn copy_files(alloc: Global, files: &FileSet) -> Result<FileSet, AllocError> {
+    let mut copy = FileSet::new(alloc)?;
+    for i in 0..files.len() {
+        let (name, bytes) = files.at(i);
+        copy.put(name, Vec::from_slice(alloc, bytes)?)?;
+    }
+    Ok(copy)
+}
+
 impl Places for MemoryPlaces {
     type Store = MemorySource;
 
@@ -90,7 +114,7 @@ impl Places for MemoryPlaces {
             return Err(StoreFault::Device);
         };
         let bytes = Vec::from_slice(self.alloc, catalog).map_err(|_| StoreFault::Memory)?;
-        let files = whole_sample(self.alloc).map_err(|_| StoreFault::Memory)?;
+        let files = copy_files(self.alloc, &self.files).map_err(|_| StoreFault::Memory)?;
         Ok((
             bytes,
             MemorySource::new(self.alloc, files, self.read_failure),
@@ -107,6 +131,7 @@ impl Places for MemoryPlaces {
         Ok(SharedOutput {
             sink: MemorySink::new(self.alloc, files, self.write_failure),
             taken: self.taken.clone().map_err(|_| StoreFault::Memory)?,
+            alloc: self.alloc,
         })
     }
 
@@ -126,8 +151,11 @@ impl Sink for SharedOutput {
 
     fn put(&mut self, name: FileName, bytes: &[u8]) -> Result<(), StoreFault> {
         self.sink.put(name, bytes)?;
+        let Ok(copy) = Vec::from_slice(self.alloc, bytes) else {
+            return Err(StoreFault::Memory);
+        };
         match self.taken.try_borrow_mut() {
-            Ok(mut taken) => match taken.files.push((name, bytes.len())) {
+            Ok(mut taken) => match taken.files.put(name, copy) {
                 Ok(()) => Ok(()),
                 Err(_) => Err(StoreFault::Memory),
             },

@@ -1,3 +1,4 @@
+//! Streams that fail.
 use std::io;
 use std::io::Write;
 

@@ -16,7 +16,7 @@ returns-in-Ok-append_all-clause-rows g c =
     let P = c.args.plan.now in
     let e : At → Stray = λ at. (P.anchor, at.0, at.1) in
     let f : List At → List Row = map (walked_row C S P) in
-    let cover = subst (λ n. n ≤ c.in-Some.pieces * c.args.crew.now.cut) c.anchor_rows-rows.ensures c.in-Some.ensures.0 in
+    let cover = subst (λ n. n ≤ c.in-Some.pieces * c.args.crew.now.cut) c.anchor_rows-rows.ensures c.in-Some.ensures.some.0 in
     all_walked (is_astray C S P) e f (projection_rows C S P.anchor) c.args.crew.now.cut refl (map-append (walked_row C S P)) c.in-Some.pieces cover c.in-Ok.ensures.ok.sound c.in-Ok.all.items c.in-Ok.ensures.ok.len (λ i w at. (c.in-Ok.ensures.ok.each i w at).1)
     ∙ ap (λ r. Ok r) (sym c.in-Ok-append_all.ensures.rows)
 

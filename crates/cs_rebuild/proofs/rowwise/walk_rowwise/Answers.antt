@@ -20,7 +20,7 @@ returns-in-Ok-once-clause-rows g c =
     let S = contents_of c.args.survivors.now in
     let e : Reached → Stray = λ x. (x.0, x.1.0, x.1.1) in
     let f : List Reached → List Row = filter_map (row_from C L S) in
-    let cover = subst (λ n. n ≤ c.in-Some.pieces * c.args.crew.now.cut) c.surviving_row_count-rows.ensures c.in-Some.ensures.0 in
+    let cover = subst (λ n. n ≤ c.in-Some.pieces * c.args.crew.now.cut) c.surviving_row_count-rows.ensures c.in-Some.ensures.some.0 in
     let whole = all_walked (is_stray_row C L S) e f (surviving_rows C L S) c.args.crew.now.cut refl (filter_map-append (row_from C L S)) c.in-Some.pieces cover c.in-Ok.ensures.ok.sound c.in-Ok.all.items c.in-Ok.ensures.ok.len (λ i w at. (c.in-Ok.ensures.ok.each i w at).1) in
     walk_by_rows_found C L S c.in-Ok-append_all.walked.rows (sym (whole ∙ ap (λ r. Ok r) (sym c.in-Ok-append_all.ensures.rows))) ∙ ap (λ r. Ok r) (sym c.in-Ok-once.ensures.ok)
 

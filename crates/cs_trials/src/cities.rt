@@ -1,0 +1,163 @@
+//! Two projections on three sites, one of texts and cut in two, with a join each way.
+use crate::answers::{Ask, Written, expect};
+use crate::catalogs::by_rows;
+use crate::stores::{Column, Delta, Parts, Store, loss_of};
+use cs_schema::FileName;
+use cs_schema::samples::CITIES;
+use cs_store::Fault;
+use std::test::Fail;
+
+const LOWER: FileName = FileName::Seg { p: 1, s: 0 };
+
+const LOWER_DELTA: FileName = FileName::Del { p: 1, s: 0 };
+
+const LOWER_JOIN: FileName = FileName::Jix { p: 1, s: 0, q: 0 };
+
+const UPPER: FileName = FileName::Seg { p: 1, s: 1 };
+
+const UPPER_DELTA: FileName = FileName::Del { p: 1, s: 1 };
+
+const UPPER_JOIN: FileName = FileName::Jix { p: 1, s: 1, q: 0 };
+
+const JOIN: FileName = FileName::Jix { p: 0, s: 0, q: 1 };
+
+/// The rows ("la", 5), ("la", 3).
+const LA: &str = "4353534547303031 0001 0000 00000002 0002
+    01 02 0000000b 02 6c61 00000001 00000002
+    04 01 00000010 0000000000000005 0000000000000003";
+
+/// No changes of two rows.
+const UNCHANGED: &str = "435344454c303031 0001 0000 00000002 00000002 00000000";
+
+/// The files that the loss of the second site costs, the last three as they stand in both stores below.
+const LOST: [Written; 4] = [
+    (
+        JOIN,
+        68,
+        "43534a4958303031 0000 0000 0001 00000003 0001 00000001 0000 00000001 0000 00000002",
+    ),
+    (LOWER, 89, LA),
+    (LOWER_DELTA, 56, UNCHANGED),
+    (
+        LOWER_JOIN,
+        62,
+        "43534a4958303031 0001 0000 0000 00000002 0000 00000002 0000 00000003",
+    ),
+];
+
+/// The same where a row of the first projection is deleted: its key leads nowhere, the keys after it stay.
+const LOST_WITH_A_DEAD_KEY: [Written; 4] = [
+    (
+        JOIN,
+        74,
+        "43534a4958303031 0000 0000 0001 00000004
+         0001 00000001 0000 00000000 0000 00000001 0000 00000002",
+    ),
+    (LOWER, 89, LA),
+    (LOWER_DELTA, 56, UNCHANGED),
+    (
+        LOWER_JOIN,
+        62,
+        "43534a4958303031 0001 0000 0000 00000002 0000 00000003 0000 00000004",
+    ),
+];
+
+/// The rows (1, "ny", 7), (2, "la", 5), (3, "la", 3).
+const WHOLE: Parts = Parts {
+    segments: &[
+        (
+            0,
+            0,
+            &[
+                Column::Ints(&[1, 2, 3]),
+                Column::Texts(&["ny", "la", "la"]),
+                Column::Ints(&[7, 5, 3]),
+            ],
+        ),
+        (1, 0, &[Column::Texts(&["la", "la"]), Column::Ints(&[5, 3])]),
+        (1, 1, &[Column::Texts(&["ny"]), Column::Ints(&[7])]),
+    ],
+    deltas: &[],
+    joins: &[
+        (0, 0, 1, &[(1, 1), (0, 1), (0, 2)]),
+        (1, 0, 0, &[(0, 2), (0, 3)]),
+        (1, 1, 0, &[(0, 1)]),
+    ],
+};
+
+/// The rows (1, "ny", 7), (3, "la", 5), (4, "la", 3). The second row of the first projection is deleted; its keys into
+/// the lost segment are others than those that come.
+const WITH_A_DEAD_KEY: Parts = Parts {
+    segments: &[
+        (
+            0,
+            0,
+            &[
+                Column::Ints(&[1, 2, 3, 4]),
+                Column::Texts(&["ny", "sf", "la", "la"]),
+                Column::Ints(&[7, 9, 5, 3]),
+            ],
+        ),
+        (1, 1, &[Column::Texts(&["ny"]), Column::Ints(&[7])]),
+    ],
+    deltas: &[(
+        0,
+        0,
+        Delta {
+            version: 1,
+            rows: 4,
+            top: 4,
+            items: b"\0\0\0\x01\x02\0\0\0\x01",
+        },
+    )],
+    joins: &[
+        (0, 0, 1, &[(1, 1), (0, 0), (0, 2), (0, 3)]),
+        (1, 1, 0, &[(0, 1)]),
+    ],
+};
+
+const UPPER_FILES: [FileName; 4] = [JOIN, UPPER, UPPER_DELTA, UPPER_JOIN];
+
+const ALL_BUT_THE_FIRST: [FileName; 7] = [
+    JOIN,
+    LOWER,
+    LOWER_DELTA,
+    LOWER_JOIN,
+    UPPER,
+    UPPER_DELTA,
+    UPPER_JOIN,
+];
+
+#[test]
+fn sound(rt: HostRuntime) -> Result<(), Fail> {
+    let rows = by_rows(rt.alloc(), CITIES)?;
+    let asks = [
+        Ask::Checked(0, Ok(3)),
+        Ask::Checked(1, Err(Fault::Unsafe(loss_of(&[1])))),
+        Ask::Checked(4, Err(Fault::BadK)),
+        Ask::Files(&[2], &LOST),
+        Ask::Restored(&[3], &UPPER_FILES),
+        Ask::Restored(&[2, 3], &ALL_BUT_THE_FIRST),
+    ];
+    for text in [CITIES, rows.as_str()] {
+        let store = Store::made(rt.alloc(), text, &WHOLE)?;
+        expect(&rt, &store, &asks)?;
+        let store = Store::made(rt.alloc(), text, &WITH_A_DEAD_KEY)?;
+        expect(&rt, &store, &[Ask::Files(&[2], &LOST_WITH_A_DEAD_KEY)])?;
+    }
+    Ok(())
+}
+
+#[test]
+fn live_row_led_nowhere(rt: HostRuntime) -> Result<(), Fail> {
+    let rows = by_rows(rt.alloc(), CITIES)?;
+    for (text, fault) in [
+        (CITIES, Fault::Misled { p: 0, s: 0, q: 1 }),
+        (rows.as_str(), Fault::Astray { p: 0, s: 0, row: 1 }),
+    ] {
+        let mut store = Store::made(rt.alloc(), text, &WHOLE)?;
+        store.put_join(0, 0, 1, &[(1, 1), (0, 0), (0, 2)])?;
+        expect(&rt, &store, &[Ask::Refused(&[2], fault)])?;
+    }
+    Ok(())
+}

@@ -1,0 +1,27 @@
+//! Trials of whole stores: their files are made from plain rows, rebuilt and checked.
+#![tactic(auto)]
+
+#[cfg(test)]
+mod answers;
+#[cfg(test)]
+mod catalogs;
+#[cfg(test)]
+mod cities;
+#[cfg(test)]
+mod damaged_pairs;
+#[cfg(test)]
+mod file_sweeps;
+#[cfg(test)]
+mod full_range;
+#[cfg(test)]
+mod gates;
+#[cfg(test)]
+mod joined;
+#[cfg(test)]
+mod one_segment;
+#[cfg(test)]
+mod orders_by_ties;
+#[cfg(test)]
+mod stores;
+#[cfg(test)]
+mod three_orders;

@@ -1,0 +1,146 @@
+//! Three projections of two segments each, on six sites, without joins.
+use crate::answers::{Ask, Written, expect};
+use crate::catalogs::by_rows;
+use crate::stores::{Column, Parts, Store, loss_of};
+use cs_schema::FileName;
+use cs_schema::samples::THREE_PROJECTIONS;
+use cs_store::Fault;
+use std::test::Fail;
+
+/// The rows (3, 20), (4, 10) of the first projection.
+const UPPER_IDS: Written = (
+    FileName::Seg { p: 0, s: 1 },
+    91,
+    "4353534547303031 0000 0001 00000002 0002
+     03 01 0000000d 00000001 0000000000000003 01
+     04 01 00000010 0000000000000014 000000000000000a",
+);
+
+/// The rows (2, 10), (4, 10) of the second.
+const LOWER_VALUES: Written = (
+    FileName::Seg { p: 1, s: 0 },
+    94,
+    "4353534547303031 0001 0000 00000002 0002
+     04 01 00000010 0000000000000002 0000000000000004
+     01 01 00000010 000000000000000a 00000001 00000002",
+);
+
+/// What stands on the sites 2 and 3.
+pub const LOST: [Written; 4] = [
+    UPPER_IDS,
+    (
+        FileName::Del { p: 0, s: 1 },
+        56,
+        "435344454c303031 0000 0001 00000002 00000002 00000000",
+    ),
+    LOWER_VALUES,
+    (
+        FileName::Del { p: 1, s: 0 },
+        56,
+        "435344454c303031 0001 0000 00000002 00000002 00000000",
+    ),
+];
+
+/// What stands on the sites 1, 3 and 6: a segment of each projection.
+const LOST_OF_EACH: [Written; 6] = [
+    (
+        FileName::Seg { p: 0, s: 0 },
+        91,
+        "4353534547303031 0000 0000 00000002 0002
+         03 01 0000000d 00000001 0000000000000001 01
+         04 01 00000010 000000000000001e 000000000000000a",
+    ),
+    (
+        FileName::Del { p: 0, s: 0 },
+        56,
+        "435344454c303031 0000 0000 00000002 00000002 00000000",
+    ),
+    LOWER_VALUES,
+    (
+        FileName::Del { p: 1, s: 0 },
+        56,
+        "435344454c303031 0001 0000 00000002 00000002 00000000",
+    ),
+    (
+        FileName::Seg { p: 2, s: 1 },
+        82,
+        "4353534547303031 0002 0001 00000001 0002
+         04 01 00000008 0000000000000001
+         03 01 0000000c 00000001 000000000000001e",
+    ),
+    (
+        FileName::Del { p: 2, s: 1 },
+        56,
+        "435344454c303031 0002 0001 00000001 00000001 00000000",
+    ),
+];
+
+/// The rows (1, 30), (2, 10), (3, 20), (4, 10) in each order.
+pub const WHOLE: Parts = Parts {
+    segments: &[
+        (0, 0, &[Column::Ints(&[1, 2]), Column::Ints(&[30, 10])]),
+        (0, 1, &[Column::Ints(&[3, 4]), Column::Ints(&[20, 10])]),
+        (1, 0, &[Column::Ints(&[2, 4]), Column::Ints(&[10, 10])]),
+        (1, 1, &[Column::Ints(&[3, 1]), Column::Ints(&[20, 30])]),
+        (
+            2,
+            0,
+            &[Column::Ints(&[2, 4, 3]), Column::Ints(&[10, 10, 20])],
+        ),
+        (2, 1, &[Column::Ints(&[1]), Column::Ints(&[30])]),
+    ],
+    deltas: &[],
+    joins: &[],
+};
+
+#[test]
+fn sound(rt: HostRuntime) -> Result<(), Fail> {
+    let rows = by_rows(rt.alloc(), THREE_PROJECTIONS)?;
+    let asks = [
+        Ask::Checked(2, Ok(4)),
+        Ask::Checked(3, Err(Fault::Unsafe(loss_of(&[1, 3, 5])))),
+        Ask::Files(&[2, 3], &LOST),
+    ];
+    for text in [THREE_PROJECTIONS, rows.as_str()] {
+        let store = Store::made(rt.alloc(), text, &WHOLE)?;
+        expect(&rt, &store, &asks)?;
+    }
+    Ok(())
+}
+
+// No projection is left whole, but no row stands in lost segments alone.
+#[test]
+fn segment_of_each_lost(rt: HostRuntime) -> Result<(), Fail> {
+    let rows = by_rows(rt.alloc(), THREE_PROJECTIONS)?;
+    let store = Store::made(rt.alloc(), rows.as_str(), &WHOLE)?;
+    expect(&rt, &store, &[Ask::Files(&[1, 3, 6], &LOST_OF_EACH)])?;
+    let store = Store::made(rt.alloc(), THREE_PROJECTIONS, &WHOLE)?;
+    let fault = Fault::Unsafe(loss_of(&[1, 3, 6]));
+    expect(&rt, &store, &[Ask::Refused(&[1, 3, 6], fault)])
+}
+
+const LOST_SEGMENT: FileName = FileName::Seg { p: 0, s: 1 };
+
+const FIRST: FileName = FileName::Seg { p: 0, s: 0 };
+
+const LEAST_DAMAGED: FileName = FileName::Seg { p: 1, s: 1 };
+
+// What stands under a lost name is not looked at, and of the others the least name is told.
+#[test]
+fn files_damaged(rt: HostRuntime) -> Result<(), Fail> {
+    let rows = by_rows(rt.alloc(), THREE_PROJECTIONS)?;
+    for text in [THREE_PROJECTIONS, rows.as_str()] {
+        let mut store = Store::made(rt.alloc(), text, &WHOLE)?;
+        let byte = Vec::from_slice(rt.alloc(), &[0])?;
+        store.files.put(LOST_SEGMENT, byte)?;
+        expect(&rt, &store, &[Ask::Files(&[2, 3], &LOST)])?;
+        store.change_last_byte(LEAST_DAMAGED)?;
+        store.change_last_byte(FileName::Del { p: 2, s: 0 })?;
+        let damaged = Fault::Damaged(LEAST_DAMAGED);
+        expect(&rt, &store, &[Ask::Refused(&[2, 3], damaged)])?;
+        store.take_away(FIRST)?;
+        let missing = Fault::Missing(FIRST);
+        expect(&rt, &store, &[Ask::Refused(&[2, 3], missing)])?;
+    }
+    Ok(())
+}
