@@ -254,6 +254,22 @@ fn bytes_that_are_no_delta(rt: HostRuntime) -> Result<(), Fail> {
 }
 
 #[test]
+fn highest_key_has_a_limit(rt: HostRuntime) -> Result<(), Fail> {
+    let alloc = rt.alloc();
+    let catalog = read_catalog(alloc, ONE_COLUMN.as_bytes())?;
+    assert!(rt; 0 < catalog.projection_count());
+    for (top, is_read) in [(4_194_304u32, true), (4_194_305, false)] {
+        let mut body = b"CSDEL001\0\0\0\0\0\0\0\x03".to_vec(alloc)?;
+        body.extend_from_slice(&top.to_be_bytes())?;
+        body.extend_from_slice(NO_ITEMS)?;
+        let bytes = sealed(alloc, &body)?;
+        assert_eq!(rt; read_delta(alloc, &catalog, 0, 0, &bytes).is_ok(), is_read);
+        assert_eq!(rt; is_damaged(alloc, &catalog, &bytes), !is_read);
+    }
+    Ok(())
+}
+
+#[test]
 fn changes_are_merged(rt: HostRuntime) -> Result<(), Fail> {
     let alloc = rt.alloc();
     let catalog = read_catalog(alloc, ONE_COLUMN.as_bytes())?;
