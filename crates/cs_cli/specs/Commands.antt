@@ -1,5 +1,5 @@
 -- What the commands do, each by what the places, the store and the output say of one call.
-use Rattle.std.specs.Prelude.{◌≡◌, ◌⊎◌, ℕ, List, [], Option, Ok}
+use Rattle.std.specs.Prelude.{◌≡◌, ◌≤◌, ◌⊎◌, ℕ, List, [], Option, Ok}
 use Rattle.std.specs.FinMap.{entries, len}
 use Rattle.cs_schema.specs.CatalogData.{CatalogData}
 use Rattle.cs_schema.specs.FileNames.{surviving}
@@ -61,8 +61,8 @@ module _ {P S : Type 0} (finds : P → List ℕ → List ℕ → S → P → Typ
           pub saved : Saves takes marks (entries rebuilt) output marked
           pub counted : count ≡ len rebuilt
 
-        -- what was done for this answer
-        abbrev pub Performs : P → P → Answer → Type 0
-        Performs s t (Sample files) = t ≡ s
-        Performs s t (Checked rows k) = (path : List ℕ) × ChecksStore s path k rows t
-        Performs s t (Recovered count) = (path : List ℕ) × (L : Sites) × (output_path : List ℕ) × RecoversStore s path L output_path count t
+        -- what so many words asked for, and was done for this answer: the sample without words alone
+        abbrev pub Performs : ℕ → P → P → Answer → Type 0
+        Performs words s t (Sample files) = (words ≡ 0) × (t ≡ s)
+        Performs words s t (Checked rows k) = (1 ≤ words) × ((path : List ℕ) × ChecksStore s path k rows t)
+        Performs words s t (Recovered count) = (1 ≤ words) × ((path : List ℕ) × (L : Sites) × (output_path : List ℕ) × RecoversStore s path L output_path count t)

@@ -1,5 +1,5 @@
 //! The commands, and what they print.
-ghost use Rattle.std.specs.Prelude.{◌≡◌, ◌≤◌, IfOk, OnErr};
+ghost use Rattle.std.specs.Prelude.{◌≡◌, ◌≤◌, IfOk, OnErr, length};
 ghost use Rattle.cs_cli.specs.Commands.{LooksUp, LoadsStore, ChecksStore, RecoversStore, StopsRecovery, Performs};
 ghost use Rattle.cs_cli.specs.declared.program.Answer.{Answer};
 
@@ -63,7 +63,7 @@ pub fn run<R: Threads + Sync, P: Places, W: Write, E: Write>(
 ) -> u8
     ensures status { result ≤ 4 }
     ensures done { result ≡ DONE → (answer : Answer) × Performs P.finds P.Store.gives P.makes
-        P.Output.takes P.Output.marks places.old places.new answer }
+        P.Output.takes P.Output.marks (length words.now) places.old places.new answer }
 {
     match perform(rt, alloc, words, places) {
         Ok(answer) => match writeln!(out, "{answer}") {
@@ -82,7 +82,7 @@ fn perform<R: Threads + Sync, P: Places>(
     places: &mut P,
 ) -> Result<Answer, Stop>
     ensures { IfOk result (Performs P.finds P.Store.gives P.makes P.Output.takes P.Output.marks
-        places.old places.new) }
+        (length words.now) places.old places.new) }
 {
     if words.is_empty() {
         return rebuild_sample(rt, alloc).map(Answer::Sample);

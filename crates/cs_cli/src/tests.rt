@@ -87,7 +87,10 @@ fn names_what_can_not_be_read(rt: HostRuntime) -> Result<(), Fail> {
     ];
     for (catalog, status, text) in catalogs {
         let mut places = places(rt.alloc())?;
-        places.catalog = catalog;
+        places.catalog = match catalog {
+            Some(bytes) => Some(Vec::from_slice(rt.alloc(), bytes)?),
+            None => None,
+        };
         expect(&rt, &mut places, (line, status, "", text))?;
         assert!(rt; !places.is_made, "{text}");
     }

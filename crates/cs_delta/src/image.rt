@@ -7,8 +7,9 @@ ghost use Rattle.cs_delta.specs.Places.{IsIndex};
 ghost use Rattle.cs_delta.specs.KindedImage.{AreOfOneCatalog, merged_image, image_column, base_keys};
 ghost use Rattle.cs_delta.specs.DeltaFile.{CanMerge};
 
+use crate::columns::{count, empty_like, extend};
 use crate::delta::Delta;
-use crate::layer::apply_layers;
+use crate::layer::{Rows, apply_layers};
 use cs_schema::Cells;
 use cs_segment::fault::FileFault;
 use cs_segment::segment::Segment;
@@ -116,23 +117,53 @@ fn first_keys(alloc: Global, rows: u32) -> Result<Vec<u32>, AllocError>
     Ok(keys)
 }
 
-/// The image of a segment and its delta.
+/// The image of a segment and its delta. Copies each column once, and once more for each layer that has items.
 pub fn merge(alloc: Global, segment: &Segment, delta: &Delta) -> Result<Image, FileFault>
     requires { AreOfOneCatalog segment.now delta.now }
     ensures merged { IfOk result (λ image. image ≡ merged_image segment.now delta.now) }
     ensures can { IfOk result (λ image. CanMerge segment.now.base delta.now) }
     ensures refused { result ≡ Err FileFault.Damaged → CanMerge segment.now.base delta.now → ⊥ }
 {
+    let copy = copy_of(alloc, segment)?;
+    merge_owned(alloc, copy, delta)
+}
+
+/// The image of a segment that isn't wanted any more, and its delta. Columns that no item changes are moved.
+pub fn merge_owned(alloc: Global, segment: Segment, delta: &Delta) -> Result<Image, FileFault>
+    requires { AreOfOneCatalog segment delta.now }
+    ensures merged { IfOk result (λ image. image ≡ merged_image segment delta.now) }
+    ensures can { IfOk result (λ image. CanMerge segment.base delta.now) }
+    ensures refused { result ≡ Err FileFault.Damaged → CanMerge segment.base delta.now → ⊥ }
+{
     if segment.rows != delta.rows {
         return Err(FileFault::Damaged);
     }
-    let keys = first_keys(alloc, segment.rows)?;
-    let rows = apply_layers(alloc, &keys, &segment.columns, &delta.layers)?;
-    let places = index_keys(alloc, &rows.keys)?;
+    let Segment { rows, columns, .. } = segment;
+    let keys = first_keys(alloc, rows)?;
+    let made = apply_layers(alloc, Rows { keys, columns }, &delta.layers)?;
+    let places = index_keys(alloc, &made.keys)?;
     Ok(Image {
         places,
-        keys: rows.keys,
-        columns: rows.columns,
+        keys: made.keys,
+        columns: made.columns,
         top: delta.top,
+    })
+}
+
+/// The same segment once more.
+fn copy_of(alloc: Global, segment: &Segment) -> Result<Segment, AllocError>
+    ensures { IfOk result (λ copy. copy ≡ segment.now) }
+{
+    let mut columns = Vec::new(alloc);
+    for column in &segment.columns {
+        let mut copy = empty_like(alloc, column);
+        extend(&mut copy, column, 0, count(column))?;
+        columns.push(copy)?;
+    }
+    Ok(Segment {
+        p: segment.p,
+        s: segment.s,
+        rows: segment.rows,
+        columns,
     })
 }

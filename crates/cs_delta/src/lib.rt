@@ -17,7 +17,7 @@ mod tests;
 mod writing;
 
 pub use delta::Delta;
-pub use image::{Image, merge};
+pub use image::{Image, merge, merge_owned};
 pub use item::Item;
 pub use reading::read_delta;
 pub use writing::write_empty_delta;

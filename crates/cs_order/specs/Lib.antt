@@ -4,3 +4,4 @@ pub mod Numbers
 pub mod Items
 pub mod Faults
 pub mod Places
+pub mod Leads

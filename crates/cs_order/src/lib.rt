@@ -7,6 +7,7 @@
 
 mod fault;
 mod item;
+mod lead;
 mod parallel;
 mod places;
 pub mod samples;

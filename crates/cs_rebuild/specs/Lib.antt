@@ -7,3 +7,4 @@ pub mod Steps
 pub mod Surveys
 pub mod Reading
 pub mod Writing
+pub mod OnGround

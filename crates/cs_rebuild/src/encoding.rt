@@ -3,7 +3,6 @@ ghost use Rattle.std.specs.Prelude.{◌≡◌, ◌<◌, ◌≤◌, ◌*◌, ℕ,
 ghost use Rattle.cs_schema.specs.declared.kinds.Code.{Code as CodeData};
 ghost use Rattle.cs_schema.specs.declared.kinds.Kind.{Kind as KindData};
 ghost use Rattle.cs_schema.specs.CatalogData.{projection, code_at, kind_at, HasSegment};
-ghost use Rattle.cs_schema.specs.FileNames.{FileContents};
 ghost use Rattle.cs_schema.specs.Order.{rows_of, row_limit};
 ghost use Rattle.cs_schema.specs.Rows.{cell, project};
 ghost use Rattle.cs_schema.specs.Values.{values, kind_of};
@@ -12,10 +11,10 @@ ghost use Rattle.cs_piece.specs.Pieces.{IsPieceOf};
 ghost use Rattle.cs_segment.specs.SegmentFile.{base_of};
 ghost use Rattle.cs_segment.specs.SegmentPieces.{ArePiecesOf};
 ghost use Rattle.cs_store.specs.declared.fault.Fault.{Fault as FaultData};
-ghost use Rattle.cs_order.specs.Tables.{table_of};
-ghost use Rattle.cs_rebuild.specs.Steps.{AreSound, is_memory};
+ghost use Rattle.cs_rebuild.specs.Steps.{is_memory};
 ghost use Rattle.cs_rebuild.specs.Encoding.{pieces_of, values_at, cut_at, Rises, EncodeAnswerAt};
 ghost use Rattle.cs_rebuild.specs.WorkLaws.{no_fault_is_memory, one_value};
+ghost use Rattle.cs_rebuild.specs.OnGround.{IsSound, table_on};
 
 use crate::columns::table_column;
 use crate::crew::Crew;
@@ -152,8 +151,8 @@ pub fn encode_columns<R: Threads + Sync, G: Gate + Sync>(
     s: u16,
 ) -> Result<Vec<Piece>, Fault>
     requires segment { HasSegment ground.now.catalog.now p s }
-    requires sound { (F : FileContents) × AreSound ground.now.catalog.now F ground.now.loss ground.now.survivors.now ground.now.walked.now ground.now.orders.now }
-    ensures ok { IfOk result (λ pieces. ArePiecesOf ground.now.catalog.now p (length (rows_of ground.now.catalog.now (table_of ground.now.catalog.now ground.now.walked.now.rows) p s)) pieces.items (base_of ground.now.catalog.now p (map (project ground.now.catalog.now p) (rows_of ground.now.catalog.now (table_of ground.now.catalog.now ground.now.walked.now.rows) p s)))) }
+    requires sound { IsSound ground.now }
+    ensures ok { IfOk result (λ pieces. ArePiecesOf ground.now.catalog.now p (length (rows_of ground.now.catalog.now (table_on ground.now) p s)) pieces.items (base_of ground.now.catalog.now p (map (project ground.now.catalog.now p) (rows_of ground.now.catalog.now (table_on ground.now) p s)))) }
     ensures err { IfErr result (λ fault. fault ≡ FaultData.Memory) }
 {
     let numbers = ground.orders.segment(p, s);

@@ -11,7 +11,7 @@ ghost use Rattle.cs_recovery.specs.Contents.{IsJoinOf};
 ghost use Rattle.cs_rebuild.specs.Reading.{file_refusal, IsRefused, HoldsBase, HoldsChanges, IsKindedImageOf, IsFirstBadOf, IsFirstBadJoin, AreSoundFiles, AreFilesOf, joins_of};
 
 use crate::reading::SegmentFiles;
-use cs_delta::{Delta, Image, merge, read_delta};
+use cs_delta::{Delta, Image, merge_owned, read_delta};
 use cs_jix::{JoinIndex, read_jix};
 use cs_schema::{Catalog, FileName};
 use cs_segment::fault::FileFault;
@@ -116,17 +116,17 @@ fn merge_image(
     files: &FileSet,
     p: u16,
     s: u16,
-    segment: &Segment,
+    segment: Segment,
     delta: &Delta,
 ) -> Result<Image, Fault>
     requires exists { HasSegment catalog.now p s }
-    requires base { HoldsBase catalog.now (contents_of files.now) p s segment.now }
+    requires base { HoldsBase catalog.now (contents_of files.now) p s segment }
     requires changes { HoldsChanges catalog.now (contents_of files.now) p s delta.now }
     ensures ok { IfOk result (IsKindedImageOf catalog.now (contents_of files.now) p s) }
     ensures err { IfErr result (λ fault. MemoryOr fault (IsRefused catalog.now (contents_of files.now) (NameData.Del p s) fault)) }
 {
     let _width = catalog.width(p);
-    match merge(alloc, segment, delta) {
+    match merge_owned(alloc, segment, delta) {
         Ok(image) => Ok(image),
         Err(fault) => Err(refusal(FileName::Del { p, s }, fault)),
     }
@@ -184,7 +184,7 @@ pub fn read_files(
         Ok(delta) => delta,
         Err(fault) => return Err(fault),
     };
-    let image = match merge_image(alloc, catalog, files, p, s, &segment, &delta) {
+    let image = match merge_image(alloc, catalog, files, p, s, segment, &delta) {
         Ok(image) => image,
         Err(fault) => return Err(fault),
     };

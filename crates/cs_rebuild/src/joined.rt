@@ -9,14 +9,13 @@ ghost use Rattle.cs_schema.specs.FileNames.{Survives};
 ghost use Rattle.cs_schema.specs.Lists.{IsIn};
 ghost use Rattle.cs_jix.specs.JoinIndex.{Place};
 ghost use Rattle.cs_store.specs.Fault.{MemoryOr};
-ghost use Rattle.cs_rows.specs.Survivors.{contents_of};
-ghost use Rattle.cs_order.specs.Tables.{table_of};
 ghost use Rattle.cs_recovery.specs.Holding.{agrees};
 ghost use Rattle.cs_recovery.specs.Places.{entries_for};
 ghost use Rattle.cs_recovery.specs.Verdicts.{surviving_joins, misled};
 ghost use Rattle.cs_rebuild.specs.Steps.{is_memory};
 ghost use Rattle.cs_rebuild.specs.Verifying.{JoinedFaultAt, is_misled, misled_at, raw_entry};
 ghost use Rattle.cs_rebuild.specs.WorkLaws.{misled_is_no_memory, one_value};
+ghost use Rattle.cs_rebuild.specs.OnGround.{held_on, table_on};
 
 use crate::crew::Crew;
 use crate::ground::Ground;
@@ -58,7 +57,7 @@ fn leads(ground: &Ground<'_>, p: u16, s: u16, q: u16, join: &JoinIndex) -> bool
     requires survives { Survives ground.now.catalog.now ground.now.loss (NameData.Jix p s q) }
     requires target { q < length ground.now.catalog.now.projections }
     requires entries { (e : Place) → IsIn e join.now → e.1 ≡ 0 → e.0 ≡ 0 }
-    ensures { result ≡ pointwise (agrees ground.now.catalog.now ground.now.loss q) join.now (entries_for ground.now.catalog.now ground.now.loss (contents_of ground.now.survivors.now) (table_of ground.now.catalog.now ground.now.walked.now.rows) p s q) }
+    ensures { result ≡ pointwise (agrees ground.now.catalog.now ground.now.loss q) join.now (entries_for ground.now.catalog.now ground.now.loss (held_on ground.now) (table_on ground.now) p s q) }
 {
     let top = top_after(ground, p, s);
     if join.top() != top {
@@ -82,7 +81,7 @@ fn leads(ground: &Ground<'_>, p: u16, s: u16, q: u16, join: &JoinIndex) -> bool
 /// Whether a surviving join index leads to the places of its rows.
 fn is_led(ground: &Ground<'_>, p: u16, s: u16, q: u16) -> bool
     requires { Survives ground.now.catalog.now ground.now.loss (NameData.Jix p s q) }
-    ensures { result ≡ not (is_misled ground.now.catalog.now ground.now.loss (contents_of ground.now.survivors.now) (table_of ground.now.catalog.now ground.now.walked.now.rows) (p, s, q)) }
+    ensures { result ≡ not (is_misled ground.now.catalog.now ground.now.loss (held_on ground.now) (table_on ground.now) (p, s, q)) }
 {
     let _rules = ground.catalog.projection_count();
     match ground.survivors.join(p as usize, s as usize, q as usize) {
@@ -107,7 +106,7 @@ impl Work for JoinedWork<'_> {
 
     ghost pieces = { λ work. length work.joins.now };
 
-    ghost fault_at = { λ work i fault. JoinedFaultAt work.ground.now.catalog.now work.ground.now.loss (contents_of work.ground.now.survivors.now) (table_of work.ground.now.catalog.now work.ground.now.walked.now.rows) work.joins.now i fault };
+    ghost fault_at = { λ work i fault. JoinedFaultAt work.ground.now.catalog.now work.ground.now.loss (held_on work.ground.now) (table_on work.ground.now) work.joins.now i fault };
 
     ghost answers = { λ work i out. Unit {0} };
 
@@ -135,9 +134,9 @@ impl Work for JoinedWork<'_> {
         }
     }
 
-    ghost never_memory = { λ work i fault below at. misled_is_no_memory work.ground.now.catalog.now work.ground.now.loss (contents_of work.ground.now.survivors.now) (table_of work.ground.now.catalog.now work.ground.now.walked.now.rows) (slice_get work.joins.now i) fault at };
+    ghost never_memory = { λ work i fault below at. misled_is_no_memory work.ground.now.catalog.now work.ground.now.loss (held_on work.ground.now) (table_on work.ground.now) (slice_get work.joins.now i) fault at };
 
-    ghost one_fault = { λ work i f g below a b. one_value (option_and_then (misled_at work.ground.now.catalog.now work.ground.now.loss (contents_of work.ground.now.survivors.now) (table_of work.ground.now.catalog.now work.ground.now.walked.now.rows)) (slice_get work.joins.now i)) f g a b };
+    ghost one_fault = { λ work i f g below a b. one_value (option_and_then (misled_at work.ground.now.catalog.now work.ground.now.loss (held_on work.ground.now) (table_on work.ground.now)) (slice_get work.joins.now i)) f g a b };
 }
 
 /// Compares each surviving join index with the places of its rows.
@@ -148,8 +147,8 @@ pub fn verify_joins<R: Threads + Sync, G: Gate + Sync>(
 ) -> Result<(), Fault>
     requires few { length joins.now ≤ 1024 }
     requires joins { joins.now ≡ surviving_joins ground.now.catalog.now ground.now.loss }
-    ensures ok { OnOk result (misled ground.now.catalog.now ground.now.loss (contents_of ground.now.survivors.now) (table_of ground.now.catalog.now ground.now.walked.now.rows) ≡ None) }
-    ensures err { IfErr result (λ fault. MemoryOr fault (misled ground.now.catalog.now ground.now.loss (contents_of ground.now.survivors.now) (table_of ground.now.catalog.now ground.now.walked.now.rows) ≡ Some fault)) }
+    ensures ok { OnOk result (misled ground.now.catalog.now ground.now.loss (held_on ground.now) (table_on ground.now) ≡ None) }
+    ensures err { IfErr result (λ fault. MemoryOr fault (misled ground.now.catalog.now ground.now.loss (held_on ground.now) (table_on ground.now) ≡ Some fault)) }
 {
     let work = JoinedWork { ground, joins };
     match run(crew.rt, crew.alloc, crew.workers, &work, crew.gate) {

@@ -12,13 +12,12 @@ ghost use Rattle.cs_schema.specs.Values.{values};
 ghost use Rattle.cs_segment.specs.SegmentData.{kinds_at};
 ghost use Rattle.cs_delta.specs.Image.{image_rows};
 ghost use Rattle.cs_store.specs.Fault.{MemoryOr};
-ghost use Rattle.cs_rows.specs.Survivors.{contents_of};
 ghost use Rattle.cs_order.specs.Orders.{row_at};
-ghost use Rattle.cs_order.specs.Tables.{table_of};
 ghost use Rattle.cs_recovery.specs.Verdicts.{surviving_segments, misplaced};
 ghost use Rattle.cs_rebuild.specs.Steps.{is_memory};
 ghost use Rattle.cs_rebuild.specs.Verifying.{PlacedFaultAt, is_misplaced, misplaced_at};
 ghost use Rattle.cs_rebuild.specs.WorkLaws.{misplaced_is_no_memory, one_value};
+ghost use Rattle.cs_rebuild.specs.OnGround.{held_on, table_on};
 
 use crate::columns::table_column;
 use crate::crew::Crew;
@@ -69,7 +68,7 @@ fn has_rows(catalog: &Catalog, p: u16, image: &Image, walked: &Walked, numbers: 
 /// Whether the image of a surviving segment has the table's rows in its range, in their order.
 fn is_placed(ground: &Ground<'_>, p: u16, s: u16) -> bool
     requires { Survives ground.now.catalog.now ground.now.loss (NameData.Seg p s) }
-    ensures { result ≡ not (is_misplaced ground.now.catalog.now (contents_of ground.now.survivors.now) (table_of ground.now.catalog.now ground.now.walked.now.rows) (p, s)) }
+    ensures { result ≡ not (is_misplaced ground.now.catalog.now (held_on ground.now) (table_on ground.now) (p, s)) }
 {
     let numbers = ground.orders.segment(p, s);
     match ground.survivors.image(p as usize, s as usize) {
@@ -94,7 +93,7 @@ impl Work for PlacedWork<'_> {
 
     ghost pieces = { λ work. length work.segments.now };
 
-    ghost fault_at = { λ work i fault. PlacedFaultAt work.ground.now.catalog.now (contents_of work.ground.now.survivors.now) (table_of work.ground.now.catalog.now work.ground.now.walked.now.rows) work.segments.now i fault };
+    ghost fault_at = { λ work i fault. PlacedFaultAt work.ground.now.catalog.now (held_on work.ground.now) (table_on work.ground.now) work.segments.now i fault };
 
     ghost answers = { λ work i out. Unit {0} };
 
@@ -122,9 +121,9 @@ impl Work for PlacedWork<'_> {
         }
     }
 
-    ghost never_memory = { λ work i fault below at. misplaced_is_no_memory work.ground.now.catalog.now (contents_of work.ground.now.survivors.now) (table_of work.ground.now.catalog.now work.ground.now.walked.now.rows) (slice_get work.segments.now i) fault at };
+    ghost never_memory = { λ work i fault below at. misplaced_is_no_memory work.ground.now.catalog.now (held_on work.ground.now) (table_on work.ground.now) (slice_get work.segments.now i) fault at };
 
-    ghost one_fault = { λ work i f g below a b. one_value (option_and_then (misplaced_at work.ground.now.catalog.now (contents_of work.ground.now.survivors.now) (table_of work.ground.now.catalog.now work.ground.now.walked.now.rows)) (slice_get work.segments.now i)) f g a b };
+    ghost one_fault = { λ work i f g below a b. one_value (option_and_then (misplaced_at work.ground.now.catalog.now (held_on work.ground.now) (table_on work.ground.now)) (slice_get work.segments.now i)) f g a b };
 }
 
 /// Compares each surviving image with the table's rows.
@@ -135,8 +134,8 @@ pub fn verify_images<R: Threads + Sync, G: Gate + Sync>(
 ) -> Result<(), Fault>
     requires few { length segments.now ≤ 128 }
     requires segments { segments.now ≡ surviving_segments ground.now.catalog.now ground.now.loss }
-    ensures ok { OnOk result (misplaced ground.now.catalog.now ground.now.loss (contents_of ground.now.survivors.now) (table_of ground.now.catalog.now ground.now.walked.now.rows) ≡ None) }
-    ensures err { IfErr result (λ fault. MemoryOr fault (misplaced ground.now.catalog.now ground.now.loss (contents_of ground.now.survivors.now) (table_of ground.now.catalog.now ground.now.walked.now.rows) ≡ Some fault)) }
+    ensures ok { OnOk result (misplaced ground.now.catalog.now ground.now.loss (held_on ground.now) (table_on ground.now) ≡ None) }
+    ensures err { IfErr result (λ fault. MemoryOr fault (misplaced ground.now.catalog.now ground.now.loss (held_on ground.now) (table_on ground.now) ≡ Some fault)) }
 {
     let work = PlacedWork { ground, segments };
     match run(crew.rt, crew.alloc, crew.workers, &work, crew.gate) {

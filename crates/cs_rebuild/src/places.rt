@@ -3,17 +3,16 @@ ghost use Rattle.std.specs.Prelude.{◌≡◌, ◌<◌, ◌≤◌, ℕ, length};
 ghost use Rattle.cs_schema.specs.declared.file_name.FileName.{FileName as NameData};
 ghost use Rattle.cs_schema.specs.CatalogData.{HasSegment, segments};
 ghost use Rattle.cs_delta.specs.Image.{position_of_key};
-ghost use Rattle.cs_rows.specs.Survivors.{contents_of};
 ghost use Rattle.cs_order.specs.Orders.{row_at};
-ghost use Rattle.cs_order.specs.Tables.{table_of};
 ghost use Rattle.cs_recovery.specs.Places.{image_after, place_of, entry_for};
+ghost use Rattle.cs_rebuild.specs.OnGround.{held_on, table_on};
 
 use crate::ground::Ground;
 
 /// The greatest key of a segment after the recovery.
 pub fn top_after(ground: &Ground<'_>, p: u16, s: u16) -> u32
     requires { HasSegment ground.now.catalog.now p s }
-    ensures { result ≡ (image_after ground.now.catalog.now ground.now.loss (contents_of ground.now.survivors.now) (table_of ground.now.catalog.now ground.now.walked.now.rows) p s).top }
+    ensures { result ≡ (image_after ground.now.catalog.now ground.now.loss (held_on ground.now) (table_on ground.now) p s).top }
 {
     if ground.catalog.lost(p, s, ground.loss) {
         return ground.orders.segment(p, s).len() as u32;
@@ -27,7 +26,7 @@ pub fn top_after(ground: &Ground<'_>, p: u16, s: u16) -> u32
 /// The position of a key in a segment after the recovery.
 fn position_after(ground: &Ground<'_>, p: u16, s: u16, key: u32) -> Option<u32>
     requires { HasSegment ground.now.catalog.now p s }
-    ensures { result ≡ position_of_key (image_after ground.now.catalog.now ground.now.loss (contents_of ground.now.survivors.now) (table_of ground.now.catalog.now ground.now.walked.now.rows) p s) key }
+    ensures { result ≡ position_of_key (image_after ground.now.catalog.now ground.now.loss (held_on ground.now) (table_on ground.now) p s) key }
 {
     if ground.catalog.lost(p, s, ground.loss) {
         let rows = ground.orders.segment(p, s).len();
@@ -49,7 +48,7 @@ fn position_after(ground: &Ground<'_>, p: u16, s: u16, key: u32) -> Option<u32>
 pub fn place_of(ground: &Ground<'_>, q: u16, row: u32) -> (u16, u32)
     requires projection { q < length ground.now.catalog.now.projections }
     requires row { row < length ground.now.walked.now.rows }
-    ensures place { result ≡ place_of ground.now.catalog.now ground.now.loss (contents_of ground.now.survivors.now) (table_of ground.now.catalog.now ground.now.walked.now.rows) q (row_at ground.now.walked.now.rows row) }
+    ensures place { result ≡ place_of ground.now.catalog.now ground.now.loss (held_on ground.now) (table_on ground.now) q (row_at ground.now.walked.now.rows row) }
     ensures exists { result.0 < segments ground.now.catalog.now q }
 {
     let (t, index) = ground.orders.place(q, row);
@@ -72,7 +71,7 @@ pub fn place_of(ground: &Ground<'_>, q: u16, row: u32) -> (u16, u32)
 pub fn entry_for(ground: &Ground<'_>, p: u16, s: u16, q: u16, key: u32) -> (u16, u32)
     requires segment { HasSegment ground.now.catalog.now p s }
     requires target { q < length ground.now.catalog.now.projections }
-    ensures entry { result ≡ entry_for ground.now.catalog.now ground.now.loss (contents_of ground.now.survivors.now) (table_of ground.now.catalog.now ground.now.walked.now.rows) p s q key }
+    ensures entry { result ≡ entry_for ground.now.catalog.now ground.now.loss (held_on ground.now) (table_on ground.now) p s q key }
     ensures exists { result.0 < segments ground.now.catalog.now q }
 {
     let numbers = ground.orders.segment(p, s);

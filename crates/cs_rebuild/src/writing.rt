@@ -2,7 +2,6 @@
 ghost use Rattle.std.specs.Prelude.{◌≡◌, ◌<◌, ℕ, map, length, IfOk, IfErr, OnOk};
 ghost use Rattle.cs_schema.specs.declared.file_name.FileName.{FileName as NameData};
 ghost use Rattle.cs_schema.specs.CatalogData.{HasSegment, segments};
-ghost use Rattle.cs_schema.specs.FileNames.{FileContents};
 ghost use Rattle.cs_schema.specs.Order.{rows_of};
 ghost use Rattle.cs_schema.specs.Rows.{project};
 ghost use Rattle.cs_segment.specs.SegmentFile.{segment_text, base_of};
@@ -10,12 +9,10 @@ ghost use Rattle.cs_delta.specs.DeltaFile.{delta_text, no_changes};
 ghost use Rattle.cs_jix.specs.JoinIndex.{join_index_text};
 ghost use Rattle.cs_store.specs.FileSet.{contents_of};
 ghost use Rattle.cs_store.specs.declared.fault.Fault.{Fault as FaultData};
-ghost use Rattle.cs_rows.specs.Survivors.{contents_of as held_by};
-ghost use Rattle.cs_order.specs.Tables.{table_of};
-ghost use Rattle.cs_recovery.specs.Expected.{written, is_affected};
+ghost use Rattle.cs_recovery.specs.Expected.{is_affected};
 ghost use Rattle.cs_recovery.specs.Places.{entries_for};
-ghost use Rattle.cs_rebuild.specs.Steps.{AreSound};
 ghost use Rattle.cs_rebuild.specs.Writing.{IsPartOf, HasWritten, KeepsWritten, IsSegmentWritten, AreSegmentsWritten};
+ghost use Rattle.cs_rebuild.specs.OnGround.{IsSound, held_on, table_on, written_on};
 
 use crate::crew::Crew;
 use crate::encoding::encode_columns;
@@ -40,8 +37,8 @@ fn segment_bytes<R: Threads + Sync, G: Gate + Sync>(
     s: u16,
 ) -> Result<Vec<u8>, AllocError>
     requires segment { HasSegment ground.now.catalog.now p s }
-    requires sound { (F : FileContents) × AreSound ground.now.catalog.now F ground.now.loss ground.now.survivors.now ground.now.walked.now ground.now.orders.now }
-    ensures ok { IfOk result (λ bytes. bytes.items ≡ segment_text ground.now.catalog.now p s (base_of ground.now.catalog.now p (map (project ground.now.catalog.now p) (rows_of ground.now.catalog.now (table_of ground.now.catalog.now ground.now.walked.now.rows) p s)))) }
+    requires sound { IsSound ground.now }
+    ensures ok { IfOk result (λ bytes. bytes.items ≡ segment_text ground.now.catalog.now p s (base_of ground.now.catalog.now p (map (project ground.now.catalog.now p) (rows_of ground.now.catalog.now (table_on ground.now) p s)))) }
 {
     let columns = match encode_columns(crew, ground, p, s) {
         Ok(columns) => columns,
@@ -54,7 +51,7 @@ fn segment_bytes<R: Threads + Sync, G: Gate + Sync>(
 /// The file of a lost segment's delta: it has no changes.
 fn delta_bytes(alloc: Global, ground: &Ground<'_>, p: u16, s: u16) -> Result<Vec<u8>, AllocError>
     requires segment { HasSegment ground.now.catalog.now p s }
-    ensures { IfOk result (λ bytes. bytes.items ≡ delta_text (no_changes p s (length (rows_of ground.now.catalog.now (table_of ground.now.catalog.now ground.now.walked.now.rows) p s)))) }
+    ensures { IfOk result (λ bytes. bytes.items ≡ delta_text (no_changes p s (length (rows_of ground.now.catalog.now (table_on ground.now) p s)))) }
 {
     let rows = ground.orders.segment(p, s).len() as u32;
     write_empty_delta(alloc, p, s, rows)
@@ -70,7 +67,7 @@ fn entries_of(
 ) -> Result<Vec<(u16, u32)>, AllocError>
     requires segment { HasSegment ground.now.catalog.now p s }
     requires target { q < length ground.now.catalog.now.projections }
-    ensures { IfOk result (λ entries. entries.items ≡ entries_for ground.now.catalog.now ground.now.loss (held_by ground.now.survivors.now) (table_of ground.now.catalog.now ground.now.walked.now.rows) p s q) }
+    ensures { IfOk result (λ entries. entries.items ≡ entries_for ground.now.catalog.now ground.now.loss (held_on ground.now) (table_on ground.now) p s q) }
 {
     let top = top_after(ground, p, s);
     let mut entries = Vec::with_capacity(alloc, top as usize)?;
@@ -90,8 +87,8 @@ fn join_bytes(
 ) -> Result<Vec<u8>, AllocError>
     requires segment { HasSegment ground.now.catalog.now p s }
     requires target { q < length ground.now.catalog.now.projections }
-    requires sound { (F : FileContents) × AreSound ground.now.catalog.now F ground.now.loss ground.now.survivors.now ground.now.walked.now ground.now.orders.now }
-    ensures { IfOk result (λ bytes. bytes.items ≡ join_index_text p s q (entries_for ground.now.catalog.now ground.now.loss (held_by ground.now.survivors.now) (table_of ground.now.catalog.now ground.now.walked.now.rows) p s q)) }
+    requires sound { IsSound ground.now }
+    ensures { IfOk result (λ bytes. bytes.items ≡ join_index_text p s q (entries_for ground.now.catalog.now ground.now.loss (held_on ground.now) (table_on ground.now) p s q)) }
 {
     let _rules = ground.catalog.projection_count();
     let entries = entries_of(alloc, ground, p, s, q)?;
@@ -122,12 +119,12 @@ fn write_base<R: Threads + Sync, G: Gate + Sync>(
     files: &mut FileSet,
 ) -> Result<(), AllocError>
     requires segment { HasSegment ground.now.catalog.now p s }
-    requires sound { (F : FileContents) × AreSound ground.now.catalog.now F ground.now.loss ground.now.survivors.now ground.now.walked.now ground.now.orders.now }
-    requires part { IsPartOf (written ground.now.catalog.now ground.now.loss (held_by ground.now.survivors.now) (table_of ground.now.catalog.now ground.now.walked.now.rows)) files.old }
-    ensures part { OnOk result (IsPartOf (written ground.now.catalog.now ground.now.loss (held_by ground.now.survivors.now) (table_of ground.now.catalog.now ground.now.walked.now.rows)) files.new) }
-    ensures kept { OnOk result (KeepsWritten (written ground.now.catalog.now ground.now.loss (held_by ground.now.survivors.now) (table_of ground.now.catalog.now ground.now.walked.now.rows)) files.old files.new) }
-    ensures segment { OnOk result (HasWritten (written ground.now.catalog.now ground.now.loss (held_by ground.now.survivors.now) (table_of ground.now.catalog.now ground.now.walked.now.rows)) files.new (NameData.Seg p s)) }
-    ensures delta { OnOk result (HasWritten (written ground.now.catalog.now ground.now.loss (held_by ground.now.survivors.now) (table_of ground.now.catalog.now ground.now.walked.now.rows)) files.new (NameData.Del p s)) }
+    requires sound { IsSound ground.now }
+    requires part { IsPartOf (written_on ground.now) files.old }
+    ensures part { OnOk result (IsPartOf (written_on ground.now) files.new) }
+    ensures kept { OnOk result (KeepsWritten (written_on ground.now) files.old files.new) }
+    ensures segment { OnOk result (HasWritten (written_on ground.now) files.new (NameData.Seg p s)) }
+    ensures delta { OnOk result (HasWritten (written_on ground.now) files.new (NameData.Del p s)) }
 {
     if !ground.catalog.lost(p, s, ground.loss) {
         return Ok(());
@@ -150,11 +147,11 @@ fn write_join(
 ) -> Result<(), AllocError>
     requires segment { HasSegment ground.now.catalog.now p s }
     requires target { q < length ground.now.catalog.now.projections }
-    requires sound { (F : FileContents) × AreSound ground.now.catalog.now F ground.now.loss ground.now.survivors.now ground.now.walked.now ground.now.orders.now }
-    requires part { IsPartOf (written ground.now.catalog.now ground.now.loss (held_by ground.now.survivors.now) (table_of ground.now.catalog.now ground.now.walked.now.rows)) files.old }
-    ensures part { OnOk result (IsPartOf (written ground.now.catalog.now ground.now.loss (held_by ground.now.survivors.now) (table_of ground.now.catalog.now ground.now.walked.now.rows)) files.new) }
-    ensures kept { OnOk result (KeepsWritten (written ground.now.catalog.now ground.now.loss (held_by ground.now.survivors.now) (table_of ground.now.catalog.now ground.now.walked.now.rows)) files.old files.new) }
-    ensures join { OnOk result (HasWritten (written ground.now.catalog.now ground.now.loss (held_by ground.now.survivors.now) (table_of ground.now.catalog.now ground.now.walked.now.rows)) files.new (NameData.Jix p s q)) }
+    requires sound { IsSound ground.now }
+    requires part { IsPartOf (written_on ground.now) files.old }
+    ensures part { OnOk result (IsPartOf (written_on ground.now) files.new) }
+    ensures kept { OnOk result (KeepsWritten (written_on ground.now) files.old files.new) }
+    ensures join { OnOk result (HasWritten (written_on ground.now) files.new (NameData.Jix p s q)) }
 {
     if !is_affected(ground, p, s, q) {
         return Ok(());
@@ -173,11 +170,11 @@ fn write_joins(
     files: &mut FileSet,
 ) -> Result<(), AllocError>
     requires segment { HasSegment ground.now.catalog.now p s }
-    requires sound { (F : FileContents) × AreSound ground.now.catalog.now F ground.now.loss ground.now.survivors.now ground.now.walked.now ground.now.orders.now }
-    requires part { IsPartOf (written ground.now.catalog.now ground.now.loss (held_by ground.now.survivors.now) (table_of ground.now.catalog.now ground.now.walked.now.rows)) files.old }
-    ensures part { OnOk result (IsPartOf (written ground.now.catalog.now ground.now.loss (held_by ground.now.survivors.now) (table_of ground.now.catalog.now ground.now.walked.now.rows)) files.new) }
-    ensures kept { OnOk result (KeepsWritten (written ground.now.catalog.now ground.now.loss (held_by ground.now.survivors.now) (table_of ground.now.catalog.now ground.now.walked.now.rows)) files.old files.new) }
-    ensures joins { OnOk result ((q : ℕ) → HasWritten (written ground.now.catalog.now ground.now.loss (held_by ground.now.survivors.now) (table_of ground.now.catalog.now ground.now.walked.now.rows)) files.new (NameData.Jix p s q)) }
+    requires sound { IsSound ground.now }
+    requires part { IsPartOf (written_on ground.now) files.old }
+    ensures part { OnOk result (IsPartOf (written_on ground.now) files.new) }
+    ensures kept { OnOk result (KeepsWritten (written_on ground.now) files.old files.new) }
+    ensures joins { OnOk result ((q : ℕ) → HasWritten (written_on ground.now) files.new (NameData.Jix p s q)) }
 {
     for q in 0..ground.catalog.projection_count() {
         write_join(alloc, ground, p, s, q, files)?;
@@ -194,11 +191,11 @@ fn write_segment_files<R: Threads + Sync, G: Gate + Sync>(
     files: &mut FileSet,
 ) -> Result<(), AllocError>
     requires segment { HasSegment ground.now.catalog.now p s }
-    requires sound { (F : FileContents) × AreSound ground.now.catalog.now F ground.now.loss ground.now.survivors.now ground.now.walked.now ground.now.orders.now }
-    requires part { IsPartOf (written ground.now.catalog.now ground.now.loss (held_by ground.now.survivors.now) (table_of ground.now.catalog.now ground.now.walked.now.rows)) files.old }
-    ensures part { OnOk result (IsPartOf (written ground.now.catalog.now ground.now.loss (held_by ground.now.survivors.now) (table_of ground.now.catalog.now ground.now.walked.now.rows)) files.new) }
-    ensures kept { OnOk result (KeepsWritten (written ground.now.catalog.now ground.now.loss (held_by ground.now.survivors.now) (table_of ground.now.catalog.now ground.now.walked.now.rows)) files.old files.new) }
-    ensures all { OnOk result (IsSegmentWritten (written ground.now.catalog.now ground.now.loss (held_by ground.now.survivors.now) (table_of ground.now.catalog.now ground.now.walked.now.rows)) files.new p s) }
+    requires sound { IsSound ground.now }
+    requires part { IsPartOf (written_on ground.now) files.old }
+    ensures part { OnOk result (IsPartOf (written_on ground.now) files.new) }
+    ensures kept { OnOk result (KeepsWritten (written_on ground.now) files.old files.new) }
+    ensures all { OnOk result (IsSegmentWritten (written_on ground.now) files.new p s) }
 {
     write_base(crew, ground, p, s, files)?;
     write_joins(crew.alloc, ground, p, s, files)?;
@@ -213,11 +210,11 @@ fn write_projection<R: Threads + Sync, G: Gate + Sync>(
     files: &mut FileSet,
 ) -> Result<(), AllocError>
     requires projection { p < length ground.now.catalog.now.projections }
-    requires sound { (F : FileContents) × AreSound ground.now.catalog.now F ground.now.loss ground.now.survivors.now ground.now.walked.now ground.now.orders.now }
-    requires part { IsPartOf (written ground.now.catalog.now ground.now.loss (held_by ground.now.survivors.now) (table_of ground.now.catalog.now ground.now.walked.now.rows)) files.old }
-    ensures part { OnOk result (IsPartOf (written ground.now.catalog.now ground.now.loss (held_by ground.now.survivors.now) (table_of ground.now.catalog.now ground.now.walked.now.rows)) files.new) }
-    ensures kept { OnOk result (KeepsWritten (written ground.now.catalog.now ground.now.loss (held_by ground.now.survivors.now) (table_of ground.now.catalog.now ground.now.walked.now.rows)) files.old files.new) }
-    ensures all { OnOk result (AreSegmentsWritten (written ground.now.catalog.now ground.now.loss (held_by ground.now.survivors.now) (table_of ground.now.catalog.now ground.now.walked.now.rows)) files.new p (segments ground.now.catalog.now p)) }
+    requires sound { IsSound ground.now }
+    requires part { IsPartOf (written_on ground.now) files.old }
+    ensures part { OnOk result (IsPartOf (written_on ground.now) files.new) }
+    ensures kept { OnOk result (KeepsWritten (written_on ground.now) files.old files.new) }
+    ensures all { OnOk result (AreSegmentsWritten (written_on ground.now) files.new p (segments ground.now.catalog.now p)) }
 {
     for s in 0..ground.catalog.segments(p) {
         write_segment_files(crew, ground, p, s, files)?;
@@ -230,8 +227,8 @@ pub fn write_lost<R: Threads + Sync, G: Gate + Sync>(
     crew: &Crew<'_, R, G>,
     ground: &Ground<'_>,
 ) -> Result<FileSet, Fault>
-    requires sound { (F : FileContents) × AreSound ground.now.catalog.now F ground.now.loss ground.now.survivors.now ground.now.walked.now ground.now.orders.now }
-    ensures ok { IfOk result (λ out. (n : NameData) → contents_of out n ≡ written ground.now.catalog.now ground.now.loss (held_by ground.now.survivors.now) (table_of ground.now.catalog.now ground.now.walked.now.rows) n) }
+    requires sound { IsSound ground.now }
+    ensures ok { IfOk result (λ out. (n : NameData) → contents_of out n ≡ written_on ground.now n) }
     ensures err { IfErr result (λ fault. fault ≡ FaultData.Memory) }
 {
     let mut files = match FileSet::new(crew.alloc) {

@@ -85,6 +85,8 @@ impl Catalog {
     ghost use Rattle.cs_schema.specs.FileNames.{name_cmp, surviving};
     ghost use Rattle.cs_schema.specs.Losses.{lost, IsLoss};
     ghost use Rattle.cs_schema.specs.Ranges.{range_of};
+    ghost use Rattle.cs_schema.specs.Rows.{cell};
+    ghost use Rattle.cs_schema.specs.Values.{values};
 
     /// How many projections there are.
     pub fn projection_count(&self) -> u16
@@ -184,6 +186,23 @@ impl Catalog {
         let mut segment = 0;
         for at in 0..cuts.len() {
             if cuts.compare(at, value).is_le() {
+                segment += 1;
+            }
+        }
+        segment
+    }
+
+    /// The range in which a cell of the first sort column lies, read in place.
+    pub fn segment_of_cell(&self, p: u16, cells: &Cells, row: usize) -> u16
+        requires projection { p < length self.now.projections }
+        requires there { row < length (values cells.now) }
+        ensures range { result ≡ range_of (projection self.now p).cuts (cell (values cells.now) row) }
+        ensures exists { result < segments self.now p }
+    {
+        let cuts = &self.projection(p).cuts;
+        let mut segment = 0;
+        for at in 0..cuts.len() {
+            if cuts.compare_cell(at, cells, row).is_le() {
                 segment += 1;
             }
         }

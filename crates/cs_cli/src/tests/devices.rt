@@ -1,7 +1,7 @@
 //! Stores whose files can't be read or written, one after the other.
 use super::expect;
 use super::places::{MemoryPlaces, places_of};
-use super::stores::{Stored, joined, three_projections};
+use super::stores::{Stored, joined, three_projections, three_projections_by_rows};
 use cs_schema::FileName;
 use cs_store::memory::Failure;
 use cs_store::{FileSet, StoreFault};
@@ -107,8 +107,12 @@ fn makes_no_output_for_a_refused_store(rt: HostRuntime) -> Result<(), Fail> {
     let stored = three_projections(&rt)?;
     let mut places = places_of(rt.alloc(), &stored)?;
     makes_nothing(&rt, &mut places, "check 3 S", "fault: unsafe loss: 1,3,5\n")?;
-    let line = "recover S O 1 3 5";
-    makes_nothing(&rt, &mut places, line, "fault: unsafe loss: 1,3,5\n")?;
+    for (line, text) in [
+        ("recover S O 1 3 5", "fault: unsafe loss: 1,3,5\n"),
+        ("recover S O 1 3 6", "fault: unsafe loss: 1,3,6\n"),
+    ] {
+        makes_nothing(&rt, &mut places, line, text)?;
+    }
     let segment = FileName::Seg { p: 1, s: 1 };
     places.files.put(segment, Vec::new(rt.alloc()))?;
     let text = "fault: damaged p1.s1.seg\n";
@@ -124,6 +128,12 @@ fn recovers_each_store(rt: HostRuntime) -> Result<(), Fail> {
     for (stored, line, text, count) in [
         (joined(&rt)?, RECOVER_JOINED, "ok files=2\n", 2),
         (three_projections(&rt)?, RECOVER_THREE, "ok files=4\n", 4),
+        (
+            three_projections_by_rows(&rt)?,
+            "recover S O 1 3 6",
+            "ok files=6\n",
+            6,
+        ),
         (joined(&rt)?, "check 1 S", "ok rows=2 k=1\n", 0),
         (three_projections(&rt)?, "check 2 S", "ok rows=4 k=2\n", 0),
     ] {

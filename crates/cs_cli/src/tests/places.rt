@@ -23,7 +23,7 @@ pub struct Taken {
 /// One store, and one output that the tests can look into.
 #[derive(Drop)]
 pub struct MemoryPlaces {
-    pub catalog: Option<&'static [u8]>,
+    pub catalog: Option<Vec<u8>>,
     pub files: FileSet,
     pub read_failure: Option<Failure>,
     pub write_failure: Option<Failure>,
@@ -44,7 +44,7 @@ pub struct SharedOutput {
 /// Places with the sample's store, whole, where nothing fails.
 pub fn places(alloc: Global) -> Result<MemoryPlaces, Fail> {
     let stored = Stored {
-        catalog: sample::CATALOG.as_bytes(),
+        catalog: Vec::from_slice(alloc, sample::CATALOG.as_bytes())?,
         files: whole_sample(alloc)?,
     };
     places_of(alloc, &stored)
@@ -57,7 +57,7 @@ pub fn places_of(alloc: Global, stored: &Stored) -> Result<MemoryPlaces, Fail> {
         mark: None,
     };
     Ok(MemoryPlaces {
-        catalog: Some(stored.catalog),
+        catalog: Some(Vec::from_slice(alloc, stored.catalog.as_slice())?),
         files: copy_files(alloc, &stored.files)?,
         read_failure: None,
         write_failure: None,
@@ -109,11 +109,13 @@ impl Places for MemoryPlaces {
     ghost fault_count = { λ s. s.faults };
 
     fn store(&mut self, _path: &str) -> Result<(Vec<u8>, MemorySource), StoreFault> {
-        let Some(catalog) = self.catalog else {
+        let Some(catalog) = &self.catalog else {
             self.faults = self.faults.saturating_add(1);
             return Err(StoreFault::Device);
         };
-        let bytes = Vec::from_slice(self.alloc, catalog).map_err(|_| StoreFault::Memory)?;
+        let bytes = Vec::from_slice(self.alloc, catalog.as_slice()).map_err(
+            |_| StoreFault::Memory,
+        )?;
         let files = copy_files(self.alloc, &self.files).map_err(|_| StoreFault::Memory)?;
         Ok((
             bytes,

@@ -12,7 +12,7 @@ use std::thread::Threads;
 /// A catalog, and all files of a store.
 #[derive(Drop)]
 pub struct Stored {
-    pub catalog: &'static [u8],
+    pub catalog: Vec<u8>,
     pub files: FileSet,
 }
 
@@ -59,10 +59,22 @@ pub fn three_projections(rt: &(impl Threads + Sync + AllocGlobal)) -> Result<Sto
     whole(rt, THREE_PROJECTIONS, &THREE_SEGMENTS, loss)
 }
 
+/// The same store, safe by rows.
+pub fn three_projections_by_rows(rt: &(impl Threads + Sync + AllocGlobal)) -> Result<Stored, Fail> {
+    let alloc = rt.alloc();
+    let mut stored = three_projections(rt)?;
+    let (_, rest) = THREE_PROJECTIONS
+        .split_once("version = 1\n")
+        .ok_or("no version")?;
+    let text = format!(in alloc; "version = 2\nsafety = \"rows\"\n{rest}")?;
+    stored.catalog = Vec::from_slice(alloc, text.as_bytes())?;
+    Ok(stored)
+}
+
 /// The store of which the third projection is this. The loss is that of the others.
 fn whole(
     rt: &(impl Threads + Sync + AllocGlobal),
-    text: &'static str,
+    text: &str,
     segments: &[Segment],
     loss: Loss,
 ) -> Result<Stored, Fail> {
@@ -82,7 +94,7 @@ fn whole(
         files.put(name, Vec::from_slice(alloc, bytes)?)?;
     }
     Ok(Stored {
-        catalog: text.as_bytes(),
+        catalog: Vec::from_slice(alloc, text.as_bytes())?,
         files,
     })
 }

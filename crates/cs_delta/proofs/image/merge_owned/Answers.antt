@@ -1,0 +1,71 @@
+use Rattle.std.proofs.Common.{◌≡◌, ◌≤◌, ℕ, List, map, length, ap, sym, subst, ◌∙◌, arith, refl, inl, inr}
+use Rattle.std.proofs.lemmas.List.{length-map}
+use Rattle.std.proofs.lemmas.Result.{err_from_is_err_and}
+use Rattle.cs_schema.specs.Values.{values, kind_of}
+use Rattle.cs_delta.specs.Image.{base_pairs}
+use Rattle.cs_segment.specs.SegmentData.{SegmentData}
+use Rattle.cs_segment.specs.SegmentView.{segment_data}
+use Rattle.cs_delta.specs.ItemView.{changes_of}
+use Rattle.cs_delta.specs.DeltaView.{delta_data}
+use Rattle.cs_delta.specs.Layers.{AreLayers, HaveLength}
+use Rattle.cs_delta.specs.DeltaFile.{DeltaData, CanMerge, HasVersion}
+use Rattle.cs_delta.specs.KindedImage.{MayMerge, merged_image, base_keys}
+use Rattle.cs_delta.proofs.LayerCounts.{may_merge}
+use Rattle.cs_delta.proofs.Merged.{length-base_keys, base_are, merged_is, can_merge}
+use Rattle.cs_delta.proofs.image.merge_owned.Goals as goal
+
+may : (x s : SegmentData) (y d : DeltaData) → x ≡ s → y ≡ d → MayMerge s d → MayMerge x y
+may x s y d e f h =
+    let S : SegmentData → Type 0 = λ a. MayMerge a d in
+    let D : DeltaData → Type 0 = λ a. MayMerge x a in
+    subst D (sym f) (subst S (sym e) h)
+
+can : (x s : SegmentData) (y d : DeltaData) → x ≡ s → y ≡ d → CanMerge s.base d → CanMerge x.base y
+can x s y d e f h =
+    let S : SegmentData → Type 0 = λ a. CanMerge a.base d in
+    let D : DeltaData → Type 0 = λ a. CanMerge x.base a in
+    subst D (sym f) (subst S (sym e) h)
+
+pub apply_layers-requires-clause-few : goal.apply_layers-requires-clause-few
+apply_layers-requires-clause-few c =
+    let req = may (segment_data c.segment.inside) c.args.segment (delta_data c.delta.inside) c.args.delta.now c.segment.view_is c.delta.view_is (may_merge c.args.segment c.args.delta.now c.requires) in
+    omega (arith, req.count, ap length c.in_ok-keys.ensures ∙ length-base_keys c.segment.inside.rows)
+
+pub apply_layers-requires-clause-layers : goal.apply_layers-requires-clause-layers
+apply_layers-requires-clause-layers c =
+    let req = may (segment_data c.segment.inside) c.args.segment (delta_data c.delta.inside) c.args.delta.now c.segment.view_is c.delta.view_is (may_merge c.args.segment c.args.delta.now c.requires) in
+    let same : c.segment.inside.rows ≡ c.delta.inside.rows = omega arith in
+    let N : List ℕ → Type 0 = λ n. AreLayers (map kind_of c.segment.inside.columns.items) n (map changes_of c.delta.inside.layers.items) in
+    rw c.deref.ensures.value (subst N (sym (c.in_ok-keys.ensures ∙ ap base_keys same)) req.layers)
+
+pub apply_layers-requires-clause-lengths : goal.apply_layers-requires-clause-lengths
+apply_layers-requires-clause-lengths c =
+    let req = may (segment_data c.segment.inside) c.args.segment (delta_data c.delta.inside) c.args.delta.now c.segment.view_is c.delta.view_is (may_merge c.args.segment c.args.delta.now c.requires) in
+    let N : ℕ → Type 0 = λ n. HaveLength n (map values c.segment.inside.columns.items) in
+    (subst N (sym (ap length c.in_ok-keys.ensures ∙ length-base_keys c.segment.inside.rows)) req.lengths)
+
+pub returns-in_err-made-clause-refused : goal.returns-in_err-made-clause-refused
+returns-in_err-made-clause-refused c = λ damaged h.
+    let q = err_from_is_err_and c.from_residual-in_err-made.result c.from_residual-in_err-made.ensures.1 in
+    let req = may (segment_data c.segment.inside) c.args.segment (delta_data c.delta.inside) c.args.delta.now c.segment.view_is c.delta.view_is (may_merge c.args.segment c.args.delta.now c.requires) in
+    let fit = can (segment_data c.segment.inside) c.args.segment (delta_data c.delta.inside) c.args.delta.now c.segment.view_is c.delta.view_is h in
+    let base = (segment_data c.segment.inside).base in
+    let many = rw c.deref.ensures.value at c.in_err-made.ensures.many in
+    many (let r1 = q.1 in let r2 = q.2 in cc) (base_pairs base) ((base_are base req.lengths).keys_are ∙ sym c.in_ok-keys.ensures) fit.few
+
+pub returns-clause-merged : goal.returns-clause-merged
+returns-clause-merged c =
+    let req = may (segment_data c.segment.inside) c.args.segment (delta_data c.delta.inside) c.args.delta.now c.segment.view_is c.delta.view_is (may_merge c.args.segment c.args.delta.now c.requires) in
+    let x = segment_data c.segment.inside in
+    let y = delta_data c.delta.inside in
+    let made = rw (c.in_ok-keys.ensures, c.deref.ensures.value) at c.in_ok-made.ensures.made in
+    merged_is x.base y x.kinds (map kind_of c.in_ok-made.made.columns.items) c.in_ok-made.made.keys.items (map values c.in_ok-made.made.columns.items) c.delta.inside.top req.lengths made refl c.in_ok-made.ensures.kinds
+    ∙ ap (λ (s : SegmentData). merged_image s y) c.segment.view_is ∙ ap (λ (d : DeltaData). merged_image c.args.segment d) c.delta.view_is
+
+pub returns-clause-can : goal.returns-clause-can
+returns-clause-can c =
+    let req = may (segment_data c.segment.inside) c.args.segment (delta_data c.delta.inside) c.args.delta.now c.segment.view_is c.delta.view_is (may_merge c.args.segment c.args.delta.now c.requires) in
+    let x = segment_data c.segment.inside in
+    let y = delta_data c.delta.inside in
+    let made = rw (c.in_ok-keys.ensures, c.deref.ensures.value) at c.in_ok-made.ensures.made in
+    can c.args.segment x c.args.delta.now y (sym c.segment.view_is) (sym c.delta.view_is) (can_merge x.base y c.in_ok-made.made.keys.items (map values c.in_ok-made.made.columns.items) req.lengths (omega arith) made)
