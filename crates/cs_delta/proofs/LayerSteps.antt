@@ -1,11 +1,12 @@
 -- One layer after others.
-use Rattle.std.proofs.Common.{◌≡◌, ℕ, ◌+◌, ◌<◌, ◌≤◌, List, [], ◌∷◌, ◌++◌, map, length, get_or, take, drop, refl, sym, ap, subst, ◌∙◌, arith}
+use Rattle.std.proofs.Common.{◌≡◌, ℕ, suc, ◌+◌, ◌<◌, ◌≤◌, List, [], ◌∷◌, ◌++◌, map, length, get_or, take, drop, refl, sym, ap, subst, ◌∙◌, arith}
+use Rattle.std.specs.Prelude.{All}
 use Rattle.std.proofs.lemmas.List.{length-map, take-append-drop, map-append}
 use Rattle.cs_schema.specs.declared.kinds.Kind.{Kind}
 use Rattle.cs_schema.specs.declared.cells.Value.{Value}
 use Rattle.cs_schema.specs.Lists.{IsIn}
 use Rattle.cs_schema.specs.Order.{row_limit}
-use Rattle.cs_delta.specs.Image.{Change, Pair, applied}
+use Rattle.cs_delta.specs.Image.{Change, Pair, applied, applied_from}
 use Rattle.cs_delta.specs.Edits.{edited_from}
 use Rattle.cs_delta.specs.ItemView.{key_edits}
 use Rattle.cs_delta.specs.Layers.{ArePairs, AreLayers, IsLayerOf, HasWidth, HaveLength, IsMadeBy, key_of, edited_columns}
@@ -108,4 +109,37 @@ made_next keys ks new columns cs vs kinds before next done l left m ek ev eb few
       lengths = lengths_after ks new cs vs l m.lengths wide ek ev;
       kinds_are = eb ∙ m.kinds_are;
       width = ap length eb ∙ m.width ∙ sym (ap length ev ∙ length-edited_columns l 0 cs);
+    }
+
+-- a layer with no items leaves pairs as they are
+nothing_applied : (i : ℕ) (xs : List Pair) → applied_from [] i xs ≡ xs
+nothing_applied i [] = refl
+nothing_applied i (x ∷ xs) = ap (λ (ys : List Pair). x ∷ ys) (nothing_applied (i + 1) xs)
+
+abbrev AreEmpty : List (List Change) → Type 0
+AreEmpty [] = Unit {0}
+AreEmpty (l ∷ ls) = (l ≡ []) × AreEmpty ls
+
+are_empty : (ls : List (List Change)) → All (λ l. l ≡ []) ls → AreEmpty ls
+are_empty [] h = tt
+are_empty (l ∷ ls) h = (h 0 [] (omega arith), are_empty ls (λ k d lt. h (suc k) d (omega arith)))
+
+nothing_layered : (ls : List (List Change)) (xs : List Pair) → AreEmpty ls → layered ls xs ≡ xs
+nothing_layered [] xs h = refl
+nothing_layered (l ∷ ls) xs h = ap (λ (m : List Change). layered ls (applied m xs)) h.0 ∙ ap (layered ls) (nothing_applied 0 xs) ∙ nothing_layered ls xs h.1
+
+nothing_fits : (ls : List (List Change)) (xs : List Pair) → AreEmpty ls → length xs ≤ 1048576 → AllFit ls xs
+nothing_fits [] xs h few = tt
+nothing_fits (l ∷ ls) xs h few =
+    let same : applied l xs ≡ xs = ap (λ (m : List Change). applied m xs) h.0 ∙ nothing_applied 0 xs in
+    rw same (few, nothing_fits ls xs h.1 few)
+
+-- layers with no items leave keys and columns as they are
+pub made_of_nothing : (keys : List ℕ) (columns : List (List Value)) (ls : List (List Change)) → length keys ≤ 1048576 → All (λ l. l ≡ []) ls → IsMadeBy keys columns ls keys columns
+made_of_nothing keys columns ls few h =
+    let none = are_empty ls h in
+    record {
+      pairs = λ xs p. subst (ArePairs keys columns) (sym (nothing_layered ls xs none)) p;
+      few = λ xs e. nothing_fits ls xs none (let n = ap length e in let m = length-map xs key_of in omega arith);
+      keys_are = λ xs e. ap (map key_of) (nothing_layered ls xs none) ∙ e;
     }

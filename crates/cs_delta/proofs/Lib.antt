@@ -13,3 +13,4 @@ pub mod ItemTexts
 pub mod HeadTexts
 pub mod KeyLists
 pub mod LayerCounts
+pub mod FirstKeys

@@ -10,3 +10,4 @@ pub mod DeltaView
 pub mod ImageView
 pub mod Reading
 pub mod Laws
+pub mod KeysView

@@ -1,14 +1,16 @@
 //! Images: segments with their deltas merged.
-ghost use Rattle.std.specs.Prelude.{◌≡◌, ◌≤◌, ◌<◌, ℕ, List, map, length, slice_index, slice_index_or, IfOk};
+ghost use Rattle.std.specs.Prelude.{◌≡◌, ◌≤◌, ◌<◌, ℕ, List, map, length, slice_index, slice_index_or, IfOk, IsTrue, All, []};
 ghost use Rattle.cs_schema.specs.declared.kinds.Kind.{Kind};
 ghost use Rattle.cs_schema.specs.Values.{values, kind_of};
 ghost use Rattle.cs_delta.specs.Image.{image_keys, position_of_key};
-ghost use Rattle.cs_delta.specs.Places.{IsIndex};
+ghost use Rattle.cs_delta.specs.ItemView.{changes_of};
 ghost use Rattle.cs_delta.specs.KindedImage.{AreOfOneCatalog, merged_image, image_column, base_keys};
 ghost use Rattle.cs_delta.specs.DeltaFile.{CanMerge};
 
 use crate::columns::{count, empty_like, extend};
 use crate::delta::Delta;
+use crate::item::Item;
+use crate::keys::Keys;
 use crate::layer::{Rows, apply_layers};
 use cs_schema::Cells;
 use cs_segment::fault::FileFault;
@@ -19,10 +21,9 @@ use std::marker::Model;
 /// A segment with its delta merged: live keys, and the cells of their rows by columns.
 #[derive(Drop)]
 pub struct Image {
-    keys: Vec<u32>,
+    keys: Keys,
     columns: Vec<Cells>,
     top: u32,
-    places: Vec<u32>,
 }
 
 impl Model for Image {
@@ -42,7 +43,7 @@ impl Image {
     pub fn rows(&self) -> u32
         ensures { result ≡ length self.now.image.pairs }
     {
-        self.keys.len() as u32
+        self.keys.len()
     }
 
     /// The highest key that was ever given.
@@ -66,46 +67,18 @@ impl Image {
         requires { i < length self.now.image.pairs }
         ensures { result ≡ slice_index (image_keys self.now.image) i }
     {
-        self.keys[i as usize]
+        self.keys.at(i)
     }
 
     /// The position of a live key.
     pub fn position_of(&self, key: u32) -> Option<u32>
         ensures { result ≡ position_of_key self.now.image key }
     {
-        let at = key as usize;
-        let place = if at < self.places.len() {
-            self.places[at]
-        } else {
-            0
-        };
-        if place == 0 { None } else { Some(place - 1) }
+        self.keys.position_of(key)
     }
 }
 
-/// For each key one more than its position, and 0 for what is no key.
-fn index_keys(alloc: Global, keys: &[u32]) -> Result<Vec<u32>, AllocError>
-    requires { length keys.now ≤ 1048576 }
-    ensures { IfOk result (λ places. IsIndex places.items keys.now) }
-{
-    let mut size = 0;
-    for key in keys {
-        if *key as usize >= size {
-            size = *key as usize + 1;
-        }
-    }
-    let mut places = Vec::new(alloc);
-    for _ in 0..size {
-        places.push(0)?;
-    }
-    let mut i = keys.len();
-    while i > 0 {
-        i -= 1;
-        places[keys[i] as usize] = i as u32 + 1;
-    }
-    Ok(places)
-}
-
+/// The keys 1, 2, 3, .., so many.
 fn first_keys(alloc: Global, rows: u32) -> Result<Vec<u32>, AllocError>
     requires { rows ≤ 1048576 }
     ensures { IfOk result (λ keys. keys.items ≡ base_keys rows) }
@@ -128,7 +101,7 @@ pub fn merge(alloc: Global, segment: &Segment, delta: &Delta) -> Result<Image, F
     merge_owned(alloc, copy, delta)
 }
 
-/// The image of a segment that isn't wanted any more, and its delta. Columns that no item changes are moved.
+/// The image of a segment that isn't wanted any more, and its delta. Where no item changes it, its columns are moved.
 pub fn merge_owned(alloc: Global, segment: Segment, delta: &Delta) -> Result<Image, FileFault>
     requires { AreOfOneCatalog segment delta.now }
     ensures merged { IfOk result (λ image. image ≡ merged_image segment delta.now) }
@@ -139,15 +112,33 @@ pub fn merge_owned(alloc: Global, segment: Segment, delta: &Delta) -> Result<Ima
         return Err(FileFault::Damaged);
     }
     let Segment { rows, columns, .. } = segment;
+    if say_nothing(&delta.layers) {
+        return Ok(Image {
+            keys: Keys::first(alloc, rows),
+            columns,
+            top: delta.top,
+        });
+    }
     let keys = first_keys(alloc, rows)?;
     let made = apply_layers(alloc, Rows { keys, columns }, &delta.layers)?;
-    let places = index_keys(alloc, &made.keys)?;
+    let keys = Keys::listed(alloc, made.keys)?;
     Ok(Image {
-        places,
-        keys: made.keys,
+        keys,
         columns: made.columns,
         top: delta.top,
     })
+}
+
+/// Whether no layer has items.
+fn say_nothing(layers: &[Vec<Item>]) -> bool
+    ensures { IsTrue result → All (λ layer. layer ≡ []) (map changes_of layers.now) }
+{
+    for layer in layers {
+        if !layer.is_empty() {
+            return false;
+        }
+    }
+    true
 }
 
 /// The same segment once more.

@@ -8,6 +8,7 @@ mod columns;
 mod delta;
 pub mod image;
 mod item;
+mod keys;
 pub mod laws;
 mod layer;
 mod merging;

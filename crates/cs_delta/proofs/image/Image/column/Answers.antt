@@ -14,4 +14,4 @@ returns-clause-values c =
     let kinds : c.args.j < length (map kind_of columns) = subst K (ap (λ (m : KindedImage). m.kinds) (sym c.self.view_is)) c.requires in
     let l : c.args.j < length columns = omega (arith, length-map columns kind_of) in
     ap values c.index.ensures ∙ sym (get_or-map values columns c.args.j c.index.result.now [] l)
-    ∙ sym (column_is c.self.inside.keys.items (map values columns) c.args.self.now.image c.args.j pairs c.self.invariant.1 (omega (arith, length-map columns values)))
+    ∙ sym (column_is c.self.inside.keys (map values columns) c.args.self.now.image c.args.j pairs c.self.invariant (omega (arith, length-map columns values)))
