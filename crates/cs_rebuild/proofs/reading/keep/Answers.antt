@@ -1,13 +1,35 @@
 use Rattle.std.proofs.Common.{◌≡◌, ℕ, ◌<◌, ◌≤◌, List, [], length, sym, ap, subst, ◌∙◌, inl, inr, Some, arith}
-use Rattle.std.proofs.lemmas.Option.{same_Some}
+use Rattle.std.proofs.lemmas.List.{take_all}
+use Rattle.std.proofs.lemmas.Option.{same_Some, slice_get_within}
 use Rattle.cs_schema.specs.Lists.{IsIn}
 use Rattle.cs_schema.proofs.Lists.{in_at, in_map}
 use Rattle.cs_jix.specs.JoinIndex.{Place}
 use Rattle.cs_rows.specs.Survivors.{HasRoom, HoldsImages, image_at, join_at}
-use Rattle.cs_rows.proofs.PutLemmas.{joins_are_put}
+use Rattle.cs_rows.proofs.PutLemmas.{images_are_put, joins_are_put}
 use Rattle.cs_rebuild.proofs.Keeping.{popped, one_less, place_in, apart, target_below}
 use Rattle.cs_rebuild.proofs.Numbers.{by_equal}
 use Rattle.cs_rebuild.proofs.reading.keep.Goals as goal
+
+pub loop-q-init : goal.loop-q-init
+loop-q-init c =
+    let C = c.args.catalog.now in
+    let v = c.args.survivors.now in
+    let p = c.args.p in
+    let s = c.args.s in
+    let all = c.args.held.joins.items in
+    let put = images_are_put C v p s c.args.held.image c.requires.room c.requires.exists in
+    let is = c.put_image.ensures in
+    record {
+      rest = sym (take_all (length all) all (omega arith));
+      room = subst (HasRoom C) (sym is) put.room;
+      image = ap (λ x. image_at x p s) is ∙ put.new;
+      kinds = λ made k. subst (HoldsImages C) (sym is) (put.made made k);
+      joins = λ k j low at. let inside = slice_get_within all k j at in absurd (omega (arith, inside, low));
+      others = record {
+        images = λ t u differ. ap (λ x. image_at x t u) is ∙ put.others t u (apart t u p s differ);
+        joins = λ t u r differ. ap (λ x. join_at x t u r) is ∙ put.joins t u r;
+      };
+    }
 
 pub put_join-requires-clause-target : goal.put_join-requires-clause-target
 put_join-requires-clause-target c =
