@@ -342,11 +342,3 @@ pub fn loss_of(sites: &[u8]) -> Loss {
     }
     loss
 }
-
-/// Whether both have this file, with the same bytes.
-pub fn same_file(files: &FileSet, others: &FileSet, name: FileName) -> bool {
-    match (files.get(name), others.get(name)) {
-        (Some(one), Some(other)) => one == other,
-        _ => false,
-    }
-}
