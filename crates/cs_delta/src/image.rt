@@ -11,7 +11,7 @@ use crate::columns::{count, empty_like, extend};
 use crate::delta::Delta;
 use crate::item::Item;
 use crate::keys::Keys;
-use crate::layer::{Rows, apply_layers};
+use crate::layer::apply_layers;
 use cs_schema::Cells;
 use cs_segment::fault::FileFault;
 use cs_segment::segment::Segment;
@@ -120,7 +120,7 @@ pub fn merge_owned(alloc: Global, segment: Segment, delta: &Delta) -> Result<Ima
         });
     }
     let keys = first_keys(alloc, rows)?;
-    let made = apply_layers(alloc, Rows { keys, columns }, &delta.layers)?;
+    let made = apply_layers(alloc, &keys, &columns, &delta.layers)?;
     let keys = Keys::listed(alloc, made.keys)?;
     Ok(Image {
         keys,

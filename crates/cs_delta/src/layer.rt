@@ -52,19 +52,28 @@ pub fn apply_layer(
     })
 }
 
-/// The rows with the items of layers applied, the lowest first. A layer that has no items makes no columns anew.
-pub fn apply_layers(alloc: Global, rows: Rows, layers: &[Vec<Item>]) -> Result<Rows, FileFault>
-    requires few { length rows.keys.items ≤ 1048576 }
-    requires layers { AreLayers (map kind_of rows.columns.items) rows.keys.items (map changes_of layers.now) }
-    requires lengths { HaveLength (length rows.keys.items) (map values rows.columns.items) }
-    ensures made { IfOk result (λ made. IsMadeBy rows.keys.items (map values rows.columns.items) (map changes_of layers.now) made.keys.items (map values made.columns.items)) }
+/// The rows with the items of layers applied, the lowest first. A layer above the lowest that has no items makes no
+/// columns anew.
+pub fn apply_layers(
+    alloc: Global,
+    keys: &[u32],
+    columns: &[Cells],
+    layers: &[Vec<Item>],
+) -> Result<Rows, FileFault>
+    requires some { 1 ≤ length layers.now }
+    requires layers { AreLayers (map kind_of columns.now) keys.now (map changes_of layers.now) }
+    requires lengths { HaveLength (length keys.now) (map values columns.now) }
+    ensures made { IfOk result (λ made. IsMadeBy keys.now (map values columns.now) (map changes_of layers.now) made.keys.items (map values made.columns.items)) }
     ensures few { IfOk result (λ made. length made.keys.items ≤ 1048576) }
     ensures lengths { IfOk result (λ made. HaveLength (length made.keys.items) (map values made.columns.items)) }
-    ensures kinds { IfOk result (λ made. map kind_of made.columns.items ≡ map kind_of rows.columns.items) }
-    ensures many { result ≡ Err FileFault.Damaged → (xs : List Pair) → map key_of xs ≡ rows.keys.items → AllFit (map changes_of layers.now) xs → ⊥ }
+    ensures kinds { IfOk result (λ made. map kind_of made.columns.items ≡ map kind_of columns.now) }
+    ensures many { result ≡ Err FileFault.Damaged → (xs : List Pair) → map key_of xs ≡ keys.now → AllFit (map changes_of layers.now) xs → ⊥ }
 {
-    let mut made = rows;
-    for layer in layers {
+    let Some((lowest, above)) = layers.split_first() else {
+        unreachable!()
+    };
+    let mut made = apply_layer(alloc, keys, columns, lowest)?;
+    for layer in above {
         if !layer.is_empty() {
             let keys_below = made.keys.as_slice();
             let columns_below = made.columns.as_slice();

@@ -1,4 +1,5 @@
-use Rattle.std.proofs.Common.{◌≡◌, ◌≤◌, ℕ, List, map, length, ap, sym, subst, ◌∙◌, arith, refl}
+use Rattle.std.proofs.Common.{◌≡◌, ◌≤◌, ℕ, List, map, length, ap, sym, subst, ◌∙◌, arith, refl, inl, inr}
+use Rattle.std.proofs.lemmas.List.{length-map}
 use Rattle.std.proofs.lemmas.Result.{err_from_is_err_and}
 use Rattle.cs_schema.specs.Values.{values, kind_of}
 use Rattle.cs_delta.specs.Image.{base_pairs}
@@ -7,7 +8,7 @@ use Rattle.cs_segment.specs.SegmentView.{segment_data}
 use Rattle.cs_delta.specs.ItemView.{changes_of}
 use Rattle.cs_delta.specs.DeltaView.{delta_data}
 use Rattle.cs_delta.specs.Layers.{AreLayers, HaveLength, IsMadeBy}
-use Rattle.cs_delta.specs.DeltaFile.{DeltaData, CanMerge}
+use Rattle.cs_delta.specs.DeltaFile.{DeltaData, CanMerge, HasVersion}
 use Rattle.cs_delta.specs.KindedImage.{MayMerge, merged_image, base_keys}
 use Rattle.cs_delta.proofs.LayerCounts.{may_merge}
 use Rattle.cs_delta.proofs.LayerSteps.{made_of_nothing}
@@ -26,23 +27,30 @@ can x s y d e f h =
     let D : DeltaData → Type 0 = λ a. CanMerge x.base a in
     subst D (sym f) (subst S (sym e) h)
 
-pub apply_layers-requires-clause-few : goal.apply_layers-requires-clause-few
-apply_layers-requires-clause-few c =
-    let req = may (segment_data c.segment.inside) c.args.segment (delta_data c.delta.inside) c.args.delta.now c.segment.view_is c.delta.view_is (may_merge c.args.segment c.args.delta.now c.requires) in
-    omega (arith, req.count, ap length c.in_ok-keys.ensures ∙ length-base_keys c.segment.inside.rows)
+-- a delta has a layer
+some_layers : (version layers : ℕ) → HasVersion version layers → 1 ≤ layers
+some_layers version layers (inl h) = let one = h.1 in omega arith
+some_layers version layers (inr h) = h.1
+
+pub apply_layers-requires-clause-some : goal.apply_layers-requires-clause-some
+apply_layers-requires-clause-some c =
+    let d = c.args.delta.now in
+    let some = some_layers d.version (length d.layers) c.requires.delta.version in
+    let layers = ap (λ (x : DeltaData). length x.layers) c.delta.view_is in
+    omega (arith, some, layers, length-map c.delta.inside.layers.items changes_of, ap length c.deref-4.ensures.value)
 
 pub apply_layers-requires-clause-layers : goal.apply_layers-requires-clause-layers
 apply_layers-requires-clause-layers c =
     let req = may (segment_data c.segment.inside) c.args.segment (delta_data c.delta.inside) c.args.delta.now c.segment.view_is c.delta.view_is (may_merge c.args.segment c.args.delta.now c.requires) in
     let same : c.segment.inside.rows ≡ c.delta.inside.rows = omega arith in
     let N : List ℕ → Type 0 = λ n. AreLayers (map kind_of c.segment.inside.columns.items) n (map changes_of c.delta.inside.layers.items) in
-    rw c.deref-2.ensures.value (subst N (sym (c.in_ok-keys.ensures ∙ ap base_keys same)) req.layers)
+    rw (c.deref-2.ensures.value, c.deref-3.ensures.value, c.deref-4.ensures.value) (subst N (sym (c.in_ok-keys.ensures ∙ ap base_keys same)) req.layers)
 
 pub apply_layers-requires-clause-lengths : goal.apply_layers-requires-clause-lengths
 apply_layers-requires-clause-lengths c =
     let req = may (segment_data c.segment.inside) c.args.segment (delta_data c.delta.inside) c.args.delta.now c.segment.view_is c.delta.view_is (may_merge c.args.segment c.args.delta.now c.requires) in
     let N : ℕ → Type 0 = λ n. HaveLength n (map values c.segment.inside.columns.items) in
-    (subst N (sym (ap length c.in_ok-keys.ensures ∙ length-base_keys c.segment.inside.rows)) req.lengths)
+    rw (c.deref-2.ensures.value, c.deref-3.ensures.value) (subst N (sym (ap length c.in_ok-keys.ensures ∙ length-base_keys c.segment.inside.rows)) req.lengths)
 
 pub returns-in_err-made-clause-refused : goal.returns-in_err-made-clause-refused
 returns-in_err-made-clause-refused c = λ damaged h.
@@ -50,7 +58,7 @@ returns-in_err-made-clause-refused c = λ damaged h.
     let req = may (segment_data c.segment.inside) c.args.segment (delta_data c.delta.inside) c.args.delta.now c.segment.view_is c.delta.view_is (may_merge c.args.segment c.args.delta.now c.requires) in
     let fit = can (segment_data c.segment.inside) c.args.segment (delta_data c.delta.inside) c.args.delta.now c.segment.view_is c.delta.view_is h in
     let base = (segment_data c.segment.inside).base in
-    let many = rw c.deref-2.ensures.value at c.in_err-made.ensures.many in
+    let many = rw (c.deref-2.ensures.value, c.deref-4.ensures.value) at c.in_err-made.ensures.many in
     many (let r1 = q.1 in let r2 = q.2 in cc) (base_pairs base) ((base_are base req.lengths).keys_are ∙ sym c.in_ok-keys.ensures) fit.few
 
 pub returns-clause-merged : goal.returns-clause-merged
@@ -58,10 +66,11 @@ returns-clause-merged c =
     let req = may (segment_data c.segment.inside) c.args.segment (delta_data c.delta.inside) c.args.delta.now c.segment.view_is c.delta.view_is (may_merge c.args.segment c.args.delta.now c.requires) in
     let x = segment_data c.segment.inside in
     let y = delta_data c.delta.inside in
-    let made = rw (c.in_ok-keys.ensures, c.deref-2.ensures.value) at c.in_ok-made.ensures.made in
+    let made = rw (c.deref-2.ensures.value, c.in_ok-keys.ensures, c.deref-3.ensures.value, c.deref-4.ensures.value) at c.in_ok-made.ensures.made in
+    let kinds = rw c.deref-3.ensures.value at c.in_ok-made.ensures.kinds in
     let columns = map values c.in_ok-made.made.columns.items in
     let M : List ℕ → Type 0 = λ keys. IsMadeBy (base_keys x.base.rows) x.base.columns y.layers keys columns in
-    merged_is x.base y x.kinds (map kind_of c.in_ok-made.made.columns.items) c.in_ok-keys-2.keys columns c.delta.inside.top req.lengths (subst M (sym c.in_ok-keys-2.ensures) made) refl c.in_ok-made.ensures.kinds
+    merged_is x.base y x.kinds (map kind_of c.in_ok-made.made.columns.items) c.in_ok-keys-2.keys columns c.delta.inside.top req.lengths (subst M (sym c.in_ok-keys-2.ensures) made) refl kinds
     ∙ ap (λ (s : SegmentData). merged_image s y) c.segment.view_is ∙ ap (λ (d : DeltaData). merged_image c.args.segment d) c.delta.view_is
 
 pub returns-clause-can : goal.returns-clause-can
@@ -69,7 +78,7 @@ returns-clause-can c =
     let req = may (segment_data c.segment.inside) c.args.segment (delta_data c.delta.inside) c.args.delta.now c.segment.view_is c.delta.view_is (may_merge c.args.segment c.args.delta.now c.requires) in
     let x = segment_data c.segment.inside in
     let y = delta_data c.delta.inside in
-    let made = rw (c.in_ok-keys.ensures, c.deref-2.ensures.value) at c.in_ok-made.ensures.made in
+    let made = rw (c.deref-2.ensures.value, c.in_ok-keys.ensures, c.deref-3.ensures.value, c.deref-4.ensures.value) at c.in_ok-made.ensures.made in
     can c.args.segment x c.args.delta.now y (sym c.segment.view_is) (sym c.delta.view_is) (can_merge x.base y c.in_ok-made.made.keys.items (map values c.in_ok-made.made.columns.items) req.lengths (omega arith) made)
 
 -- where the layers have no items, the base's keys and columns stand
