@@ -90,7 +90,7 @@ fn first_keys(alloc: Global, rows: u32) -> Result<Vec<u32>, AllocError>
     Ok(keys)
 }
 
-/// The image of a segment and its delta. Copies each column once, and once more for each layer that has items.
+/// The image of a segment and its delta, made of a copy of the segment.
 pub fn merge(alloc: Global, segment: &Segment, delta: &Delta) -> Result<Image, FileFault>
     requires { AreOfOneCatalog segment.now delta.now }
     ensures merged { IfOk result (λ image. image ≡ merged_image segment.now delta.now) }

@@ -7,7 +7,7 @@ ghost use Rattle.cs_delta.specs.KindedImage.{base_keys};
 use std::alloc::{AllocError, Global};
 use std::marker::Model;
 
-/// Keys of at most 1,048,576 rows: first 1, 2, 3, .., so many, and then those that are listed.
+/// Keys of at most 1,048,576 rows: 1, 2, 3, .., so many, or else those that are listed.
 ///
 /// A segment that no item changes lists none, and so its keys take no memory and are found without a look.
 #[derive(Drop)]
