@@ -10,3 +10,4 @@ pub mod SortColumns
 pub mod AllOrders
 pub mod SampleColumns
 pub mod Leads
+pub mod PassLemmas

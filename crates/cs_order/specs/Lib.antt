@@ -5,3 +5,4 @@ pub mod Items
 pub mod Faults
 pub mod Places
 pub mod Leads
+pub mod Passes

@@ -9,6 +9,7 @@ mod fault;
 mod item;
 mod lead;
 mod parallel;
+mod passes;
 mod places;
 pub mod samples;
 mod segments;

@@ -6,8 +6,8 @@ ghost use Rattle.cs_order.specs.Faults.{IsOrderFault};
 
 use crate::fault::OrderFault;
 use crate::places::Orders;
-use crate::segments::projection_order;
-use crate::sort::key_stands_twice;
+use crate::segments::{projection_order, rows_for};
+use crate::sort::{all_rows, key_stands_twice, sort_by_key};
 use cs_rows::Walked;
 use cs_schema::Catalog;
 use std::alloc::Global;
@@ -16,7 +16,7 @@ use std::thread::Threads;
 /// The orders of all projections.
 ///
 /// Refuses rows of which two have one primary key, and else the least range that has too many rows.
-/// Keeps 10 bytes a row and projection. While a range is sorted each of its rows takes 24 bytes more.
+/// Keeps 10 bytes a row and projection. While it runs each row takes 8 bytes more, and each that is sorted 16 to 24.
 pub fn orders<R: Threads + Sync>(
     rt: &R,
     alloc: Global,
@@ -30,12 +30,15 @@ pub fn orders<R: Threads + Sync>(
     ensures fit { IfOk result (λ _. first_full catalog.now (table_of catalog.now walked.now.rows) ≡ None) }
     ensures fault { IfErr result (IsOrderFault catalog.now walked.now.rows) }
 {
-    if key_stands_twice(rt, alloc, walked, catalog)? {
+    let all = all_rows(alloc, walked)?;
+    let by_key = sort_by_key(rt, alloc, walked, catalog, &all)?;
+    if key_stands_twice(walked, catalog, &by_key) {
         return Err(OrderFault::Twice);
     }
     let mut projections = Vec::new(alloc);
     for p in 0..catalog.projection_count() {
-        let order = projection_order(rt, alloc, walked, catalog, p)?;
+        let rows = rows_for(walked, catalog, p, &all, &by_key);
+        let order = projection_order(rt, alloc, walked, catalog, p, rows)?;
         projections.push(order)?;
     }
     Ok(Orders {

@@ -14,10 +14,6 @@ use Rattle.cs_rows.specs.Walk.{Contents, At, is_astray, walked_cell, segment_row
 use Rattle.cs_rows.specs.declared.range.WalkFault.{WalkFault}
 use Rattle.cs_rows.specs.Columns.{Pushed, AreWalked, IsRowFault, rows_from}
 
-map_push : {X Y : Type 0} (f : X → Y) (xs : List X) (x : X) → map f (xs ++ x ∷ []) ≡ map f xs ++ f x ∷ []
-map_push f [] x = refl
-map_push f (y ∷ xs) x = ap (λ l. f y ∷ l) (map_push f xs x)
-
 pub range_plus : (a n m : ℕ) → range_with_len a (n + m) ≡ range_with_len a n ++ range_with_len (a + n) m
 range_plus a zero m = λ i. range_with_len (sym (add-zero a) i) (zero-add m i)
 range_plus a (suc n) m =
@@ -32,24 +28,35 @@ map_append f (x ∷ xs) ys = ap (λ l. f x ∷ l) (map_append f xs ys)
 pub rows_plus : (s a n m : ℕ) → rows_from s a (n + m) ≡ rows_from s a n ++ rows_from s (a + n) m
 rows_plus s a n m = ap (map (λ (i : ℕ). (s, i))) (range_plus a n m) ∙ map_append (λ (i : ℕ). (s, i)) (range_with_len a n) (range_with_len (a + n) m)
 
-pub rows_more : (s start i : ℕ) → start ≤ i → rows_from s start (i + 1 - start) ≡ rows_from s start (i - start) ++ (s, i) ∷ []
-rows_more s start i h =
-    let e : i + 1 - start ≡ (i - start) + 1 = omega arith in
+-- rows in two parts
+pub rows_join : (s start i end : ℕ) → start ≤ i → i ≤ end → rows_from s start (end - start) ≡ rows_from s start (i - start) ++ rows_from s i (end - i)
+rows_join s start i end h k =
+    let e : end - start ≡ (i - start) + (end - i) = omega arith in
     let b : start + (i - start) ≡ i = omega arith in
-    ap (rows_from s start) e ∙ rows_plus s start (i - start) 1 ∙ ap (λ (k : ℕ). rows_from s start (i - start) ++ (s, k) ∷ []) b
+    ap (rows_from s start) e ∙ rows_plus s start (i - start) (end - i) ∙ ap (λ (n : ℕ). rows_from s start (i - start) ++ rows_from s n (end - i)) b
 
-pub rows_split : (s start i end : ℕ) → start ≤ i → i < end → rows_from s start (end - start) ≡ rows_from s start (i - start) ++ ((s, i) ∷ [] ++ rows_from s (i + 1) (end - (i + 1)))
-rows_split s start i end h k =
-    let e : end - start ≡ (i - start) + (1 + (end - (i + 1))) = omega arith in
-    let b : start + (i - start) ≡ i = omega arith in
-    ap (rows_from s start) e ∙ rows_plus s start (i - start) (1 + (end - (i + 1)))
-    ∙ ap (λ (n : ℕ). rows_from s start (i - start) ++ rows_from s n (1 + (end - (i + 1)))) b
-    ∙ ap (λ (l : List At). rows_from s start (i - start) ++ l) (rows_plus s i 1 (end - (i + 1)))
+-- rows in three parts
+pub rows_split : (s start i j end : ℕ) → start ≤ i → i ≤ j → j ≤ end → rows_from s start (end - start) ≡ rows_from s start (i - start) ++ (rows_from s i (j - i) ++ rows_from s j (end - j))
+rows_split s start i j end h k l =
+    rows_join s start i end h (omega arith) ∙ ap (λ (rows : List At). rows_from s start (i - start) ++ rows) (rows_join s i j end k l)
+
+-- one row
+pub rows_one : (s i : ℕ) → rows_from s i (i + 1 - i) ≡ (s, i) ∷ []
+rows_one s i = let e : i + 1 - i ≡ 1 = omega arith in ap (rows_from s i) e
+
+-- those before a row, the row, and those after it
+pub rows_around : (s start i end : ℕ) → start ≤ i → i < end → rows_from s start (end - start) ≡ rows_from s start (i - start) ++ ((s, i) ∷ [] ++ rows_from s (i + 1) (end - (i + 1)))
+rows_around s start i end h k =
+    rows_split s start i (i + 1) end h (omega arith) (omega arith) ∙ ap (λ (rows : List At). rows_from s start (i - start) ++ (rows ++ rows_from s (i + 1) (end - (i + 1)))) (rows_one s i)
+
+-- one row more
+pub rows_more : (s start i : ℕ) → start ≤ i → rows_from s start (i + 1 - start) ≡ rows_from s start (i - start) ++ (s, i) ∷ []
+rows_more s start i h = rows_join s start i (i + 1) h (omega arith) ∙ ap (λ (rows : List At). rows_from s start (i - start) ++ rows) (rows_one s i)
 
 module _ (C : CatalogData) (S : Contents) (P : PlanData) where
-  pub cells_pushed : (row : At) (before after : List Cells) → Pushed C S P row before after (length C.columns) → (ats : List At) → AreWalked C S P ats before → AreWalked C S P (ats ++ row ∷ []) after
-  cells_pushed row before after ok ats w c d h =
-      (ok c d h).1 ∙ ap (λ (l : List Value). l ++ walked_cell C S P row c ∷ []) (w c d h) ∙ sym (map_push (λ (at : At). walked_cell C S P at c) ats row)
+  pub cells_pushed : (rows : List At) (before after : List Cells) → Pushed C S P rows before after (length C.columns) → (ats : List At) → AreWalked C S P ats before → AreWalked C S P (ats ++ rows) after
+  cells_pushed rows before after ok ats w c d h =
+      (ok c d h).1 ∙ ap (λ (l : List Value). l ++ map (λ (at : At). walked_cell C S P at c) rows) (w c d h) ∙ sym (map_append (λ (at : At). walked_cell C S P at c) ats rows)
 
   pub found_none : (xs ys : List At) → find (is_astray C S P) xs ≡ None → find (is_astray C S P) ys ≡ None → find (is_astray C S P) (xs ++ ys) ≡ None
   found_none xs ys e f = find-append (is_astray C S P) xs ys ∙ (λ i. option_or (e i) (f i))

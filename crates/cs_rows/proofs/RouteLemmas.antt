@@ -161,7 +161,7 @@ module _ (C : CatalogData) (S : Contents) (P : PlanData) (row : At) where
   ArePlaced route places k = (q : ℕ) → q < length C.projections → is_met P (take k route) q ≡ true → (stand C S P row q ≡ Some (get_or places q (0, 0))) × IsAt C S q (get_or places q (0, 0))
 
   module _ (fits : PlanFits C P) (there : IsAt C S P.anchor row) where
-    pub placed_first : (route : List RouteStep) (places : List At) → length places ≡ length C.projections → ArePlaced route (set places P.anchor row) 0
+    pub placed_first : (route : List RouteStep) (places : List At) → length C.projections ≤ length places → ArePlaced route (set places P.anchor row) 0
     placed_first route places long q h m =
         let e : q ≡ P.anchor = eqb-true q P.anchor (first (q == P.anchor) m) in
         let at : get_or (set places P.anchor row) q (0, 0) ≡ row = ap (λ (n : ℕ). get_or (set places P.anchor row) n (0, 0)) e ∙ get_or-set_same places P.anchor row (0, 0) (omega (arith, fits.anchor, long)) in
@@ -171,7 +171,7 @@ module _ (C : CatalogData) (S : Contents) (P : PlanData) (row : At) where
         first true g = refl
         first false g = g
 
-    module _ (route : List RouteStep) (is : IsRoute C P route) (places : List At) (long : length places ≡ length C.projections) (k : ℕ) (d : RouteStep) (within : k < length route) (so : ArePlaced route places k) where
+    module _ (route : List RouteStep) (is : IsRoute C P route) (places : List At) (long : length C.projections ≤ length places) (k : ℕ) (d : RouteStep) (within : k < length route) (so : ArePlaced route places k) where
       abbrev step : RouteStep
       step = get_or route k d
 

@@ -1,5 +1,5 @@
 -- The columns that a walk has filled so far.
-use Rattle.std.specs.Prelude.{ℕ, ◌≡◌, ◌<◌, ◌==◌, List, [], ◌∷◌, ◌++◌, map, length, slice_index, slice_index_or, true, Some}
+use Rattle.std.specs.Prelude.{ℕ, ◌≡◌, ◌+◌, ◌<◌, ◌==◌, List, [], ◌++◌, map, length, slice_index, slice_index_or, true, Some}
 use Rattle.std.specs.List.{find, position_or_len, range_with_len}
 use Rattle.cs_schema.specs.declared.cells.Cells.{Cells}
 use Rattle.cs_schema.specs.Values.{values, kind_of}
@@ -16,20 +16,23 @@ use Rattle.cs_rows.specs.declared.range.Desk.{Desk}
 abbrev pub PlacesAre : CatalogData → Contents → PlanData → At → List At → ℕ → Type 0
 PlacesAre C S P row places n = (q : ℕ) → q < n → is_planned P q ≡ true → (stand C S P row q ≡ Some (slice_index_or places q (0, 0))) × IsAt C S q (slice_index_or places q (0, 0))
 
+-- each of these has the places of one row: of the segment's rows from start on
+abbrev pub ArePlaces : CatalogData → Contents → PlanData → ℕ → ℕ → List (List At) → Type 0
+ArePlaces C S P s start block = (k : ℕ) → k < length block → PlacesAre C S P (s, start + k) (slice_index_or block k []) (length C.projections)
+
 -- the projection from which a column is read, and its number there
 abbrev pub read_of : CatalogData → PlanData → ℕ → ℕ × ℕ
 read_of C P c = (slice_index P.source c, position_or_len (λ d. d == c) (projection C (slice_index P.source c)).columns)
 
--- where each column is read, the route of the plan, and a place for each projection
+-- where each column is read, and the route of the plan
 pub record IsDesk (C : CatalogData) (P : PlanData) (desk : Desk) : Type 0 where
   pub count : length desk.reads.items ≡ length C.columns
   pub reads : (c : ℕ) → c < length C.columns → slice_index_or desk.reads.items c (0, 0) ≡ read_of C P c
   pub route : IsRoute C P desk.route.items
-  pub places : length desk.places.items ≡ length C.projections
 
--- the cells of one row stand at the end of each of the first n columns
-abbrev pub Pushed : CatalogData → Contents → PlanData → At → List Cells → List Cells → ℕ → Type 0
-Pushed C S P row before after n = (c : ℕ) (d : Cells) → c < n → (kind_of (slice_index_or after c d) ≡ kind_of (slice_index_or before c d)) × (values (slice_index_or after c d) ≡ values (slice_index_or before c d) ++ walked_cell C S P row c ∷ [])
+-- the cells of some rows stand at the end of each of the first n columns
+abbrev pub Pushed : CatalogData → Contents → PlanData → List At → List Cells → List Cells → ℕ → Type 0
+Pushed C S P rows before after n = (c : ℕ) (d : Cells) → c < n → (kind_of (slice_index_or after c d) ≡ kind_of (slice_index_or before c d)) × (values (slice_index_or after c d) ≡ values (slice_index_or before c d) ++ map (λ at. walked_cell C S P at c) rows)
 
 -- one column of its kind for each column of the table
 pub record ColumnsFit (C : CatalogData) (columns : List Cells) : Type 0 where

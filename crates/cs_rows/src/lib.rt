@@ -6,6 +6,7 @@
 //! out the later rows of a key. `laws` has what a put changes.
 #![tactic(auto)]
 
+mod block;
 pub mod by_rows;
 pub mod counts;
 pub mod laws;

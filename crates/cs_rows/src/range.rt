@@ -15,9 +15,9 @@ ghost use Rattle.cs_rows.specs.Columns.{PlacesAre, read_of, IsDesk, Pushed, Colu
 ghost use Rattle.cs_rows.specs.Routes.{IsRoute};
 ghost use Rattle.cs_rows.specs.Range.{walked_among, rows_between, IsPlanOf, IsWalkFault};
 
-use crate::numbers::{anchor, column_count, columns_of, kind, projection_count, segments, source};
+use crate::block::{BLOCK_ROWS, Places, walk_block};
+use crate::numbers::{anchor, column_count, columns_of, kind, segments, source};
 use crate::route::find_route;
-use crate::steps::follow;
 use crate::survivors::Survivors;
 use crate::walked::Walked;
 use cs_delta::image::Image;
@@ -51,39 +51,12 @@ impl<T: Drop> From<AllocFailed<T>> for WalkFault {
 }
 
 /// What the walk of a plan's rows needs, made once for all rows: where each column is read, the steps of
-/// the walk, and room for a place in each projection.
+/// the walk, and room for the places of a block.
 #[derive(Drop)]
-struct Desk {
-    reads: Vec<(usize, usize)>,
-    route: Vec<(usize, usize)>,
-    places: Vec<(u16, u32)>,
-}
-
-/// Finds where the walk of an anchor row stands in each projection that the plan reaches, and whether it is astray.
-fn find_places(
-    catalog: &Catalog,
-    plan: &Plan,
-    survivors: &Survivors,
-    row: (u16, u32),
-    route: &[(usize, usize)],
-    places: &mut [(u16, u32)],
-) -> bool
-    requires room { HasRoom catalog.now survivors.now }
-    requires fits { PlanFits catalog.now plan.now }
-    requires row { IsAt catalog.now (contents_of survivors.now) plan.now.anchor row }
-    requires route { IsRoute catalog.now plan.now route.now }
-    requires places { length places.old ≡ length catalog.now.projections }
-    ensures astray { result ≡ is_astray catalog.now (contents_of survivors.now) plan.now row }
-    ensures places { result ≡ false → PlacesAre catalog.now (contents_of survivors.now) plan.now row places.new (length catalog.now.projections) }
-{
-    places[anchor(plan)] = row;
-    for (q, p) in route {
-        match follow(catalog, survivors, *p, *q, places[*p]) {
-            Some(at) => places[*q] = at,
-            None => return true,
-        }
-    }
-    false
+pub(crate) struct Desk {
+    pub(crate) reads: Vec<(usize, usize)>,
+    pub(crate) route: Vec<(usize, usize)>,
+    pub(crate) block: Vec<Places>,
 }
 
 /// Puts the cell of an image's row at the end of a column.
@@ -100,85 +73,6 @@ pub(crate) fn push_cell(
     ensures ok { OnOk result (values cells.new ≡ values cells.old ++ cell (image_row image.now.image row) j ∷ []) }
 {
     cells.push_cell(image.column(j), row as usize)
-}
-
-/// Puts the cells of one row at the ends of the columns.
-fn push_row(
-    catalog: &Catalog,
-    plan: &Plan,
-    survivors: &Survivors,
-    row: (u16, u32),
-    places: &[(u16, u32)],
-    reads: &[(usize, usize)],
-    columns: &mut Vec<Cells>,
-) -> Result<(), AllocError>
-    requires room { HasRoom catalog.now survivors.now }
-    requires made { HoldsImages catalog.now survivors.now }
-    requires fits { PlanFits catalog.now plan.now }
-    requires places { PlacesAre catalog.now (contents_of survivors.now) plan.now row places.now (length catalog.now.projections) }
-    requires room_of_places { length places.now ≡ length catalog.now.projections }
-    requires reads { (c : ℕ) → c < length catalog.now.columns → slice_index_or reads.now c (0, 0) ≡ read_of catalog.now plan.now c }
-    requires room_of_reads { length reads.now ≡ length catalog.now.columns }
-    requires columns { ColumnsFit catalog.now columns.old.items }
-    ensures count { length columns.new.items ≡ length columns.old.items }
-    ensures ok { OnOk result (Pushed catalog.now (contents_of survivors.now) plan.now row columns.old.items columns.new.items (length catalog.now.columns)) }
-{
-    for c in 0..columns.len() {
-        let (q, j) = reads[c];
-        let at = places[q];
-        match survivors.image(q, at.0 as usize) {
-            Some(image) => push_cell(&mut columns[c], image, at.1, j)?,
-            None => unreachable!(),
-        }
-    }
-    Ok(())
-}
-
-/// Walks one anchor row.
-fn walk_row(
-    catalog: &Catalog,
-    plan: &Plan,
-    survivors: &Survivors,
-    row: (u16, u32),
-    desk: &mut Desk,
-    columns: &mut Vec<Cells>,
-) -> Result<(), WalkFault>
-    requires room { HasRoom catalog.now survivors.now }
-    requires made { HoldsImages catalog.now survivors.now }
-    requires fits { PlanFits catalog.now plan.now }
-    requires desk { IsDesk catalog.now plan.now desk.old }
-    requires columns { ColumnsFit catalog.now columns.old.items }
-    requires row { IsAt catalog.now (contents_of survivors.now) plan.now.anchor row }
-    ensures desk { IsDesk catalog.now plan.now desk.new }
-    ensures fit { OnOk result (ColumnsFit catalog.now columns.new.items) }
-    ensures sound { OnOk result (find (is_astray catalog.now (contents_of survivors.now) plan.now) ((row ∷ [])) ≡ None) }
-    ensures cells { OnOk result ((ats : List At) → AreWalked catalog.now (contents_of survivors.now) plan.now ats columns.old.items → AreWalked catalog.now (contents_of survivors.now) plan.now (ats ++ (row ∷ [])) columns.new.items) }
-    ensures fault { IfErr result (IsRowFault catalog.now (contents_of survivors.now) plan.now ((row ∷ []))) }
-{
-    if find_places(
-        catalog,
-        plan,
-        survivors,
-        row,
-        desk.route.as_slice(),
-        desk.places.as_mut_slice(),
-    ) {
-        return Err(WalkFault::Astray {
-            p: anchor(plan) as u16,
-            s: row.0,
-            row: row.1,
-        });
-    }
-    push_row(
-        catalog,
-        plan,
-        survivors,
-        row,
-        desk.places.as_slice(),
-        desk.reads.as_slice(),
-        columns,
-    )?;
-    Ok(())
 }
 
 /// Walks the rows of one of the anchor's segments, from the first number up to the second.
@@ -205,11 +99,14 @@ fn walk_segment(
     ensures cells { OnOk result ((ats : List At) → AreWalked catalog.now (contents_of survivors.now) plan.now ats columns.old.items → AreWalked catalog.now (contents_of survivors.now) plan.now (ats ++ rows_from s rows.0 (rows.1 - rows.0)) columns.new.items) }
     ensures fault { IfErr result (IsRowFault catalog.now (contents_of survivors.now) plan.now (rows_from s rows.0 (rows.1 - rows.0))) }
 {
-    for i in rows.0..rows.1 {
-        match walk_row(catalog, plan, survivors, (s, i), desk, columns) {
+    let mut from = rows.0;
+    while from < rows.1 {
+        let to = from.saturating_add(BLOCK_ROWS).min(rows.1);
+        match walk_block(catalog, plan, survivors, s, (from, to), desk, columns) {
             Ok(()) => {}
             Err(fault) => return Err(fault),
         }
+        from = to;
     }
     Ok(())
 }
@@ -316,17 +213,6 @@ fn find_reads(
     Ok(reads)
 }
 
-/// Room for a place in each projection.
-fn new_places(alloc: Global, count: usize) -> Result<Vec<(u16, u32)>, AllocError>
-    ensures { IfOk result (λ places. length places.items ≡ count) }
-{
-    let mut places: Vec<(u16, u32)> = Vec::new(alloc);
-    for _place in 0..count {
-        places.push((0, 0))?;
-    }
-    Ok(places)
-}
-
 /// What the walk of a plan's rows needs.
 fn new_desk(alloc: Global, catalog: &Catalog, plan: &Plan) -> Result<Desk, AllocError>
     requires { PlanFits catalog.now plan.now }
@@ -334,11 +220,10 @@ fn new_desk(alloc: Global, catalog: &Catalog, plan: &Plan) -> Result<Desk, Alloc
 {
     let reads = find_reads(alloc, catalog, plan)?;
     let route = find_route(alloc, catalog, plan)?;
-    let places = new_places(alloc, projection_count(catalog))?;
     Ok(Desk {
         reads,
         route,
-        places,
+        block: Vec::new(alloc),
     })
 }
 

@@ -1,22 +1,28 @@
-use Rattle.std.proofs.Common.{◌+◌, ◌-◌, ◌∷◌, [], arith, ap, ◌∙◌}
+use Rattle.std.proofs.Common.{◌-◌, arith, ap, ◌∙◌}
 use Rattle.std.specs.List.{find}
 use Rattle.cs_rows.specs.Walk.{is_astray}
 use Rattle.cs_rows.specs.Survivors.{contents_of}
 use Rattle.cs_rows.specs.Columns.{rows_from}
-use Rattle.cs_rows.proofs.RangeLemmas.{rows_more, rows_split, found_none, fault_in, walked_more}
+use Rattle.cs_rows.proofs.RangeLemmas.{rows_join, rows_split, found_none, fault_in, walked_more}
 use Rattle.cs_rows.proofs.range.walk_segment.Goals as goal
 
-pub loop-i-preserved : goal.loop-i-preserved
-loop-i-preserved c =
-    let more = rows_more c.args.s c.args.rows.0 c.loop-i.i c.loop-i.invariant.0 in (
-      omega arith,
-      c.walk_row.ensures.desk,
-      c.in-Ok.ensures.fit,
-      ap (find (is_astray c.args.catalog.now (contents_of c.args.survivors.now) c.args.plan.now)) more ∙ found_none c.args.catalog.now (contents_of c.args.survivors.now) c.args.plan.now (rows_from c.args.s c.args.rows.0 (c.loop-i.i - c.args.rows.0)) ((c.args.s, c.loop-i.i) ∷ []) c.loop-i.invariant.3 c.in-Ok.ensures.sound,
-      walked_more c.args.catalog.now (contents_of c.args.survivors.now) c.args.plan.now (rows_from c.args.s c.args.rows.0 (c.loop-i.i - c.args.rows.0)) ((c.args.s, c.loop-i.i) ∷ []) (rows_from c.args.s c.args.rows.0 (c.loop-i.i + 1 - c.args.rows.0)) c.args.columns.now.items c.loop-i.columns.items c.walk_row.new.columns.items more c.loop-i.invariant.4 c.in-Ok.ensures.cells,
-    )
+pub loop-from-preserved : goal.loop-from-preserved
+loop-from-preserved c =
+    let from = c.loop-from.from in
+    let to = c.min-to.result in
+    let more = rows_join c.args.s c.args.rows.0 from to c.loop-from.invariant.start (omega arith) in
+    record {
+      start = omega arith;
+      end = omega arith;
+      desk = c.walk_block.ensures.desk;
+      fit = c.in-Ok.ensures.fit;
+      sound = ap (find (is_astray c.args.catalog.now (contents_of c.args.survivors.now) c.args.plan.now)) more ∙ found_none c.args.catalog.now (contents_of c.args.survivors.now) c.args.plan.now (rows_from c.args.s c.args.rows.0 (from - c.args.rows.0)) (rows_from c.args.s from (to - from)) c.loop-from.invariant.sound c.in-Ok.ensures.sound;
+      cells = walked_more c.args.catalog.now (contents_of c.args.survivors.now) c.args.plan.now (rows_from c.args.s c.args.rows.0 (from - c.args.rows.0)) (rows_from c.args.s from (to - from)) (rows_from c.args.s c.args.rows.0 (to - c.args.rows.0)) c.args.columns.now.items c.loop-from.columns.items c.walk_block.new.columns.items more c.loop-from.invariant.cells c.in-Ok.ensures.cells;
+    }
 
 pub returns-in-Err-clause-fault : goal.returns-in-Err-clause-fault
 returns-in-Err-clause-fault c =
-    fault_in c.args.catalog.now (contents_of c.args.survivors.now) c.args.plan.now (rows_from c.args.s c.args.rows.0 (c.loop-i.i - c.args.rows.0)) ((c.args.s, c.loop-i.i) ∷ []) (rows_from c.args.s (c.loop-i.i + 1) (c.args.rows.1 - (c.loop-i.i + 1))) (rows_from c.args.s c.args.rows.0 (c.args.rows.1 - c.args.rows.0)) c.in-Err.fault
-    (rows_split c.args.s c.args.rows.0 c.loop-i.i c.args.rows.1 c.loop-i.invariant.0 c.loop-i-test.true) c.loop-i.invariant.3 c.in-Err.ensures.fault
+    let from = c.loop-from.from in
+    let to = c.min-to.result in
+    fault_in c.args.catalog.now (contents_of c.args.survivors.now) c.args.plan.now (rows_from c.args.s c.args.rows.0 (from - c.args.rows.0)) (rows_from c.args.s from (to - from)) (rows_from c.args.s to (c.args.rows.1 - to)) (rows_from c.args.s c.args.rows.0 (c.args.rows.1 - c.args.rows.0)) c.in-Err.fault
+    (rows_split c.args.s c.args.rows.0 from to c.args.rows.1 c.loop-from.invariant.start (omega arith) (omega arith)) c.loop-from.invariant.sound c.in-Err.ensures.fault

@@ -1,14 +1,14 @@
-use Rattle.std.proofs.Common.{◌≡◌, ℕ, List, set, ap, sym, subst, ◌∙◌}
+use Rattle.std.proofs.Common.{◌≡◌, ◌≤◌, ℕ, List, length, set, ap, sym, subst}
 use Rattle.std.proofs.lemmas.List.{length-set}
 use Rattle.cs_rows.specs.Walk.{At}
 use Rattle.cs_rows.specs.Survivors.{contents_of}
 use Rattle.cs_rows.proofs.RouteLemmas.{ArePlaced, placed_first, step_there, placed_more, astray_here, all_placed, not_astray}
-use Rattle.cs_rows.proofs.range.find_places.Goals as goal
+use Rattle.cs_rows.proofs.block.find_places.Goals as goal
 
 pub loop-q-init : goal.loop-q-init
 loop-q-init c =
     let e : set c.args.places.now c.anchor.result c.args.row ≡ set c.args.places.now c.args.plan.now.anchor c.args.row = ap (λ (n : ℕ). set c.args.places.now n c.args.row) c.anchor.ensures in (
-      length-set c.args.places.now c.anchor.result c.args.row ∙ c.requires.places,
+      subst (λ (n : ℕ). length c.args.catalog.now.projections ≤ n) (sym (length-set c.args.places.now c.anchor.result c.args.row)) c.requires.places,
       subst (λ (l : List At). ArePlaced c.args.catalog.now (contents_of c.args.survivors.now) c.args.plan.now c.args.row c.args.route.now l 0) (sym e)
           (placed_first c.args.catalog.now (contents_of c.args.survivors.now) c.args.plan.now c.args.row c.requires.fits c.requires.row c.args.route.now c.args.places.now c.requires.places),
     )
@@ -23,7 +23,7 @@ returns-in-None-clause-astray c =
 
 pub loop-q-preserved : goal.loop-q-preserved
 loop-q-preserved c = (
-  length-set c.loop-q.places _ c.in-Some.at ∙ c.loop-q.invariant.0,
+  subst (λ (n : ℕ). length c.args.catalog.now.projections ≤ n) (sym (length-set c.loop-q.places _ c.in-Some.at)) c.loop-q.invariant.0,
   placed_more c.args.catalog.now (contents_of c.args.survivors.now) c.args.plan.now c.args.row c.requires.fits c.requires.row c.args.route.now c.requires.route c.loop-q.places c.loop-q.invariant.0 c.loop-q.q-index (0, 0) c.loop-q-test.true c.loop-q.invariant.1 c.in-Some.at c.in-Some.ensures.leads c.in-Some.ensures.there,
 )
 

@@ -1,8 +1,0 @@
-use Rattle.std.proofs.Common.{◌≡◌, length, ◌≤◌, ℕ, get_or}
-use Rattle.cs_schema.specs.declared.cells.Cells.{Cells}
-use Rattle.cs_rows.specs.Survivors.{contents_of}
-use Rattle.cs_rows.specs.Columns.{Pushed}
-use Rattle.cs_rows.proofs.range.push_row.Given as goal
-
-abbrev pub invariant-loop-c : goal.invariant-loop-c
-invariant-loop-c l = (length l.columns.items ≡ length l.fn.columns.items) × Pushed l.catalog (contents_of l.survivors) l.plan l.fn.row l.fn.columns.items l.columns.items l.c × ((k : ℕ) (d : Cells) → l.c ≤ k → get_or l.columns.items k d ≡ get_or l.fn.columns.items k d)
