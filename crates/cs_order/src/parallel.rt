@@ -37,8 +37,8 @@ pub fn orders<R: Threads + Sync>(
     }
     let mut projections = Vec::new(alloc);
     for p in 0..catalog.projection_count() {
-        let rows = rows_for(walked, catalog, p, &all, &by_key);
-        let order = projection_order(rt, alloc, walked, catalog, p, rows)?;
+        let (rows, by) = rows_for(walked, catalog, p, &all, &by_key);
+        let order = projection_order(rt, alloc, walked, catalog, p, by, rows)?;
         projections.push(order)?;
     }
     Ok(Orders {

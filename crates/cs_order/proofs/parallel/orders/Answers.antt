@@ -1,10 +1,6 @@
-use Rattle.std.proofs.Common.{◌≡◌, ◌+◌, ◌<◌, [], ◌∷◌, length, sym, ap, ◌∙◌, subst, arith, ⊎_elim, length-append, below_more}
-use Rattle.std.specs.List.{range_with_len}
-use Rattle.std.specs.List.Sorted.{IsPermutation}
+use Rattle.std.proofs.Common.{◌≡◌, ◌+◌, ◌<◌, [], ◌∷◌, length, sym, ap, ◌∙◌, subst, arith, length-append, below_more}
 use Rattle.std.proofs.lemmas.List.{map-append, length-map}
-use Rattle.std.proofs.lemmas.List.Sorted.{IsPermutation-refl}
 use Rattle.std.proofs.lemmas.List.Elements.{All-push}
-use Rattle.cs_order.proofs.SortedNumbers.{range_below}
 use Rattle.cs_order.specs.declared.segments.ProjectionOrder.{ProjectionOrder}
 use Rattle.cs_order.specs.Tables.{table_of}
 use Rattle.cs_order.specs.Numbers.{AreSegmentsOf}
@@ -15,18 +11,6 @@ use Rattle.cs_order.proofs.FullRanges.{none_full}
 use Rattle.cs_order.proofs.FirstFault.{err_from, range_fault}
 use Rattle.cs_order.proofs.Filling.{lists_more}
 use Rattle.cs_order.proofs.parallel.orders.Goals as goal
-
-pub rows_for-rows-requires-clause-within : goal.rows_for-rows-requires-clause-within
-rows_for-rows-requires-clause-within g c = rw (c.deref-in-loop-p.ensures.value, c.in_ok-all.ensures) (range_below (length c.args.walked.now.rows))
-
-pub projection_order-requires-clause-all : goal.projection_order-requires-clause-all
-projection_order-requires-clause-all g c = λ κs lives.
-    let n = length c.args.walked.now.rows in
-    let by_key : IsPermutation (range_with_len 0 n) c.in_ok-by_key.by_key.items = rw (← c.in_ok-all.ensures, ← c.deref.ensures.value) c.in_ok-by_key.ensures.permutation in
-    ⊎_elim
-    (λ (e : c.rows_for-rows.result.now ≡ c.deref-in-loop-p.result.now). subst (IsPermutation (range_with_len 0 n)) (sym (e ∙ c.deref-in-loop-p.ensures.value ∙ c.in_ok-all.ensures)) (IsPermutation-refl (range_with_len 0 n)))
-    (λ (e : c.rows_for-rows.result.now ≡ c.deref-in-loop-p-2.result.now). subst (IsPermutation (range_with_len 0 n)) (sym (e ∙ c.deref-in-loop-p-2.ensures.value)) by_key)
-    c.rows_for-rows.ensures
 
 pub returns-in_err-order-clause-fault : goal.returns-in_err-order-clause-fault
 returns-in_err-order-clause-fault g c =
