@@ -1,18 +1,16 @@
 //! The walk of a range of anchor rows.
-ghost use Rattle.std.specs.Prelude.{◌≡◌, ◌<◌, ◌≤◌, ◌+◌, ◌-◌, ◌==◌, ◌++◌, ◌∷◌, [], ℕ, List, length, map, IfOk, IfErr, OnOk, OnErr, Bool, true, false, slice_index, slice_index_or, Some, None, Ok, Err};
+ghost use Rattle.std.specs.Prelude.{◌≡◌, ◌<◌, ◌≤◌, ◌+◌, ◌-◌, ◌==◌, ◌++◌, ◌∷◌, [], ℕ, List, length, map, IfOk, IfErr, OnOk, slice_index_or, Some, None, Ok, Err};
 ghost use Rattle.std.specs.List.{find, position_or_len};
 ghost use Rattle.cs_schema.specs.Values.{values, kind_of};
 ghost use Rattle.cs_schema.specs.Rows.{cell};
 ghost use Rattle.cs_schema.specs.CatalogData.{column, projection, segments};
 ghost use Rattle.cs_schema.specs.CatalogRules.{IsCatalog};
-ghost use Rattle.cs_schema.specs.Values.{IsOfKind};
-ghost use Rattle.cs_rows.specs.Walk.{At, stand, is_astray, projection_rows, segment_rows};
+ghost use Rattle.cs_rows.specs.Walk.{At, is_astray};
 ghost use Rattle.cs_schema.specs.declared.kinds.Kind.{Kind as KindValue};
 ghost use Rattle.cs_rows.specs.declared.range.WalkFault.TheVariants.{Memory};
 ghost use Rattle.cs_rows.specs.Survivors.{HasRoom, HoldsImages, contents_of, image_row};
-ghost use Rattle.cs_rows.specs.Steps.{IsAt, PlanFits};
-ghost use Rattle.cs_rows.specs.Columns.{PlacesAre, read_of, IsDesk, Pushed, ColumnsFit, AreWalked, IsRowFault, rows_from};
-ghost use Rattle.cs_rows.specs.Routes.{IsRoute};
+ghost use Rattle.cs_rows.specs.Steps.{PlanFits};
+ghost use Rattle.cs_rows.specs.Columns.{read_of, IsDesk, ColumnsFit, AreWalked, IsRowFault, rows_from};
 ghost use Rattle.cs_rows.specs.Range.{walked_among, rows_between, IsPlanOf, IsWalkFault};
 
 use crate::block::{BLOCK_ROWS, Places, walk_block};
