@@ -58,6 +58,15 @@ impl DifferencesPart {
         DifferencesPart::of_many(alloc, cells)
     }
 
+    /// Makes room for so many more parts as long as this one.
+    pub fn reserve(&mut self, parts: u32) -> Result<(), AllocError>
+        ensures { self.new ≡ self.old }
+    {
+        // a part that is joined adds a gap for each of its integers
+        self.gaps
+            .reserve((self.count as usize).saturating_mul(parts as usize))
+    }
+
     /// The same, apart, so that a part of one integer stays small.
     #[inline(never)]
     fn of_many(alloc: Global, cells: &[i64]) -> Result<DifferencesPart, AllocError>

@@ -20,6 +20,16 @@ pub struct PlainPart {
 }
 
 impl PlainPart {
+    /// Makes room for so many more parts as long as this one.
+    pub fn reserve(&mut self, parts: u32) -> Result<(), AllocError>
+        ensures bytes { self.new.bytes.items ≡ self.old.bytes.items }
+        ensures lone { self.new.lone ≡ self.old.lone }
+        ensures count { self.new.count ≡ self.old.count }
+    {
+        self.bytes
+            .reserve(self.bytes.len().saturating_mul(parts as usize))
+    }
+
     /// The part's bytes.
     #[inline]
     fn into_bytes(self) -> Result<Vec<u8>, AllocError>

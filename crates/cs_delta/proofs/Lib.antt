@@ -1,5 +1,4 @@
 pub mod EditLists
-pub mod MappedRanges
 pub mod MakeSteps
 pub mod PairColumns
 pub mod PairsKept

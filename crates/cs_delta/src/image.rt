@@ -7,7 +7,7 @@ ghost use Rattle.cs_delta.specs.ItemView.{changes_of};
 ghost use Rattle.cs_delta.specs.KindedImage.{AreOfOneCatalog, merged_image, image_column, base_keys};
 ghost use Rattle.cs_delta.specs.DeltaFile.{CanMerge};
 
-use crate::columns::{count, empty_like, extend};
+use crate::columns::{count, empty_like};
 use crate::delta::Delta;
 use crate::item::Item;
 use crate::keys::Keys;
@@ -83,7 +83,7 @@ fn first_keys(alloc: Global, rows: u32) -> Result<Vec<u32>, AllocError>
     requires { rows ≤ 1048576 }
     ensures { IfOk result (λ keys. keys.items ≡ base_keys rows) }
 {
-    let mut keys = Vec::new(alloc);
+    let mut keys = Vec::with_capacity(alloc, rows as usize)?;
     for i in 0..rows {
         keys.push(i + 1)?;
     }
@@ -148,7 +148,7 @@ fn copy_of(alloc: Global, segment: &Segment) -> Result<Segment, AllocError>
     let mut columns = Vec::new(alloc);
     for column in &segment.columns {
         let mut copy = empty_like(alloc, column);
-        extend(&mut copy, column, 0, count(column))?;
+        copy.extend(column, 0, count(column))?;
         columns.push(copy)?;
     }
     Ok(Segment {

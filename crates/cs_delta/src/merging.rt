@@ -7,7 +7,7 @@ ghost use Rattle.cs_delta.specs.Edits.{AreEdits, edited_from};
 ghost use Rattle.cs_delta.specs.ItemView.{change_of, cell_edits, key_edits, HasKind};
 ghost use Rattle.cs_delta.specs.MergeSteps.{Steps};
 
-use crate::columns::{count, empty_like, extend, push};
+use crate::columns::{count, empty_like, push};
 use crate::item::Item;
 use cs_schema::Cells;
 use std::alloc::{AllocError, Global};
@@ -31,13 +31,13 @@ fn apply_to_column(
     match item {
         Item::Insert { at, row, .. } => {
             let at = *at as usize;
-            extend(out, base, done, at)?;
+            out.extend(base, done, at)?;
             push(out, &row[j])?;
             Ok(at)
         }
         Item::Delete { at } => {
             let at = *at as usize;
-            extend(out, base, done, at)?;
+            out.extend(base, done, at)?;
             Ok(at + 1)
         }
         Item::Modify { at, column, value } => {
@@ -45,7 +45,7 @@ fn apply_to_column(
                 return Ok(done);
             }
             let at = *at as usize;
-            extend(out, base, done, at)?;
+            out.extend(base, done, at)?;
             push(out, value)?;
             Ok(at + 1)
         }
@@ -93,11 +93,12 @@ pub fn merge_column(
     ensures kind { IfOk result (λ cells. kind_of cells ≡ kind_of base.now) }
 {
     let mut out = empty_like(alloc, base);
+    out.reserve(base.len().saturating_add(items.len()))?;
     let mut done = 0;
     for item in items {
         done = apply_to_column(&mut out, base, item, j, done)?;
     }
-    extend(&mut out, base, done, count(base))?;
+    out.extend(base, done, count(base))?;
     Ok(out)
 }
 
@@ -106,7 +107,7 @@ pub fn merge_keys(alloc: Global, base: &[u32], items: &[Item]) -> Result<Vec<u32
     requires { AreEdits (length base.now) 0 (key_edits (map change_of items.now)) }
     ensures { IfOk result (λ keys. keys.items ≡ edited_from (key_edits (map change_of items.now)) 0 base.now) }
 {
-    let mut out = Vec::new(alloc);
+    let mut out = Vec::with_capacity(alloc, base.len().saturating_add(items.len()))?;
     let mut done = 0;
     for item in items {
         done = apply_to_keys(&mut out, base, item, done)?;

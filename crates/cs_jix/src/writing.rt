@@ -46,7 +46,8 @@ pub fn write_jix(
     requires each { (e : Place) → IsIn e entries.now → IsEntry e }
     ensures { IfOk result (λ bytes. IsJoinIndexFile p s q bytes.items entries.now) }
 {
-    let mut text: Vec<u8> = Vec::new(alloc);
+    // 18 bytes in front of the entries, 6 for each, and the digest
+    let mut text: Vec<u8> = Vec::with_capacity(alloc, entries.len().saturating_mul(6) + 50)?;
     text.extend_from_slice(&head(p, s, q))?;
     text.extend_from_slice(&(entries.len() as u32).to_be_bytes())?;
     write_entries(&mut text, entries)?;

@@ -9,5 +9,7 @@ pub mod FirstFault
 pub mod SortColumns
 pub mod AllOrders
 pub mod SampleColumns
+pub mod KeyLed
 pub mod Leads
 pub mod PassLemmas
+pub mod WordLemmas

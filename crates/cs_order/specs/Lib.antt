@@ -6,3 +6,4 @@ pub mod Faults
 pub mod Places
 pub mod Leads
 pub mod Passes
+pub mod Words

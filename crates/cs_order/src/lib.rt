@@ -11,11 +11,13 @@ mod lead;
 mod parallel;
 mod passes;
 mod places;
+mod rising;
 pub mod samples;
 mod segments;
 mod sort;
 #[cfg(test)]
 mod tests;
+mod words;
 
 pub use fault::OrderFault;
 pub use parallel::orders;

@@ -16,7 +16,7 @@ use std::thread::Threads;
 /// The orders of all projections.
 ///
 /// Refuses rows of which two have one primary key, and else the least range that has too many rows.
-/// Keeps 10 bytes a row and projection. While it runs each row takes 8 bytes more, and each that is sorted 16 to 24.
+/// Keeps 10 bytes a row and projection. While it runs each row takes 8 bytes more, and each that is sorted 8 to 24.
 pub fn orders<R: Threads + Sync>(
     rt: &R,
     alloc: Global,

@@ -98,6 +98,16 @@ fn ids_by_their_remainder(rt: HostRuntime) -> Result<(), Fail> {
     Ok(())
 }
 
+#[test]
+fn ids_far_apart(rt: HostRuntime) -> Result<(), Fail> {
+    let ids = vec![in rt.alloc(); i64::MAX, -1, i64::MIN, 5]?;
+    let remainders = vec![in rt.alloc(); 0, 0, 1, 0]?;
+    let columns = vec![in rt.alloc(); Cells::Ints(ids), Cells::Ints(remainders)]?;
+    let keys = keys_in(&rt, &catalog(&rt, TWO_ORDERS)?, columns, 1, 0)?;
+    assert!(rt; keys.as_slice() == [-1, 5, i64::MAX, i64::MIN].as_slice());
+    Ok(())
+}
+
 /// Columns of ids, cities and values.
 fn cities(rt: &HostRuntime, rows: &[(i64, &str)]) -> Result<Vec<Cells>, Fail> {
     let mut ids = Vec::new(rt.alloc());

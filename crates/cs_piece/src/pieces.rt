@@ -1,5 +1,8 @@
 //! Pieces: parts of columns, whose code and kind are known as the program runs.
-ghost use Rattle.std.specs.Prelude.{IfOk};
+ghost use Rattle.std.specs.Prelude.{IfOk, List};
+ghost use Rattle.cs_schema.specs.declared.cells.Value.{Value};
+ghost use Rattle.cs_schema.specs.declared.kinds.Code.{Code};
+ghost use Rattle.cs_schema.specs.declared.kinds.Kind.{Kind};
 ghost use Rattle.cs_schema.specs.Values.{values, kind_of};
 ghost use Rattle.cs_piece.specs.Columns.{CanEncode};
 ghost use Rattle.cs_piece.specs.Pieces.{IsPieceOf, PiecesFit, TellsFit, IsJoined, IsTextOf, IsShortTextOf};
@@ -55,6 +58,19 @@ impl Piece {
             }
             (Piece::NoTexts, Piece::NoTexts) => true,
             _ => false,
+        }
+    }
+
+    /// Makes room for so many more pieces as long as this one, where these are joined one behind the other.
+    pub fn reserve(&mut self, pieces: u32) -> Result<(), AllocError>
+        ensures { (code : Code) (kind : Kind) (v : List Value) → IsPieceOf self.old code kind v → IsPieceOf self.new code kind v }
+    {
+        match self {
+            Piece::PlainInts(part) => part.reserve(pieces),
+            // texts differ in length, so with some room to spare
+            Piece::PlainTexts(part) => part.reserve(pieces.saturating_add(pieces / 8)),
+            Piece::RisingInts(part) => part.reserve(pieces),
+            _ => Ok(()),
         }
     }
 }

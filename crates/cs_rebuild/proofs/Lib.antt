@@ -1,3 +1,4 @@
+pub mod AppendedColumns
 pub mod CellsAlike
 pub mod Counts
 pub mod Cuts

@@ -1,9 +1,12 @@
 -- What the walks of pieces of rows find, by the rule of whole projections and by rows.
-use Rattle.std.specs.Prelude.{◌≡◌, ℕ, ◌*◌, List, map, take, drop, Option}
+use Rattle.std.specs.Prelude.{◌≡◌, ℕ, ◌*◌, List, map, length, take, drop, Option, All}
 use Rattle.std.specs.Option.{option_map}
 use Rattle.std.specs.List.{find, filter_map}
 use Rattle.cs_store.specs.declared.fault.Fault.{Fault}
-use Rattle.cs_schema.specs.CatalogData.{CatalogData}
+use Rattle.cs_schema.specs.CatalogData.{CatalogData, column}
+use Rattle.cs_schema.specs.declared.cells.Cells.{Cells}
+use Rattle.cs_schema.specs.Values.{values, kind_of}
+use Rattle.cs_schema.specs.Rows.{Row, cell}
 use Rattle.cs_schema.specs.Losses.{Sites}
 use Rattle.cs_safety.specs.PlanData.{PlanData}
 use Rattle.cs_rows.specs.Walk.{Contents, At, projection_rows, walked_row, is_astray}
@@ -18,6 +21,14 @@ piece_of cut xs i = take cut (drop (i * cut) xs)
 -- the kinds of the table's columns
 abbrev pub HasTableKinds : CatalogData → WalkedData → Type 0
 HasTableKinds C w = w.kinds ≡ map (λ c. c.kind) C.columns
+
+-- a cell in each row for each of the table's columns
+abbrev pub HasTableWidth : CatalogData → WalkedData → Type 0
+HasTableWidth C w = All (λ row. length row ≡ length C.columns) w.rows
+
+-- the cells that rows have in a column of the table
+abbrev pub IsColumnOf : CatalogData → List Row → ℕ → Cells → Type 0
+IsColumnOf C rows c cells = (kind_of cells ≡ (column C c).kind) × (values cells ≡ map (λ row. cell row c) rows)
 
 -- ---- by whole projections
 

@@ -47,6 +47,7 @@ fn cells_at(alloc: Global, column: &Cells, numbers: &[u32]) -> Result<Cells, All
     ensures cells { IfOk result (λ cells. values cells ≡ map (cell (values column.now)) numbers.now) }
 {
     let mut cells = Cells::new(alloc, column.kind());
+    cells.reserve(numbers.len())?;
     for k in 0..numbers.len() {
         cells.push_cell(column, numbers[k] as usize)?;
     }

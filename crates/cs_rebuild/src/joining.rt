@@ -49,6 +49,8 @@ impl EncodeWork<'_> {
         ensures column { IfOk result (λ piece. IsPieceOf piece (code_at self.now.ground.now.catalog.now self.now.p j) (kind_at self.now.ground.now.catalog.now self.now.p j) (values_at self.now.ground.now.catalog.now self.now.p self.now.ground.now.walked.now.rows j self.now.numbers.now)) }
     {
         let mut column = self.take_cut(rest, j, 0);
+        // the others are as long, but for the last one: so none is copied again when the next is joined
+        column.reserve(self.per - 1)?;
         for k in 1..self.per {
             let piece = self.take_cut(rest, j, k);
             column = join_pieces(column, piece)?;

@@ -5,6 +5,7 @@
 //! answer depends on the bytes alone: not on the number of workers, nor on how the work is cut.
 #![tactic(auto)]
 
+mod appending;
 mod columns;
 mod crew;
 mod encoding;

@@ -9,8 +9,9 @@ ghost use Rattle.cs_rebuild.specs.Steps.{is_memory};
 ghost use Rattle.cs_rebuild.specs.Walking.{HasTableKinds, WalkFaultAt, WalkAnswerAt};
 ghost use Rattle.cs_rebuild.specs.WorkLaws.{stray_is_no_memory, one_value};
 
+use crate::appending::append_all;
 use crate::crew::Crew;
-use crate::walking::{append_all, count_pieces};
+use crate::walking::count_pieces;
 use cs_board::{Gate, RunFault, Work, run};
 use cs_rows::counts::anchor_rows;
 use cs_rows::range::{WalkFault, walk_range};
@@ -114,7 +115,7 @@ pub fn walk_planned<R: Threads + Sync, G: Gate + Sync>(
         pieces,
     };
     match run(crew.rt, crew.alloc, crew.workers, &work, crew.gate) {
-        Ok(all) => match append_all(crew.alloc, catalog, all) {
+        Ok(all) => match append_all(crew.rt, crew.alloc, catalog, all) {
             Ok(walked) => Ok(walked),
             Err(_) => Err(Fault::Memory),
         },

@@ -9,8 +9,9 @@ ghost use Rattle.cs_rebuild.specs.Steps.{is_memory};
 ghost use Rattle.cs_rebuild.specs.Walking.{HasTableKinds, RowsFaultAt, RowsAnswerAt};
 ghost use Rattle.cs_rebuild.specs.WorkLaws.{stray_row_is_no_memory, one_value};
 
+use crate::appending::append_all;
 use crate::crew::Crew;
-use crate::walking::{append_all, count_pieces};
+use crate::walking::count_pieces;
 use cs_board::{Gate, RunFault, Work, run};
 use cs_rows::by_rows::walk_rows;
 use cs_rows::counts::surviving_row_count;
@@ -112,7 +113,7 @@ pub fn walk_rowwise<R: Threads + Sync, G: Gate + Sync>(
         pieces,
     };
     let mut walked = match run(crew.rt, crew.alloc, crew.workers, &work, crew.gate) {
-        Ok(all) => match append_all(crew.alloc, catalog, all) {
+        Ok(all) => match append_all(crew.rt, crew.alloc, catalog, all) {
             Ok(walked) => walked,
             Err(_) => return Err(Fault::Memory),
         },

@@ -1,12 +1,10 @@
 //! Walking the surviving rows, by the catalog's rule.
-ghost use Rattle.std.specs.Prelude.{◌≡◌, ◌<◌, ◌≤◌, ◌+◌, ◌*◌, ◌^◌, All, map, length, None, IfOk, IfErr, IfSome};
-ghost use Rattle.std.specs.List.{flat_map};
+ghost use Rattle.std.specs.Prelude.{◌≡◌, ◌<◌, ◌≤◌, ◌+◌, ◌*◌, None, IfOk, IfErr, IfSome};
 ghost use Rattle.cs_schema.specs.FileNames.{FileContents};
 ghost use Rattle.cs_store.specs.Fault.{MemoryOr};
 ghost use Rattle.cs_safety.specs.Safety.{IsSafe};
 ghost use Rattle.cs_rows.specs.Survivors.{contents_of};
 ghost use Rattle.cs_rebuild.specs.Steps.{AreRead, AreWalkedRows, IsStray};
-ghost use Rattle.cs_rebuild.specs.Walking.{HasTableKinds};
 
 use crate::crew::Crew;
 use crate::planned::walk_planned;
@@ -16,7 +14,6 @@ use cs_rows::{Survivors, Walked};
 use cs_safety::plan;
 use cs_schema::{Catalog, Loss, Safety};
 use cs_store::Fault;
-use std::alloc::{AllocError, Global};
 use std::marker::Sync;
 use std::thread::Threads;
 
@@ -37,19 +34,6 @@ pub fn count_pieces(rows: usize, cut: u32) -> Option<u32>
         return None;
     }
     Some(whole as u32 + 1)
-}
-
-/// The rows of all pieces, one after the other.
-pub fn append_all(alloc: Global, catalog: &Catalog, all: Vec<Walked>) -> Result<Walked, AllocError>
-    requires { All (HasTableKinds catalog.now) all.items }
-    ensures kinds { IfOk result (HasTableKinds catalog.now) }
-    ensures rows { IfOk result (λ walked. walked.rows ≡ flat_map (λ piece. piece.rows) all.items) }
-{
-    let mut walked = Walked::none(alloc, catalog)?;
-    for piece in all {
-        walked.append(piece)?;
-    }
-    Ok(walked)
 }
 
 /// The rows to which the walk leads, by the catalog's rule.

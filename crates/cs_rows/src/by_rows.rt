@@ -289,7 +289,7 @@ pub fn walk_rows(
     ensures rows { IfOk result (λ walked. Ok walked.rows ≡ found_among catalog.now loss (contents_of survivors.now) (surviving_between catalog.now loss (contents_of survivors.now) from to)) }
     ensures fault { IfErr result (IsWalkFault (found_among catalog.now loss (contents_of survivors.now) (surviving_between catalog.now loss (contents_of survivors.now) from to))) }
 {
-    let mut columns = match new_columns(alloc, catalog) {
+    let mut columns = match new_columns(alloc, catalog, 0) {
         Ok(columns) => columns,
         Err(_) => return Err(WalkFault::Memory),
     };

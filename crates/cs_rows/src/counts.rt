@@ -12,18 +12,26 @@ use crate::survivors::Survivors;
 use cs_safety::Plan;
 use cs_schema::{Catalog, Loss};
 
+/// How many rows the images of a projection have.
+pub(crate) fn rows_in_projection(catalog: &Catalog, survivors: &Survivors, p: u16) -> usize
+    requires room { HasRoom catalog.now survivors.now }
+    requires projection { p < length catalog.now.projections }
+    ensures { result ≡ length (projection_rows catalog.now (contents_of survivors.now) p) }
+{
+    let mut count = 0;
+    for s in 0..catalog.segments(p) {
+        count += row_count(catalog, survivors, p as usize, s as usize) as usize;
+    }
+    count
+}
+
 /// How many rows the anchor of a plan has, in all its segments: those that `walk_range` numbers.
 pub fn anchor_rows(catalog: &Catalog, plan: &Plan, survivors: &Survivors) -> usize
     requires plan { IsPlanOf catalog.now plan.now }
     requires room { HasRoom catalog.now survivors.now }
     ensures { result ≡ length (projection_rows catalog.now (contents_of survivors.now) plan.now.anchor) }
 {
-    let p = u16::from(plan.anchor);
-    let mut count = 0;
-    for s in 0..catalog.segments(p) {
-        count += row_count(catalog, survivors, p as usize, s as usize) as usize;
-    }
-    count
+    rows_in_projection(catalog, survivors, u16::from(plan.anchor))
 }
 
 /// How many rows survive in all projections: those that `walk_rows` numbers.

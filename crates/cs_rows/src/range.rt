@@ -14,6 +14,7 @@ ghost use Rattle.cs_rows.specs.Columns.{read_of, IsDesk, ColumnsFit, AreWalked, 
 ghost use Rattle.cs_rows.specs.Range.{walked_among, rows_between, IsPlanOf, IsWalkFault};
 
 use crate::block::{BLOCK_ROWS, Places, walk_block};
+use crate::counts::rows_in_projection;
 use crate::numbers::{anchor, column_count, columns_of, kind, segments, source};
 use crate::route::find_route;
 use crate::survivors::Survivors;
@@ -168,15 +169,21 @@ fn walk_segments(
     Ok(())
 }
 
-/// An empty column for each column of the table.
-pub(crate) fn new_columns(alloc: Global, catalog: &Catalog) -> Result<Vec<Cells>, AllocError>
+/// An empty column for each column of the table, each with room for so many cells.
+pub(crate) fn new_columns(
+    alloc: Global,
+    catalog: &Catalog,
+    room: usize,
+) -> Result<Vec<Cells>, AllocError>
     ensures fit { IfOk result (λ columns. ColumnsFit catalog.now columns.items) }
     ensures rules { IsCatalog catalog.now }
     ensures none { IfOk result (λ columns. (c : ℕ) (d : Cells) → c < length catalog.now.columns → values (slice_index_or columns.items c d) ≡ []) }
 {
     let mut columns: Vec<Cells> = Vec::new(alloc);
     for c in 0..column_count(catalog) {
-        columns.push(Cells::new(alloc, kind(catalog, c)))?;
+        let mut cells = Cells::new(alloc, kind(catalog, c));
+        cells.reserve(room)?;
+        columns.push(cells)?;
     }
     Ok(columns)
 }
@@ -243,7 +250,8 @@ fn walk_planned(
     ensures rows { IfOk result (λ walked. Ok walked.rows ≡ walked_among catalog.now (contents_of survivors.now) plan.now (rows_between catalog.now (contents_of survivors.now) plan.now from to)) }
     ensures fault { IfErr result (IsWalkFault (walked_among catalog.now (contents_of survivors.now) plan.now (rows_between catalog.now (contents_of survivors.now) plan.now from to))) }
 {
-    let mut columns = match new_columns(alloc, catalog) {
+    let rows = rows_in_projection(catalog, survivors, u16::from(plan.anchor));
+    let mut columns = match new_columns(alloc, catalog, to.min(rows).saturating_sub(from)) {
         Ok(columns) => columns,
         Err(_) => return Err(WalkFault::Memory),
     };

@@ -81,7 +81,7 @@ impl Walked {
         ensures kinds { IfOk result (λ walked. walked.kinds ≡ map (λ c. c.kind) catalog.now.columns) }
         ensures rows { IfOk result (λ walked. walked.rows ≡ []) }
     {
-        let columns = new_columns(alloc, catalog)?;
+        let columns = new_columns(alloc, catalog, 0)?;
         Ok(Walked::from_columns(columns))
     }
 

@@ -17,3 +17,4 @@ pub mod Reading
 pub mod TextLists
 pub mod RulesKept
 pub mod SortedTexts
+pub mod MappedRanges

@@ -1,5 +1,5 @@
 //! Cells, and lists of them.
-ghost use Rattle.std.specs.Prelude.{◌≡◌, ◌==◌, ◌<◌, ◌≤◌, [], ◌∷◌, ◌++◌, take, length, slice_get, Some, refl, IfOk, IsTrue, ◌↔◌, OnOk, OnErr};
+ghost use Rattle.std.specs.Prelude.{◌≡◌, ◌==◌, ◌<◌, ◌≤◌, ◌-◌, [], ◌∷◌, ◌++◌, take, drop, length, slice_get, Some, refl, IfOk, IsTrue, ◌↔◌, OnOk, OnErr};
 ghost use Rattle.std.specs.Option.{option_cmp};
 ghost use Rattle.std.specs.Ordering.{as_partial_cmp, eq_by_cmp};
 ghost use Rattle.std.specs.Cmp.{eq_by_cmp_equiv, partial_equiv_from_equiv, partial_order_from_total};
@@ -226,6 +226,35 @@ impl Cells {
         }
     }
 
+    /// Adds copies of another column's cells of this kind at the end, from one place up to another. After a refusal some may
+    /// have been added.
+    #[tactic(auto, using(crate::proofs::MappedRanges::map_range))]
+    pub fn extend(&mut self, other: &Cells, from: usize, to: usize) -> Result<(), AllocError>
+        requires kinds { kind_of self.old ≡ kind_of other.now }
+        requires order { from ≤ to }
+        requires within { to ≤ length (values other.now) }
+        ensures values { OnOk result (values self.new ≡ values self.old ++ take (to - from) (drop from (values other.now))) }
+        ensures kind { kind_of self.new ≡ kind_of self.old }
+    {
+        match (self, other) {
+            (Cells::Ints(ints), Cells::Ints(others)) => ints.extend_from_slice(&others[from..to])?,
+            (Cells::Texts(texts), Cells::Texts(others)) => extend_texts(texts, &others[from..to])?,
+            _ => unreachable!(),
+        }
+        Ok(())
+    }
+
+    /// Makes room for so many more cells.
+    pub fn reserve(&mut self, more: usize) -> Result<(), AllocError>
+        ensures kind { kind_of self.new ≡ kind_of self.old }
+        ensures cells { values self.new ≡ values self.old }
+    {
+        match self {
+            Cells::Ints(ints) => ints.reserve(more),
+            Cells::Texts(texts) => texts.reserve(more),
+        }
+    }
+
     /// Leaves only the cells before a place.
     pub fn truncate(&mut self, count: usize)
         ensures kind { kind_of self.new ≡ kind_of self.old }
@@ -236,4 +265,15 @@ impl Cells {
             Cells::Texts(texts) => texts.truncate(count),
         }
     }
+}
+
+/// Adds copies of texts at the end.
+fn extend_texts(texts: &mut Vec<Word>, others: &[Word]) -> Result<(), AllocError>
+    ensures { OnOk result (texts.new.items ≡ texts.old.items ++ others.now) }
+{
+    texts.reserve(others.len())?;
+    for text in others {
+        texts.push(text.copy())?;
+    }
+    Ok(())
 }

@@ -6,7 +6,7 @@ use sha2::{Digest, Sha256};
 use std::alloc::AllocError;
 
 /// The length of a digest.
-const DIGEST: usize = 32;
+pub const DIGEST: usize = 32;
 
 /// Appends the digest of what stands there.
 pub fn seal(bytes: &mut Vec<u8>) -> Result<(), AllocError>

@@ -7,7 +7,7 @@ ghost use Rattle.cs_segment.specs.SegmentFile.{Base, segment_text};
 ghost use Rattle.cs_segment.specs.Parts.{part_text};
 ghost use Rattle.cs_segment.specs.SegmentPieces.{ArePiecesOf, AreOfSomeBase};
 
-use crate::seal::seal;
+use crate::seal::{DIGEST, seal};
 use crate::segment::{code_number, kind_number};
 use cs_piece::{Piece, write_piece};
 use cs_schema::{Catalog, Code, Kind};
@@ -25,6 +25,8 @@ fn write_part(
     ensures { OnOk result ((v : List Value) → IsPieceOf piece.now code kind v → FitsColumn code kind v → out.new.items ≡ out.old.items ++ part_text code kind v) }
 {
     let text = write_piece(alloc, piece)?;
+    // so that the digest behind the last part finds room too
+    out.reserve(text.len().saturating_add(6 + DIGEST))?;
     out.push(code_number(code))?;
     out.push(kind_number(kind))?;
     out.extend_from_slice(&(text.len() as u32).to_be_bytes())?;

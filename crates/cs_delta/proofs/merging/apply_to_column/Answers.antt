@@ -24,7 +24,7 @@ returns-in_ok-push-in-Insert-clause-steps c = λ rest target m.
 pub returns-in_ok-extend-in-Delete-clause-steps : goal.returns-in_ok-extend-in-Delete-clause-steps
 returns-in_ok-extend-in-Delete-clause-steps c = λ rest target m.
     let P : Item → Type 0 = λ i. Makes (values c.args.base.now) target (values c.args.out.now) c.args.done (cell_edits c.args.j (change_of i ∷ rest)) in
-    cut_makes (values c.args.base.now) target (values c.args.out.now) (values c.extend-in-Delete.new.out) c.args.done c.in-Delete.at (Value.Int (pos 0)) (cell_edits c.args.j rest)
+    cut_makes (values c.args.base.now) target (values c.args.out.now) (values c.extend-in-Delete.new.self) c.args.done c.in-Delete.at (Value.Int (pos 0)) (cell_edits c.args.j rest)
     (subst P c.in-Delete.is m)
     c.in_ok-extend-in-Delete.ensures.values
 

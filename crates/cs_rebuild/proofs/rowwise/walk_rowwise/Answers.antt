@@ -1,6 +1,7 @@
-use Rattle.std.proofs.Common.{◌≤◌, ◌*◌, List, refl, sym, ap, subst, ◌∙◌, inr, Ok}
+use Rattle.std.proofs.Common.{◌≡◌, All, length, get_or, ◌≤◌, ◌*◌, List, refl, sym, ap, subst, ◌∙◌, inr, Ok}
 use Rattle.std.specs.List.{filter_map}
 use Rattle.std.proofs.lemmas.List.Elements.{filter_map-append}
+use Rattle.std.proofs.lemmas.Option.{slice_get-get_or}
 use Rattle.cs_board.specs.Pieces.{IsLeastFault}
 use Rattle.cs_board.specs.RunFault.{IfAt}
 use Rattle.cs_schema.specs.Rows.{Row}
@@ -9,9 +10,18 @@ use Rattle.cs_rows.specs.Walk.{Stray}
 use Rattle.cs_rows.specs.WalkByRows.{Reached, surviving_rows}
 use Rattle.cs_rows.specs.RangeByRows.{is_stray_row, row_from}
 use Rattle.cs_rows.proofs.WalkParts.{walk_by_rows_found, walk_by_rows_stray}
-use Rattle.cs_rebuild.specs.Walking.{RowsFaultAt}
+use Rattle.cs_rebuild.specs.Walking.{piece_of, RowsFaultAt}
+use Rattle.cs_rebuild.proofs.AppendedColumns.{found_wide}
 use Rattle.cs_rebuild.proofs.WalkPieces.{all_walked, first_astray}
 use Rattle.cs_rebuild.proofs.rowwise.walk_rowwise.Goals as goal
+
+pub append_all-requires-clause-width : goal.append_all-requires-clause-width
+append_all-requires-clause-width g c κs within k d h =
+    let C = c.args.catalog.now in
+    let L = c.args.loss in
+    let S = contents_of c.args.survivors.now in
+    let walked = c.in-Ok.ensures.ok.each k (get_or c.in-Ok.all.items k d) (slice_get-get_or c.in-Ok.all.items k d h) in
+    subst (All (λ (row : Row). length row ≡ length C.columns)) (sym walked.1) (found_wide C L S (piece_of c.args.crew.now.cut (surviving_rows C L S) k))
 
 pub returns-in-Ok-once-clause-rows : goal.returns-in-Ok-once-clause-rows
 returns-in-Ok-once-clause-rows g c =

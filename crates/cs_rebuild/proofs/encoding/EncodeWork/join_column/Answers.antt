@@ -3,8 +3,21 @@ use Rattle.cs_schema.specs.CatalogData.{code_at, kind_at}
 use Rattle.cs_piece.specs.Columns.{CanEncode}
 use Rattle.cs_piece.specs.Pieces.{IsPieceOf}
 use Rattle.cs_rebuild.specs.Encoding.{values_at, cut_at}
-use Rattle.cs_rebuild.proofs.Encodings.{front_fits, one_more, all_cuts}
+use Rattle.cs_rebuild.proofs.Encodings.{front_fits, first_cut, one_more, all_cuts}
 use Rattle.cs_rebuild.proofs.encoding.EncodeWork.join_column.Goals as goal
+
+pub loop-k-init : goal.loop-k-init
+loop-k-init c =
+    let w = c.args.self.now in
+    let C = w.ground.now.catalog.now in
+    let rows = w.ground.now.walked.now.rows in
+    let j = c.args.j in
+    record {
+      left = c.take_cut-column.ensures.left;
+      rest = c.take_cut-column.ensures.rest;
+      column = subst (IsPieceOf c.reserve.new.self (code_at C w.p j) (kind_at C w.p j)) (first_cut C w.p rows j w.numbers.now w.cut)
+          (c.reserve.ensures (code_at C w.p j) (kind_at C w.p j) (values_at C w.p rows j (cut_at w.cut w.numbers.now 0)) c.take_cut-column.ensures.piece);
+    }
 
 pub join_pieces-requires : goal.join_pieces-requires
 join_pieces-requires c =

@@ -1,0 +1,90 @@
+-- Rows from the columns that were joined, and the width of rows that were walked.
+use Rattle.std.proofs.Common.{◌≡◌, ℕ, zero, suc, ◌+◌, ◌-◌, ◌<◌, List, [], ◌∷◌, length, map, get_or, refl, sym, ap, ◌∙◌, subst, arith, Bool, true, false, cond, Option, Some, None, Result, Ok, Err}
+use Rattle.std.specs.Prelude.{All, Contains, IfOk, MatchResult, pos}
+use Rattle.std.specs.List.{AllZip, range_with_len, flat_map, filter_map, cons_option}
+use Rattle.std.specs.Option.{option_and_then, option_map_or}
+use Rattle.std.specs.declared.alloc.AllocError.{AllocError}
+use Rattle.std.proofs.lemmas.List.Elements.{All-nil, All-cons, All-append}
+use Rattle.std.proofs.lemmas.List.FromFn.{length-map-range_with_len}
+use Rattle.cs_schema.specs.declared.cells.Cells.{Cells}
+use Rattle.cs_schema.specs.declared.cells.Value.{Value}
+use Rattle.cs_schema.specs.CatalogData.{CatalogData}
+use Rattle.cs_schema.specs.Losses.{Sites}
+use Rattle.cs_schema.specs.Rows.{Row}
+use Rattle.cs_safety.specs.PlanData.{PlanData}
+use Rattle.cs_rows.specs.Columns.{ColumnsFit}
+use Rattle.cs_rows.specs.RangeByRows.{row_from}
+use Rattle.cs_rows.specs.RowSteps.{AreRows}
+use Rattle.cs_rows.specs.Walk.{At, Contents, walked_row, walked_cell, image_cell}
+use Rattle.cs_rows.specs.WalkByRows.{Reached, Found, found_from, found_row, full_row, is_full, source_in}
+use Rattle.cs_rows.specs.WalkedView.{WalkedData}
+use Rattle.cs_rebuild.specs.Walking.{HasTableWidth, IsColumnOf}
+
+-- ---- columns, one by one
+
+-- results that are all there, by the numbers for which they were made
+pub all_there : {X E V : Type 0} (R : ℕ → Result X E → Type 0) (items : V → List X) (n : ℕ) (numbers : List ℕ) (results : List (Result X E)) (r : Result V E)
+    → numbers ≡ range_with_len 0 (n - 0) → AllZip R numbers results → MatchResult r (λ v. (xs : List X) × (results ≡ map Ok xs) × (items v ≡ xs)) (λ e. Contains results (Err e))
+    → IfOk r (λ v. AllZip R (range_with_len 0 n) (map Ok (items v)))
+all_there R items n numbers results (Ok v) e zipped there =
+    let whole : n - 0 ≡ n = omega arith in
+    subst (λ ns. AllZip R ns (map Ok (items v))) (e ∙ ap (range_with_len 0) whole) (subst (AllZip R numbers) (there.1 ∙ ap (map Ok) (sym there.2)) zipped)
+all_there R items n numbers results (Err x) e zipped there = tt
+
+module _ (C : CatalogData) (rows : List Row) where
+  abbrev pub IsJoined : ℕ → Result Cells AllocError → Type 0
+  IsJoined c r = IfOk r (IsColumnOf C rows c)
+
+  columns_from : (a n : ℕ) (columns : List Cells) → AllZip IsJoined (range_with_len a n) (map Ok columns)
+      → (length columns ≡ n) × ((k : ℕ) (d : Cells) → k < n → IsColumnOf C rows (a + k) (get_or columns k d))
+  columns_from a zero [] h = (refl, λ k d l. absurd (omega arith))
+  columns_from a zero (x ∷ xs) h = absurd h
+  columns_from a (suc n) [] h = absurd h
+  columns_from a (suc n) (x ∷ xs) h = go (columns_from (a + 1) n xs h.1)
+    where
+      go : (length xs ≡ n) × ((k : ℕ) (d : Cells) → k < n → IsColumnOf C rows (a + 1 + k) (get_or xs k d)) → (length (x ∷ xs) ≡ suc n) × ((k : ℕ) (d : Cells) → k < suc n → IsColumnOf C rows (a + k) (get_or (x ∷ xs) k d))
+      go rest = (ap suc rest.0, each)
+        where
+          each : (k : ℕ) (d : Cells) → k < suc n → IsColumnOf C rows (a + k) (get_or (x ∷ xs) k d)
+          each zero d l = subst (λ c. IsColumnOf C rows c x) (let e : a ≡ a + 0 = omega arith in e) h.0
+          each (suc k) d l = subst (λ c. IsColumnOf C rows c (get_or xs k d)) (let e : a + 1 + k ≡ a + suc k = omega arith in e) (rest.1 k d (omega arith))
+
+  module _ (columns : List Cells) (joined : AllZip IsJoined (range_with_len 0 (length C.columns)) (map Ok columns)) where
+    each : (k : ℕ) (d : Cells) → k < length C.columns → IsColumnOf C rows k (get_or columns k d)
+    each k d l = subst (λ c. IsColumnOf C rows c (get_or columns k d)) (let e : 0 + k ≡ k = omega arith in e) ((columns_from 0 (length C.columns) columns joined).1 k d l)
+
+    pub joined_fit : ColumnsFit C columns
+    joined_fit = record { count = (columns_from 0 (length C.columns) columns joined).0; kinds = λ c d l. (each c d l).0 }
+
+    pub joined_rows : AreRows C rows columns
+    joined_rows c d l = (each c d l).1
+
+-- ---- the width of rows
+
+abbrev found_cell : CatalogData → Contents → ℕ → Reached → Value
+found_cell C S c r = image_cell C S r.0 c r.1
+
+pub all_wide : (C : CatalogData) (pieces : List WalkedData) → All (HasTableWidth C) pieces → All (λ (row : Row). length row ≡ length C.columns) (flat_map (λ piece. piece.rows) pieces)
+all_wide C [] h = All-nil (λ (row : Row). length row ≡ length C.columns)
+all_wide C (x ∷ xs) h =
+    All-append (λ (row : Row). length row ≡ length C.columns) x.rows (flat_map (λ (piece : WalkedData). piece.rows) xs) (h 0 x (omega arith)) (all_wide C xs (λ k d l. h (suc k) d (omega arith)))
+
+pub walked_wide : (C : CatalogData) (S : Contents) (P : PlanData) (xs : List At) → All (λ (row : Row). length row ≡ length C.columns) (map (walked_row C S P) xs)
+walked_wide C S P [] = All-nil (λ (row : Row). length row ≡ length C.columns)
+walked_wide C S P (x ∷ xs) =
+    All-cons (λ (row : Row). length row ≡ length C.columns) (walked_row C S P x) (map (walked_row C S P) xs) (length-map-range_with_len (walked_cell C S P x) 0 (length C.columns)) (walked_wide C S P xs)
+
+pub found_wide : (C : CatalogData) (L : Sites) (S : Contents) (xs : List Reached) → All (λ (row : Row). length row ≡ length C.columns) (filter_map (row_from C L S) xs)
+found_wide C L S [] = All-nil (λ (row : Row). length row ≡ length C.columns)
+found_wide C L S (x ∷ xs) = go (found_from C L S x.0 x.1) (found_wide C L S xs)
+  where
+    rest : List Row
+    rest = filter_map (row_from C L S) xs
+
+    by_full : (F : Found) (b : Bool) → All (λ (row : Row). length row ≡ length C.columns) rest → All (λ (row : Row). length row ≡ length C.columns) (cons_option (cond b (Some (found_row C S F)) None) rest)
+    by_full F true h = All-cons (λ (row : Row). length row ≡ length C.columns) (found_row C S F) rest (length-map-range_with_len (λ (c : ℕ). option_map_or (found_cell C S c) (source_in C F c) (Value.Int (pos 0))) 0 (length C.columns)) h
+    by_full F false h = h
+
+    go : (o : Option Found) → All (λ (row : Row). length row ≡ length C.columns) rest → All (λ (row : Row). length row ≡ length C.columns) (cons_option (option_and_then (full_row C S) o) rest)
+    go None h = h
+    go (Some F) h = by_full F (is_full C F) h

@@ -1,0 +1,98 @@
+//! Joining the rows of walked pieces, a column in each thread: most of the time goes to memory that is touched for the
+//! first time.
+ghost use Rattle.std.specs.Prelude.{◌≡◌, ◌<◌, All, length, IfOk};
+ghost use Rattle.std.specs.List.{flat_map};
+ghost use Rattle.cs_schema.specs.CatalogRules.{IsCatalog};
+ghost use Rattle.cs_rows.specs.Columns.{ColumnsFit};
+ghost use Rattle.cs_rows.specs.RowSteps.{AreRows};
+ghost use Rattle.cs_rebuild.specs.Walking.{HasTableKinds, HasTableWidth, IsColumnOf};
+
+use cs_rows::Walked;
+use cs_schema::{Catalog, Cells};
+use rayon::prelude::*;
+use std::alloc::{AllocError, Global};
+use std::marker::Sync;
+use std::thread::Threads;
+
+/// How many rows the pieces have together.
+fn rows_in(all: &[Walked]) -> usize {
+    let mut rows: usize = 0;
+    for piece in all {
+        rows = rows.saturating_add(piece.rows());
+    }
+    rows
+}
+
+/// How many columns the table has.
+fn column_count(catalog: &Catalog) -> usize
+    ensures count { result ≡ length catalog.now.columns }
+    ensures rules { IsCatalog catalog.now }
+{
+    let _rules = catalog.projection_count();
+    catalog.columns.len()
+}
+
+/// The cells that all pieces have in a column, one piece after the other.
+fn join_column(
+    alloc: Global,
+    catalog: &Catalog,
+    all: &[Walked],
+    c: usize,
+) -> Result<Cells, AllocError>
+    requires column { c < length catalog.now.columns }
+    requires kinds { All (HasTableKinds catalog.now) all.now }
+    ensures { IfOk result (IsColumnOf catalog.now (flat_map (λ piece. piece.rows) all.now) c) }
+{
+    let mut joined = Cells::new(alloc, catalog.columns[c].kind);
+    joined.reserve(rows_in(all))?;
+    for piece in all {
+        joined.extend(piece.column(c), 0, piece.rows())?;
+    }
+    Ok(joined)
+}
+
+/// The columns of all pieces, each joined in a thread of its own.
+fn join_columns<R: Threads + Sync>(
+    rt: &R,
+    alloc: Global,
+    catalog: &Catalog,
+    all: &[Walked],
+) -> Result<Vec<Cells>, AllocError>
+    requires { All (HasTableKinds catalog.now) all.now }
+    ensures fit { IfOk result (λ columns. ColumnsFit catalog.now columns.items) }
+    ensures rows { IfOk result (λ columns. AreRows catalog.now (flat_map (λ piece. piece.rows) all.now) columns.items) }
+    ensures rules { IsCatalog catalog.now }
+{
+    (0..column_count(catalog))
+        .into_par_iter()
+        // a column is worth a thread
+        .with_min_len(1)
+        .map(
+            |c: usize| -> Result<Cells, AllocError>
+                requires column { c < length catalog.now.columns }
+                requires kinds { All (HasTableKinds catalog.now) all.now }
+                ensures { IfOk result (IsColumnOf catalog.entry.now (flat_map (λ piece. piece.rows) all.entry.now) c) }
+            { join_column(alloc, catalog, all, c) },
+        )
+        .collect::<Result<Vec<Cells>, AllocError>>(rt, alloc)?
+}
+
+/// The rows of all pieces, one after the other. A piece that stands alone is given back as it is.
+pub fn append_all<R: Threads + Sync>(
+    rt: &R,
+    alloc: Global,
+    catalog: &Catalog,
+    all: Vec<Walked>,
+) -> Result<Walked, AllocError>
+    requires kinds { All (HasTableKinds catalog.now) all.items }
+    requires width { All (HasTableWidth catalog.now) all.items }
+    ensures kinds { IfOk result (HasTableKinds catalog.now) }
+    ensures rows { IfOk result (λ walked. walked.rows ≡ flat_map (λ piece. piece.rows) all.items) }
+{
+    let mut all = all;
+    if all.len() == 1 {
+        return Ok(all.swap_remove(0));
+    }
+    let columns = join_columns(rt, alloc, catalog, &all)?;
+    Ok(Walked::from_columns(columns))
+}
