@@ -1,10 +1,12 @@
 -- Files that are written one after the other.
-use Rattle.std.proofs.Common.{◌≡◌, ℕ, ◌+◌, ◌<◌, List, [], ◌∷◌, ◌++◌, map, length, refl, sym, ap, subst, ◌∙◌, Bool, true, false, not, cond, ◌&&◌, ◌||◌, ◌⊎◌, inl, inr, Option, Some, None, arith, Ordering, Result, Ok, Err}
+use Rattle.std.proofs.Common.{◌≡◌, ℕ, ◌+◌, ◌-◌, ◌<◌, List, [], ◌∷◌, ◌++◌, map, length, refl, sym, ap, subst, ◌∙◌, Bool, true, false, not, cond, ◌&&◌, ◌||◌, ◌⊎◌, inl, inr, Option, Some, None, arith, Ordering, Result, Ok, Err}
 use Rattle.std.specs.Prelude.{nat_lt, IfOk}
+use Rattle.std.specs.List.{AllZip, range_with_len}
 use Rattle.std.specs.FinMap.{insert, empty, get-insert, get-empty}
 use Rattle.std.specs.Ordering.{is_eq}
 use Rattle.std.specs.declared.cmp.Ordering.TheVariants.{Less, Equal, Greater}
-use Rattle.std.proofs.lemmas.List.{map-append}
+use Rattle.std.proofs.lemmas.Slice.Zip.{AllZip-map}
+use Rattle.rayon.proofs.ListFacts.{AllZip-weaken}
 use borrow.Author.Tests.{ltb-true, lt-ltb}
 use Rattle.cs_schema.specs.declared.file_name.FileName.{FileName}
 use Rattle.cs_schema.specs.CatalogData.{CatalogData, HasSegment, segments, has_join}
@@ -24,14 +26,15 @@ use Rattle.cs_store.specs.FileSet.{Files, contents_of}
 use Rattle.cs_recovery.specs.Expected.{written, is_segment, is_lost, is_affected}
 use Rattle.cs_recovery.specs.Places.{entries_for}
 use Rattle.cs_recovery.specs.Tables.{when}
-use Rattle.cs_rebuild.proofs.Names.{below_one_more}
 use Rattle.cs_rebuild.specs.Writing.{IsPartOf, HasWritten, KeepsWritten, IsSegmentWritten, AreSegmentsWritten, AreProjectionsWritten}
 
 -- ---- the entries of a join index
 
-pub one_entry_more : {X : Type 0} (f : ℕ → X) (i : ℕ) (old new : List X) (x : X) → new ≡ old ++ x ∷ [] → old ≡ map f (numbers_below i) → x ≡ f i → new ≡ map f (numbers_below (i + 1))
-one_entry_more f i old new x e h k =
-    e ∙ ap (λ l. l ++ x ∷ []) h ∙ ap (λ y. map f (numbers_below i) ++ y ∷ []) k ∙ sym (ap (map f) (below_one_more i) ∙ map-append f (numbers_below i) (i ∷ []))
+-- what was made of each number below one
+pub made_of_each : {Y : Type 0} (R : ℕ → Y → Type 0) (f : ℕ → Y) → ((i : ℕ) (y : Y) → R i y → y ≡ f i) → (n m : ℕ) (numbers : List ℕ) (ys : List Y) → n ≡ m → numbers ≡ range_with_len 0 (n - 0) → AllZip R numbers ys → ys ≡ map f (numbers_below m)
+made_of_each R f told n m numbers ys same e h =
+    let whole : n - 0 ≡ m = omega arith in
+    AllZip-map f numbers ys (AllZip-weaken R (λ i y. y ≡ f i) told numbers ys h) ∙ ap (map f) (e ∙ ap (range_with_len 0) whole)
 
 pub text_of : {B E : Type 0} (bytes : B → List ℕ) (p s q : ℕ) (entries all : List Place) (r : Result B E) → entries ≡ all → IfOk r (λ b. IsJoinIndexFile p s q (bytes b) entries) → IfOk r (λ b. bytes b ≡ join_index_text p s q all)
 text_of bytes p s q entries all (Ok b) e h = h.text ∙ ap (join_index_text p s q) e

@@ -1,5 +1,5 @@
 //! Writing what a loss took.
-ghost use Rattle.std.specs.Prelude.{◌≡◌, ◌<◌, ℕ, map, length, IfOk, IfErr, OnOk};
+ghost use Rattle.std.specs.Prelude.{◌≡◌, ◌<◌, ◌+◌, ℕ, map, length, IfOk, IfErr, OnOk};
 ghost use Rattle.cs_schema.specs.declared.file_name.FileName.{FileName as NameData};
 ghost use Rattle.cs_schema.specs.CatalogData.{HasSegment, segments};
 ghost use Rattle.cs_schema.specs.Order.{rows_of};
@@ -12,7 +12,7 @@ ghost use Rattle.cs_store.specs.declared.fault.Fault.{Fault as FaultData};
 ghost use Rattle.cs_recovery.specs.Expected.{is_affected};
 ghost use Rattle.cs_recovery.specs.Places.{entries_for};
 ghost use Rattle.cs_rebuild.specs.Writing.{IsPartOf, HasWritten, KeepsWritten, IsSegmentWritten, AreSegmentsWritten};
-ghost use Rattle.cs_rebuild.specs.OnGround.{IsSound, held_on, table_on, written_on};
+ghost use Rattle.cs_rebuild.specs.OnGround.{IsEntryOn, IsSound, held_on, table_on, written_on};
 
 use crate::crew::Crew;
 use crate::encoding::encode_columns;
@@ -25,6 +25,7 @@ use cs_safety::alive;
 use cs_schema::FileName;
 use cs_segment::writing::write_segment;
 use cs_store::{Fault, FileSet};
+use rayon::prelude::*;
 use std::alloc::{AllocError, Global};
 use std::marker::Sync;
 use std::thread::Threads;
@@ -57,9 +58,9 @@ fn delta_bytes(alloc: Global, ground: &Ground<'_>, p: u16, s: u16) -> Result<Vec
     write_empty_delta(alloc, p, s, rows)
 }
 
-/// The entries of a join index after the recovery.
-fn entries_of(
-    alloc: Global,
+/// The entries of a join index after the recovery, each looked for by one of several threads.
+fn entries_of<R: Threads + Sync, G: Gate + Sync>(
+    crew: &Crew<'_, R, G>,
     ground: &Ground<'_>,
     p: u16,
     s: u16,
@@ -69,17 +70,22 @@ fn entries_of(
     requires target { q < length ground.now.catalog.now.projections }
     ensures { IfOk result (λ entries. entries.items ≡ entries_for ground.now.catalog.now ground.now.loss (held_on ground.now) (table_on ground.now) p s q) }
 {
-    let top = top_after(ground, p, s);
-    let mut entries = Vec::with_capacity(alloc, top as usize)?;
-    for i in 0..top {
-        entries.push(entry_for(ground, p, s, q, i + 1))?;
-    }
-    Ok(entries)
+    (0..top_after(ground, p, s))
+        .into_par_iter()
+        .map(
+            |i: u32| -> (u16, u32)
+                requires segment { HasSegment ground.now.catalog.now p s }
+                requires target { q < length ground.now.catalog.now.projections }
+                requires below { i < 4294967295 }
+                ensures { IsEntryOn ground.entry.now p s q (i + 1) result }
+            { entry_for(ground, p, s, q, i + 1) },
+        )
+        .collect(crew.rt, crew.alloc)
 }
 
 /// The file of a join index after the recovery.
-fn join_bytes(
-    alloc: Global,
+fn join_bytes<R: Threads + Sync, G: Gate + Sync>(
+    crew: &Crew<'_, R, G>,
     ground: &Ground<'_>,
     p: u16,
     s: u16,
@@ -91,8 +97,8 @@ fn join_bytes(
     ensures { IfOk result (λ bytes. bytes.items ≡ join_index_text p s q (entries_for ground.now.catalog.now ground.now.loss (held_on ground.now) (table_on ground.now) p s q)) }
 {
     let _rules = ground.catalog.projection_count();
-    let entries = entries_of(alloc, ground, p, s, q)?;
-    write_jix(alloc, p, s, q, entries.as_slice())
+    let entries = entries_of(crew, ground, p, s, q)?;
+    write_jix(crew.alloc, p, s, q, entries.as_slice())
 }
 
 /// Whether the loss affects a join index: its segment is lost, or a segment of its target.
@@ -137,8 +143,8 @@ fn write_base<R: Threads + Sync, G: Gate + Sync>(
 }
 
 /// Writes a join index where the loss affects it.
-fn write_join(
-    alloc: Global,
+fn write_join<R: Threads + Sync, G: Gate + Sync>(
+    crew: &Crew<'_, R, G>,
     ground: &Ground<'_>,
     p: u16,
     s: u16,
@@ -156,14 +162,14 @@ fn write_join(
     if !is_affected(ground, p, s, q) {
         return Ok(());
     }
-    let bytes = join_bytes(alloc, ground, p, s, q)?;
+    let bytes = join_bytes(crew, ground, p, s, q)?;
     files.put(FileName::Jix { p, s, q }, bytes)?;
     Ok(())
 }
 
 /// Writes the join indexes of a segment that the loss affects.
-fn write_joins(
-    alloc: Global,
+fn write_joins<R: Threads + Sync, G: Gate + Sync>(
+    crew: &Crew<'_, R, G>,
     ground: &Ground<'_>,
     p: u16,
     s: u16,
@@ -177,7 +183,7 @@ fn write_joins(
     ensures joins { OnOk result ((q : ℕ) → HasWritten (written_on ground.now) files.new (NameData.Jix p s q)) }
 {
     for q in 0..ground.catalog.projection_count() {
-        write_join(alloc, ground, p, s, q, files)?;
+        write_join(crew, ground, p, s, q, files)?;
     }
     Ok(())
 }
@@ -198,7 +204,7 @@ fn write_segment_files<R: Threads + Sync, G: Gate + Sync>(
     ensures all { OnOk result (IsSegmentWritten (written_on ground.now) files.new p s) }
 {
     write_base(crew, ground, p, s, files)?;
-    write_joins(crew.alloc, ground, p, s, files)?;
+    write_joins(crew, ground, p, s, files)?;
     Ok(())
 }
 

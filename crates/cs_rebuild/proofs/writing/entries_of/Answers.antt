@@ -1,12 +1,31 @@
-use Rattle.std.proofs.Common.{◌+◌}
+use Rattle.std.proofs.Common.{◌+◌, ◌-◌, ◌<◌, length, arith, ◌∙◌}
+use Rattle.std.specs.List.{range_with_len}
+use Rattle.rayon.proofs.ListFacts.{IfOk-then}
+use Rattle.rayon.proofs.ToStd.{nat_range-All}
+use Rattle.cs_schema.specs.CatalogData.{HasSegment}
 use Rattle.cs_rows.specs.Survivors.{contents_of}
 use Rattle.cs_order.specs.Tables.{table_of}
-use Rattle.cs_recovery.specs.Places.{entry_for}
-use Rattle.cs_rebuild.proofs.WrittenFiles.{one_entry_more}
+use Rattle.cs_recovery.specs.Places.{entry_for, image_after}
+use Rattle.cs_rebuild.specs.OnGround.{IsEntryOn}
+use Rattle.cs_rebuild.proofs.WrittenFiles.{made_of_each}
 use Rattle.cs_rebuild.proofs.writing.entries_of.Goals as goal
 
-pub loop-i-preserved : goal.loop-i-preserved
-loop-i-preserved c =
-    let g = c.args.ground.now in
-    let C = g.catalog.now in
-    one_entry_more (λ i. entry_for C g.loss (contents_of g.survivors.now) (table_of C g.walked.now.rows) c.args.p c.args.s c.args.q (i + 1)) c.loop-i.i c.loop-i.entries.items c.push.new.self.items c.entry_for.result c.in_ok-push.ensures.items c.loop-i.invariant c.entry_for.ensures.entry
+pub collect-requires-clause-ready : goal.collect-requires-clause-ready
+collect-requires-clause-ready g c κs within =
+    let C = c.args.ground.now.catalog.now in
+    let ends = c.into_par_iter.ensures in
+    let inside = nat_range-All (λ i. HasSegment C c.args.p c.args.s × ((c.args.q < length C.projections) × (i < 4294967295))) 0 c.top_after.result
+    (λ i low high. (c.requires.segment, (c.requires.target, omega (arith, high, c.top_after.type_inv)))) in
+    rw (c.map.ensures.base, c.map.ensures.f, ends.0, ends.1) (λ k d lt. (inside k d lt, λ y p. tt))
+
+pub returns : goal.returns
+returns g c =
+    let x = c.args.ground.now in
+    let C = x.catalog.now in
+    let S = contents_of x.survivors.now in
+    let T = table_of C x.walked.now.rows in
+    let ends = c.into_par_iter.ensures in
+    let made = rw (c.map.ensures.base, c.map.ensures.f) at c.collect.ensures in
+    IfOk-then c.collect.result _ _ made (λ entries h.
+    let chain = h.1 in
+    h.2 ∙ made_of_each (λ i. IsEntryOn x c.args.p c.args.s c.args.q (i + 1)) (λ i. entry_for C x.loss S T c.args.p c.args.s c.args.q (i + 1)) (λ i y told. told.entry_is) c.top_after.result (image_after C x.loss S T c.args.p c.args.s).top chain.0 h.0 c.top_after.ensures (chain.1 ∙ (λ i. range_with_len (ends.0 i) (ends.1 i - ends.0 i))) chain.2)

@@ -8,19 +8,19 @@ use Rattle.cs_rebuild.proofs.WrittenFiles.{text_of}
 use Rattle.cs_rebuild.proofs.writing.join_bytes.Goals as goal
 
 pub write_jix-requires-clause-count : goal.write_jix-requires-clause-count
-write_jix-requires-clause-count c =
-    let g = c.args.ground.now in
-    let file = entries_are g.catalog.now c.projection_count-rules.ensures.rules c.requires.sound.0 g.loss g.survivors.now g.walked.now g.orders.now c.requires.sound.1 c.args.p c.args.s c.args.q c.requires.segment c.requires.target in
+write_jix-requires-clause-count g c =
+    let x = c.args.ground.now in
+    let file = entries_are x.catalog.now c.projection_count-rules.ensures.rules c.requires.sound.0 x.loss x.survivors.now x.walked.now x.orders.now c.requires.sound.1 c.args.p c.args.s c.args.q c.requires.segment c.requires.target in
     subst (λ l. length l ≤ 4194304) (sym (c.as_slice.ensures.value ∙ c.in_ok-entries.ensures)) file.count
 
 pub write_jix-requires-clause-each : goal.write_jix-requires-clause-each
-write_jix-requires-clause-each c e i =
-    let g = c.args.ground.now in
-    let file = entries_are g.catalog.now c.projection_count-rules.ensures.rules c.requires.sound.0 g.loss g.survivors.now g.walked.now g.orders.now c.requires.sound.1 c.args.p c.args.s c.args.q c.requires.segment c.requires.target in
+write_jix-requires-clause-each g c e i =
+    let x = c.args.ground.now in
+    let file = entries_are x.catalog.now c.projection_count-rules.ensures.rules c.requires.sound.0 x.loss x.survivors.now x.walked.now x.orders.now c.requires.sound.1 c.args.p c.args.s c.args.q c.requires.segment c.requires.target in
     file.each e (subst (IsIn e) (c.as_slice.ensures.value ∙ c.in_ok-entries.ensures) i)
 
 pub returns : goal.returns
-returns c =
-    let g = c.args.ground.now in
-    let C = g.catalog.now in
-    text_of (λ b. b.items) c.args.p c.args.s c.args.q c.as_slice.result.now (entries_for C g.loss (contents_of g.survivors.now) (table_of C g.walked.now.rows) c.args.p c.args.s c.args.q) c.write_jix.result (c.as_slice.ensures.value ∙ c.in_ok-entries.ensures) c.write_jix.ensures
+returns g c =
+    let x = c.args.ground.now in
+    let C = x.catalog.now in
+    text_of (λ b. b.items) c.args.p c.args.s c.args.q c.as_slice.result.now (entries_for C x.loss (contents_of x.survivors.now) (table_of C x.walked.now.rows) c.args.p c.args.s c.args.q) c.write_jix.result (c.as_slice.ensures.value ∙ c.in_ok-entries.ensures) c.write_jix.ensures

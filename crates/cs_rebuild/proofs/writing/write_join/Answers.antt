@@ -7,7 +7,7 @@ use Rattle.cs_rebuild.proofs.WrittenFiles.{one_put, affected_join}
 use Rattle.cs_rebuild.proofs.writing.write_join.Goals as goal
 
 pub returns-clause-part : goal.returns-clause-part
-returns-clause-part c =
+returns-clause-part g c =
     let x = c.args.ground.now in
     let C = x.catalog.now in
     let S = contents_of x.survivors.now in
@@ -16,7 +16,7 @@ returns-clause-part c =
     c.in_ok-put.ensures.ok c.requires.part).0
 
 pub returns-clause-kept : goal.returns-clause-kept
-returns-clause-kept c =
+returns-clause-kept g c =
     let x = c.args.ground.now in
     let C = x.catalog.now in
     let S = contents_of x.survivors.now in
@@ -25,7 +25,7 @@ returns-clause-kept c =
     c.in_ok-put.ensures.ok c.requires.part).1
 
 pub returns-clause-join : goal.returns-clause-join
-returns-clause-join c =
+returns-clause-join g c =
     let x = c.args.ground.now in
     let C = x.catalog.now in
     let S = contents_of x.survivors.now in
