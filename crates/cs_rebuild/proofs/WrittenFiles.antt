@@ -1,5 +1,5 @@
 -- Files that are written one after the other.
-use Rattle.std.proofs.Common.{◌≡◌, ℕ, ◌+◌, ◌-◌, ◌<◌, List, [], ◌∷◌, ◌++◌, map, length, refl, sym, ap, subst, ◌∙◌, Bool, true, false, not, cond, ◌&&◌, ◌||◌, ◌⊎◌, inl, inr, Option, Some, None, arith, Ordering, Result, Ok, Err}
+use Rattle.std.proofs.Common.{◌≡◌, ℕ, ◌+◌, ◌-◌, ◌<◌, List, map, length, refl, sym, ap, subst, ◌∙◌, Bool, true, false, not, cond, ◌&&◌, ◌||◌, ◌⊎◌, inl, inr, Option, Some, None, arith, Ordering, Result, Ok, Err}
 use Rattle.std.specs.Prelude.{nat_lt, IfOk}
 use Rattle.std.specs.List.{AllZip, range_with_len}
 use Rattle.std.specs.FinMap.{insert, empty, get-insert, get-empty}
