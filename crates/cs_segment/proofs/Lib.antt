@@ -1,8 +1,8 @@
 pub mod Sealing
 pub mod Fronts
 pub mod Numbers
-pub mod PartReading
 pub mod PartLists
+pub mod BodyLists
 pub mod Heads
 pub mod OneText
 pub mod PieceColumns

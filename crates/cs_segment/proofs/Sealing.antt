@@ -1,9 +1,12 @@
 -- Sealed texts.
-use Rattle.std.proofs.Common.{◌≡◌, ℕ, ◌+◌, ◌-◌, List, length, take, drop, refl, sym, ap, ◌∙◌, arith}
+use Rattle.std.proofs.Common.{◌≡◌, ℕ, ◌+◌, ◌-◌, List, length, take, drop, refl, sym, ap, ◌∙◌, arith, Option, Some, None, Bool, Bor}
 use Rattle.std.proofs.lemmas.List.{length-append, take_at, drop_at}
 use Rattle.sha2.specs.Sha256.{sha256}
 use Rattle.sha2.proofs.Facts256.{length-sha256}
+use Rattle.std.specs.Prelude.{IfSome, IfNone}
+use Rattle.std.specs.Option.{is_some}
 use Rattle.cs_segment.specs.SegmentFile.{sealed}
+use Rattle.cs_segment.specs.Bodies.{IsSealed}
 
 pub length-sealed : (x : List ℕ) → length (sealed x) ≡ length x + 32
 length-sealed x = length-append x (sha256 x) ∙ ap (λ n. length x + n) (length-sha256 x)
@@ -17,3 +20,11 @@ digest_of_sealed bytes x e = sym (ap (drop (length bytes - 32)) e ∙ drop_at x 
 -- a sealed text has one body
 pub sealed_once : (x y : List ℕ) → sealed x ≡ sealed y → x ≡ y
 sealed_once x y e = body_of_sealed (sealed y) x (sym e) ∙ sym (body_of_sealed (sealed y) y refl)
+
+-- what the search for a body tells
+pub sealed_or_not : (bytes : List ℕ) (o : Option (Bor (List ℕ))) → IfSome o (λ body. bytes ≡ sealed body.now) → IfNone o ((body : List ℕ) → bytes ≡ sealed body → ⊥) → (b : Bool) → b ≡ is_some o → IsSealed bytes b
+sealed_or_not bytes (Some body) found none b e = record {
+  found = λ t. found ∙ ap sealed (body_of_sealed bytes body.now found);
+  none = λ f. absurd (let x = e in cc);
+}
+sealed_or_not bytes None found none b e = record { found = λ t. absurd (let x = e in cc); none = λ f. none }

@@ -4,9 +4,11 @@
 //! `Damaged`, and what is written of the pieces of a base's columns is its file.
 #![tactic(auto)]
 
+pub mod bodies;
 pub mod bytes;
 pub mod fault;
 pub mod laws;
+pub mod parallel;
 pub mod seal;
 pub mod segment;
 #[cfg(test)]
@@ -14,5 +16,6 @@ mod tests;
 pub mod writing;
 
 pub use fault::FileFault;
+pub use parallel::par_read_segment;
 pub use segment::{Segment, read_segment};
 pub use writing::write_segment;

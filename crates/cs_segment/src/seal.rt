@@ -1,6 +1,7 @@
 //! The digest at the end of a file.
 ghost use Rattle.std.specs.Prelude.{◌≡◌, ℕ, List, OnOk, OnErr, IfSome, IfNone};
 ghost use Rattle.cs_segment.specs.SegmentFile.{sealed};
+ghost use Rattle.cs_segment.specs.Bodies.{IsSealed};
 
 use sha2::{Digest, Sha256};
 use std::alloc::AllocError;
@@ -32,4 +33,11 @@ pub fn unseal(bytes: &[u8]) -> Option<&[u8]>
     } else {
         None
     }
+}
+
+/// Whether bytes are a sealed text.
+pub fn is_sealed(bytes: &[u8]) -> bool
+    ensures { IsSealed bytes.now result }
+{
+    unseal(bytes).is_some()
 }

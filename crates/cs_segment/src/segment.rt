@@ -4,14 +4,14 @@ ghost use Rattle.cs_schema.specs.declared.cells.Value.{Value};
 ghost use Rattle.cs_schema.specs.Values.{values, kind_of};
 ghost use Rattle.cs_segment.specs.SegmentFile.{Base, IsSegmentFile, code_number, kind_number};
 ghost use Rattle.cs_schema.specs.CatalogData.{projection};
-ghost use Rattle.cs_segment.specs.Parts.{BeginsWithPart, AreParts, BeginsWithHead};
+ghost use Rattle.cs_segment.specs.Parts.{BeginsWithHead};
+ghost use Rattle.cs_segment.specs.Bodies.{AreColumnsIn, NoColumnIn, HoldsBodies, HoldsColumns, HoldsNone};
 ghost use Rattle.cs_segment.specs.SegmentData.{IsSegmentOf, kinds_at};
 
-use crate::bytes::{after, number, parts, short};
+use crate::bodies::{find_bodies, read_body};
+use crate::bytes::{after, number, short};
 use crate::fault::FileFault;
 use crate::seal::unseal;
-use cs_codec::CodecFault;
-use cs_piece::read_column;
 use cs_schema::{Catalog, Cells, Code, Kind};
 use std::alloc::Global;
 use std::marker::Model;
@@ -60,65 +60,24 @@ pub fn kind_number(kind: Kind) -> u8
     }
 }
 
-/// The column at the front of some bytes, and what follows.
-fn read_part<'a>(
-    alloc: Global,
-    code: Code,
-    kind: Kind,
-    bytes: &'a [u8],
-    rows: u32,
-) -> Result<(Cells, &'a [u8]), FileFault>
-    requires { rows ≤ 1048576 }
-    ensures found { IfOk result (λ r. BeginsWithPart code kind bytes.now rows (values r.0) r.1.now) }
-    ensures kind { IfOk result (λ r. kind_of r.0 ≡ kind) }
-    ensures refused { result ≡ Err FileFault.Damaged → (v : List Value) (rest : List ℕ) → BeginsWithPart code kind bytes.now rows v rest → ⊥ }
-{
-    let head = [code_number(code), kind_number(kind)];
-    let Some(counted) = after(bytes, &head) else {
-        return Err(FileFault::Damaged);
-    };
-    let Some((len, text)) = number(counted) else {
-        return Err(FileFault::Damaged);
-    };
-    let Some((body, rest)) = parts(text, len as usize) else {
-        return Err(FileFault::Damaged);
-    };
-    match read_column(alloc, code, kind, body, rows) {
-        Ok(cells) => Ok((cells, rest)),
-        Err(CodecFault::Memory) => Err(FileFault::Memory),
-        Err(CodecFault::NotAText) => Err(FileFault::Damaged),
-    }
-}
-
-/// The columns that the bytes are the parts of.
-fn read_parts(
+/// The columns of these bodies.
+fn read_bodies(
     alloc: Global,
     catalog: &Catalog,
     p: u16,
     rows: u32,
-    bytes: &[u8],
+    bodies: &[&[u8]],
 ) -> Result<Vec<Cells>, FileFault>
     requires projection { p < length catalog.now.projections }
     requires count { rows ≤ 1048576 }
-    ensures found { IfOk result (λ columns. AreParts catalog.now p bytes.now rows (map values columns.items)) }
-    ensures kinds { IfOk result (λ columns. map kind_of columns.items ≡ kinds_at catalog.now p) }
-    ensures refused { result ≡ Err FileFault.Damaged → (columns : List (List Value)) → AreParts catalog.now p bytes.now rows columns → ⊥ }
+    requires width { length bodies.now ≡ length (projection catalog.now p).columns }
+    ensures found { IfOk result (λ columns. AreColumnsIn catalog.now p rows (map (λ body. body.now) bodies.now) columns.items) }
+    ensures refused { result ≡ Err FileFault.Damaged → NoColumnIn catalog.now p rows (map (λ body. body.now) bodies.now) }
 {
     let mut columns = Vec::new(alloc);
-    let mut rest = bytes;
-    for j in 0..catalog.width(p) {
-        let (cells, after) = read_part(
-            alloc,
-            catalog.code(p, j),
-            catalog.column_kind(p, j),
-            rest,
-            rows,
-        )?;
+    for j in 0..bodies.len() {
+        let cells = read_body(alloc, catalog, p, j, bodies[j], rows)?;
         columns.push(cells)?;
-        rest = after;
-    }
-    if !rest.is_empty() {
-        return Err(FileFault::Damaged);
     }
     Ok(columns)
 }
@@ -140,6 +99,42 @@ fn read_head(bytes: &[u8], p: u16, s: u16, width: usize) -> Option<(u32, &[u8])>
     Some((rows, rest))
 }
 
+/// The number of rows, and where the columns stand, of what stands in a segment's file before its digest.
+pub(crate) fn find_columns<'a>(
+    alloc: Global,
+    catalog: &Catalog,
+    p: u16,
+    s: u16,
+    front: &'a [u8],
+) -> Result<(u32, Vec<&'a [u8]>), FileFault>
+    requires { p < length catalog.now.projections }
+    ensures found { IfOk result (λ r. HoldsBodies catalog.now p s front.now r.0 (map (λ body. body.now) r.1.items)) }
+    ensures refused { result ≡ Err FileFault.Damaged → HoldsNone catalog.now p s front.now }
+{
+    let Some((rows, parts)) = read_head(front, p, s, catalog.width(p)) else {
+        return Err(FileFault::Damaged);
+    };
+    let bodies = find_bodies(alloc, catalog, p, parts)?;
+    Ok((rows, bodies))
+}
+
+/// The number of rows, and the columns, of what stands in a segment's file before its digest.
+fn read_columns(
+    alloc: Global,
+    catalog: &Catalog,
+    p: u16,
+    s: u16,
+    front: &[u8],
+) -> Result<(u32, Vec<Cells>), FileFault>
+    requires { p < length catalog.now.projections }
+    ensures found { IfOk result (λ r. HoldsColumns catalog.now p s front.now r.0 r.1.items) }
+    ensures refused { result ≡ Err FileFault.Damaged → HoldsNone catalog.now p s front.now }
+{
+    let (rows, bodies) = find_columns(alloc, catalog, p, s, front)?;
+    let columns = read_bodies(alloc, catalog, p, rows, &bodies)?;
+    Ok((rows, columns))
+}
+
 /// The segment that the bytes are the file of.
 pub fn read_segment(
     alloc: Global,
@@ -153,13 +148,11 @@ pub fn read_segment(
     ensures refused { result ≡ Err FileFault.Damaged → (b : Base) → IsSegmentFile catalog.now p s bytes.now b → ⊥ }
     ensures only { IfOk result (λ segment. (b : Base) → IsSegmentFile catalog.now p s bytes.now b → b ≡ segment.base) }
 {
-    let Some(body) = unseal(bytes) else {
+    let _width = catalog.width(p);
+    let Some(front) = unseal(bytes) else {
         return Err(FileFault::Damaged);
     };
-    let Some((rows, parts)) = read_head(body, p, s, catalog.width(p)) else {
-        return Err(FileFault::Damaged);
-    };
-    let columns = read_parts(alloc, catalog, p, rows, parts)?;
+    let (rows, columns) = read_columns(alloc, catalog, p, s, front)?;
     Ok(Segment {
         p,
         s,

@@ -4,6 +4,7 @@ ghost use Rattle.cs_segment.specs.SegmentData.{kinds_at};
 ghost use Rattle.cs_segment.specs.SegmentPieces.{ArePiecesOf};
 
 use crate::fault::FileFault;
+use crate::parallel::par_read_segment;
 use crate::seal::{seal, unseal};
 use crate::segment::{Segment, read_segment};
 use crate::writing::write_segment;
@@ -258,6 +259,41 @@ fn hostile_bytes_are_damaged(rt: HostRuntime) -> Result<(), Fail> {
     let long_body = with_a_high_count(alloc, PLAIN, 20)?;
     for body in [&left_over, &many_rows, &long_body] {
         let segment = read_segment(alloc, &catalog, 0, 0, &sealed(alloc, body)?);
+        assert_eq!(rt; segment.err(), Some(FileFault::Damaged));
+    }
+    Ok(())
+}
+
+/// The body of 5,000 plain rows of two columns: long enough to be read by several threads.
+fn long_body(alloc: Global) -> Result<Vec<u8>, AllocError> {
+    let mut body = b"CSSEG001\0\0\0\0\0\0\x13\x88\0\x02".to_vec(alloc)?;
+    for first in [0u64, 7] {
+        body.extend_from_slice(b"\x04\x01\0\0\x9c\x40")?;
+        for i in 0..5000u64 {
+            body.extend_from_slice(&first.wrapping_add(i).to_be_bytes())?;
+        }
+    }
+    Ok(body)
+}
+
+#[test]
+fn long_files_are_read_by_threads(rt: HostRuntime) -> Result<(), Fail> {
+    let alloc = rt.alloc();
+    let catalog = read_catalog(alloc, TWO_ORDERS.as_bytes())?;
+    assert_eq!(rt; catalog.projection_count(), 2);
+    let mut body = long_body(alloc)?;
+    let bytes = sealed(alloc, &body)?;
+    let segment = par_read_segment(&rt, alloc, &catalog, 0, 0, &bytes)?;
+    assert!(rt; segment.rows == 5000 && segment.columns.len() == 2);
+    assert!(rt; segment.columns[0].len() == 5000 && segment.columns[1].len() == 5000);
+    assert!(rt; segment.columns[0].cell(4999) == Value::Int(4999));
+    assert!(rt; segment.columns[1].cell(4999) == Value::Int(5006));
+    let unsealed = changed(alloc, &bytes, 60_000)?;
+    let other_code = sealed(alloc, &changed(alloc, &body, 20)?)?;
+    body.push(0)?;
+    let left_over = sealed(alloc, &body)?;
+    for other in [&unsealed, &other_code, &left_over] {
+        let segment = par_read_segment(&rt, alloc, &catalog, 0, 0, other);
         assert_eq!(rt; segment.err(), Some(FileFault::Damaged));
     }
     Ok(())

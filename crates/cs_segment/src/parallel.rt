@@ -1,0 +1,113 @@
+//! Reading a segment's file in several threads: one takes the digest, and one each column.
+ghost use Rattle.std.specs.Prelude.{◌≡◌, ◌<◌, ◌≤◌, List, map, length, IfOk};
+ghost use Rattle.cs_schema.specs.CatalogData.{projection};
+ghost use Rattle.cs_segment.specs.SegmentFile.{Base, IsSegmentFile};
+ghost use Rattle.cs_segment.specs.SegmentData.{IsSegmentOf};
+ghost use Rattle.cs_segment.specs.Bodies.{IsReadAt, AreFirstRead, AreReadOf, HoldsColumns, HoldsNone, IsSealed};
+
+use crate::bodies::read_body;
+use crate::fault::FileFault;
+use crate::seal::{DIGEST, is_sealed};
+use crate::segment::{Segment, find_columns, read_segment};
+use cs_schema::{Catalog, Cells};
+use std::alloc::Global;
+use std::thread::{Threads, join};
+
+/// How many bytes of a file are worth the start of threads.
+const WORTH_THREADS: usize = 65_536;
+
+/// The columns of the first bodies, so many.
+fn read_first<R: Threads>(
+    rt: &R,
+    alloc: Global,
+    catalog: &Catalog,
+    p: u16,
+    rows: u32,
+    bodies: &[&[u8]],
+    count: usize,
+) -> Result<Vec<Cells>, FileFault>
+    requires projection { p < length catalog.now.projections }
+    requires rows { rows ≤ 1048576 }
+    requires width { length bodies.now ≡ length (projection catalog.now p).columns }
+    requires within { count ≤ length bodies.now }
+    ensures { AreFirstRead catalog.now p rows (map (λ body. body.now) bodies.now) count result }
+{
+    if count == 0 {
+        return Ok(Vec::new(alloc));
+    }
+    let last = count - 1;
+    let (cells, before) = join(
+        rt,
+        || -> Result<Cells, FileFault>
+            requires { (p < length catalog.now.projections) × (rows ≤ 1048576) × (length bodies.now ≡ length (projection catalog.now p).columns) × (last < length bodies.now) }
+            ensures { IsReadAt catalog.entry.now p rows (map (λ body. body.now) bodies.entry.now) last result }
+        { read_body(alloc, catalog, p, last, bodies[last], rows) },
+        || -> Result<Vec<Cells>, FileFault>
+            requires { (p < length catalog.now.projections) × (rows ≤ 1048576) × (length bodies.now ≡ length (projection catalog.now p).columns) × (last ≤ length bodies.now) }
+            ensures { AreFirstRead catalog.entry.now p rows (map (λ body. body.now) bodies.entry.now) last result }
+        { read_first(rt, alloc, catalog, p, rows, bodies, last) },
+    );
+    let mut columns = before?;
+    columns.push(cells?)?;
+    Ok(columns)
+}
+
+/// The number of rows, and the columns, of what stands in a segment's file before its digest.
+fn read_columns<R: Threads>(
+    rt: &R,
+    alloc: Global,
+    catalog: &Catalog,
+    p: u16,
+    s: u16,
+    front: &[u8],
+) -> Result<(u32, Vec<Cells>), FileFault>
+    requires { p < length catalog.now.projections }
+    ensures found { IfOk result (λ r. HoldsColumns catalog.now p s front.now r.0 r.1.items) }
+    ensures refused { result ≡ Err FileFault.Damaged → HoldsNone catalog.now p s front.now }
+{
+    let (rows, bodies) = find_columns(alloc, catalog, p, s, front)?;
+    let width = catalog.width(p);
+    let columns = read_first(rt, alloc, catalog, p, rows, &bodies, width)?;
+    Ok((rows, columns))
+}
+
+/// The segment that the bytes are the file of, as `read_segment` gives it. A long file is read in several threads.
+pub fn par_read_segment<R: Threads>(
+    rt: &R,
+    alloc: Global,
+    catalog: &Catalog,
+    p: u16,
+    s: u16,
+    bytes: &[u8],
+) -> Result<Segment, FileFault>
+    requires { p < length catalog.now.projections }
+    ensures found { IfOk result (IsSegmentOf catalog.now p s bytes.now) }
+    ensures refused { result ≡ Err FileFault.Damaged → (b : Base) → IsSegmentFile catalog.now p s bytes.now b → ⊥ }
+    ensures only { IfOk result (λ segment. (b : Base) → IsSegmentFile catalog.now p s bytes.now b → b ≡ segment.base) }
+{
+    let _width = catalog.width(p);
+    if bytes.len() < WORTH_THREADS {
+        return read_segment(alloc, catalog, p, s, bytes);
+    }
+    let front = &bytes[..bytes.len() - DIGEST];
+    let (whole, read) = join(
+        rt,
+        || -> bool
+            ensures { IsSealed bytes.entry.now result }
+        { is_sealed(bytes) },
+        || -> Result<(u32, Vec<Cells>), FileFault>
+            requires { p < length catalog.now.projections }
+            ensures { AreReadOf catalog.entry.now p s front.entry.now result }
+        { read_columns(rt, alloc, catalog, p, s, front) },
+    );
+    if !whole {
+        return Err(FileFault::Damaged);
+    }
+    let (rows, columns) = read?;
+    Ok(Segment {
+        p,
+        s,
+        rows,
+        columns,
+    })
+}
