@@ -1,4 +1,5 @@
 -- The end of a walk: the plan fits the catalog, and the filled columns are the walked rows.
+use Rattle.std.proofs.Math.Logic.{∥∥₁_elim}
 use Rattle.std.proofs.Props.{props}
 use Rattle.std.proofs.Common.{◌≡◌, ℕ, zero, suc, ◌<◌, ◌≤◌, List, [], ◌∷◌, length, map, get_or, refl, sym, ap, ◌∙◌, subst, arith, Bool, true, false, ◌||◌, Option, Some, None, ◌⊎◌, inl, inr, eqb, eq-eqb, Ok, Err}
 use Rattle.std.specs.Prelude.{slice_index, pos, MatchOption}
@@ -25,7 +26,7 @@ use Rattle.cs_rows.specs.Steps.{PlanFits}
 use Rattle.cs_rows.proofs.RouteLemmas.{plan_depth, plan_follows}
 use Rattle.cs_rows.specs.Columns.{ColumnsFit, AreWalked, IsRowFault}
 use Rattle.cs_rows.specs.WalkedView.{row_of, rows_of, count_of, AreColumns}
-use Rattle.cs_rows.specs.Range.{walked_among, IsWalkFault}
+use Rattle.cs_rows.specs.Range.{walked_among, IsPlanOf, IsWalkFault}
 
 module _ (C : CatalogData) (cat : IsCatalog C) (L : Sites) (P : PlanData) (plan : IsPlan C L P) where
   prev_below : (q p : ℕ) (o : Option ℕ) → o ≡ Some p → MatchOption o ((q ≡ P.anchor) ⊎ ¬ IsReached C (alive C L) P.anchor q) (λ r. IsPrev C L P.anchor q r) → p < length C.projections
@@ -59,6 +60,10 @@ module _ (C : CatalogData) (cat : IsCatalog C) (L : Sites) (P : PlanData) (plan 
 -- that a plan fits is one fact
 pub PlanFits-prop : (C : CatalogData) (P : PlanData) → IsProp (PlanFits C P)
 PlanFits-prop C P = hlevel props
+
+-- the plan of some loss fits the catalog
+pub fits_of : (C : CatalogData) (P : PlanData) → IsCatalog C → ∥ IsPlanOf C P ∥₁ → PlanFits C P
+fits_of C P cat plan = ∥∥₁_elim plan (PlanFits-prop C P) (λ p. plan_fits C cat p.0 P p.1)
 
 pub get_or_map_in : {X Y : Type 0} (f : X → Y) (xs : List X) (i : ℕ) (e y : Y) → i < length xs → ((d : X) → f (get_or xs i d) ≡ y) → get_or (map f xs) i e ≡ y
 get_or_map_in f [] i e y h k = absurd (omega arith)

@@ -26,7 +26,7 @@ pub(crate) const BLOCK_ROWS: u32 = 256;
 pub(crate) type Places = [(u16, u32); 8];
 
 /// Finds where the walk of an anchor row stands in each projection that the plan reaches, and whether it is astray.
-fn find_places(
+pub(crate) fn find_places(
     catalog: &Catalog,
     plan: &Plan,
     survivors: &Survivors,

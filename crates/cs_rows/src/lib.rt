@@ -20,6 +20,7 @@ pub mod survivors;
 #[cfg(test)]
 mod tests;
 pub mod walked;
+pub mod whole;
 
 pub use survivors::Survivors;
 pub use walked::Walked;

@@ -6,6 +6,7 @@ ghost use Rattle.cs_rows.specs.Survivors.{HasRoom, HoldsImages};
 use crate::by_rows::walk_rows;
 use crate::counts::{anchor_rows, surviving_row_count};
 use crate::range::{WalkFault, walk_range};
+use crate::whole::{anchor_column, follow_range, reads_anchor_alone};
 use crate::{Survivors, Walked};
 use cs_delta::{Image, merge, read_delta};
 use cs_jix::read_jix;
@@ -302,6 +303,25 @@ fn ranges_of_a_plan(rt: HostRuntime) -> Result<(), Fail> {
         Some(WalkFault::Astray { p: 0, s: 0, row: 1 })
     );
     assert!(rt; store.walk(alloc, loss, 0, 1).is_ok());
+    Ok(())
+}
+
+// The first projection has each column, and its rows lead to the second all the same.
+#[test]
+fn keys_of_an_anchor(rt: HostRuntime) -> Result<(), Fail> {
+    let alloc = rt.alloc();
+    let mut store = Store::of(alloc, NUMBERED_CITIES)?;
+    store.put_segment(alloc, 0, 0, &[&[1, 2], &[2, 2], &[7, 5]], &[])?;
+    store.put_segment(alloc, 1, 1, &[&[2], &[7]], &[])?;
+    store.put_join(alloc, 0, 0, 1, &[(1, 1), (1, 9)])?;
+    let _projections = store.catalog.projection_count();
+    let plan = plan(&store.catalog, Loss::none()).ok_or("no plan")?;
+    assert!(rt; reads_anchor_alone(&store.catalog, &plan));
+    let keys = anchor_column(alloc, &store.catalog, &plan, &store.survivors, 0)?;
+    assert!(rt; keys.len() == 2 && keys.cell(1) == Value::Int(2));
+    follow_range(alloc, &store.catalog, &plan, &store.survivors, 0, 1)?;
+    let both = follow_range(alloc, &store.catalog, &plan, &store.survivors, 0, 2);
+    assert_eq!(rt; both.err(), Some(WalkFault::Astray { p: 0, s: 0, row: 1 }));
     Ok(())
 }
 
