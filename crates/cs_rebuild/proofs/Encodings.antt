@@ -82,14 +82,16 @@ module _ (C : CatalogData) (p : ℕ) (rows : List Row) (j : ℕ) (numbers : List
   pub few_values : length numbers ≤ row_limit → length (values_at C p rows j numbers) ≤ row_limit
   few_values few = let l = length-map numbers value_of in omega (arith, few, l)
 
-  -- a piece fits
-  pub cut_fits : MayRise → (cut k : ℕ) → FitsCode (code_at C p j) (kind_at C p j) (values_at C p rows j (cut_at cut numbers k))
-  cut_fits rise cut k =
-      fits_code (code_at C p j) (kind_at C p j) (values_at C p rows j (cut_at cut numbers k))
-      (λ e.
+  -- the cells of a piece rise where all do
+  pub cut_rises : MayRise → (cut k : ℕ) → code_at C p j ≡ Code.Differences → (kind_at C p j ≡ Kind.Int) × Rises (values_at C p rows j (cut_at cut numbers k))
+  cut_rises rise cut k e =
       let r = rise e in
       let same : take cut (drop (k * cut) (map value_of numbers)) ≡ map value_of (cut_at cut numbers k) = ap (take cut) (drop-map value_of (k * cut) numbers) ∙ take-map value_of cut (drop (k * cut) numbers) in
-      (r.0, subst Rises same (rises_take cut (drop (k * cut) (map value_of numbers)) (rises_drop (k * cut) (map value_of numbers) r.1))))
+      (r.0, subst Rises same (rises_take cut (drop (k * cut) (map value_of numbers)) (rises_drop (k * cut) (map value_of numbers) r.1)))
+
+  -- a piece fits
+  pub cut_fits : MayRise → (cut k : ℕ) → FitsCode (code_at C p j) (kind_at C p j) (values_at C p rows j (cut_at cut numbers k))
+  cut_fits rise cut k = fits_code (code_at C p j) (kind_at C p j) (values_at C p rows j (cut_at cut numbers k)) (cut_rises rise cut k)
 
   -- so do the first cells
   pub front_fits : MayRise → length numbers ≤ row_limit → (n : ℕ) → CanEncode (code_at C p j) (kind_at C p j) (values_at C p rows j (take n numbers))

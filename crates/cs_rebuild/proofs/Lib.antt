@@ -1,5 +1,7 @@
+pub mod AnchoredRows
 pub mod AppendedColumns
 pub mod CellsAlike
+pub mod Compared
 pub mod Counts
 pub mod Cuts
 pub mod Encodings

@@ -1,5 +1,6 @@
 pub mod Encoding
 pub mod Ground
+pub mod Comparing
 pub mod Verifying
 pub mod Walking
 pub mod WorkLaws

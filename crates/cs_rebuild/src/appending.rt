@@ -24,7 +24,7 @@ fn rows_in(all: &[Walked]) -> usize {
 }
 
 /// How many columns the table has.
-fn column_count(catalog: &Catalog) -> usize
+pub fn column_count(catalog: &Catalog) -> usize
     ensures count { result ≡ length catalog.now.columns }
     ensures rules { IsCatalog catalog.now }
 {

@@ -1,6 +1,7 @@
 //! The columns of a projection, as columns of the table.
 ghost use Rattle.std.specs.Prelude.{◌≡◌, ◌<◌, length, slice_index};
 ghost use Rattle.cs_schema.specs.CatalogData.{projection};
+ghost use Rattle.cs_schema.specs.CatalogRules.{IsCatalog};
 
 use cs_schema::Catalog;
 
@@ -10,6 +11,15 @@ fn column_number(catalog: &Catalog, p: u16, j: usize) -> u8
     ensures { result ≡ slice_index (projection catalog.now p).columns j }
 {
     catalog.projection(p).columns[j]
+}
+
+/// The columns of a projection, each by its number in the table.
+pub fn columns_of(catalog: &Catalog, p: u16) -> &[u8]
+    requires { p < length catalog.now.projections }
+    ensures columns { result.now ≡ (projection catalog.now p).columns }
+    ensures rules { IsCatalog catalog.now }
+{
+    catalog.projection(p).columns.as_slice()
 }
 
 /// The number in the table of a projection's column.

@@ -20,8 +20,8 @@ use crate::columns::table_column;
 use crate::crew::Crew;
 use crate::ground::Ground;
 use cs_board::{Gate, RunFault, Work, run};
-use cs_piece::{Piece, encode_piece};
-use cs_schema::Cells;
+use cs_piece::{Piece, encode_piece, join_pieces};
+use cs_schema::{Cells, Kind};
 use cs_store::Fault;
 use std::alloc::{AllocError, Global};
 use std::marker::Sync;
@@ -54,8 +54,18 @@ fn cells_at(alloc: Global, column: &Cells, numbers: &[u32]) -> Result<Cells, All
     Ok(cells)
 }
 
-/// Encodes the cells of a projection's column at some walked rows.
-fn encode_rows(
+/// The numbers of the k-th piece of `cut` numbers.
+fn cut_of(numbers: &[u32], cut: u32, k: u32) -> &[u32]
+    requires { cut ≤ 1048576 }
+    ensures { result.now ≡ cut_at cut numbers.now k }
+{
+    let from = (k as usize * cut as usize).min(numbers.len());
+    let to = (from + cut as usize).min(numbers.len());
+    &numbers[from..to]
+}
+
+/// Encodes copies of the cells of a projection's column at some walked rows.
+fn encode_copies(
     alloc: Global,
     ground: &Ground<'_>,
     p: u16,
@@ -74,14 +84,41 @@ fn encode_rows(
     encode_piece(alloc, ground.catalog.code(p, j), &cells)
 }
 
-/// The numbers of the k-th piece of `cut` numbers.
-fn cut_of(numbers: &[u32], cut: u32, k: u32) -> &[u32]
-    requires { cut ≤ 1048576 }
-    ensures { result.now ≡ cut_at cut numbers.now k }
+/// How many cells are copied at a time to be encoded. Texts are long: so few of them stay in a processor's nearest caches.
+fn cells_at_once(kind: Kind) -> u32
+    ensures { (1 ≤ result) × (result ≤ 1048576) }
 {
-    let from = (k as usize * cut as usize).min(numbers.len());
-    let to = (from + cut as usize).min(numbers.len());
-    &numbers[from..to]
+    match kind {
+        Kind::Int => 1_048_576,
+        Kind::Text => 256,
+    }
+}
+
+/// Encodes the cells of a projection's column at some walked rows.
+fn encode_rows(
+    alloc: Global,
+    ground: &Ground<'_>,
+    p: u16,
+    j: usize,
+    numbers: &[u32],
+) -> Result<Piece, AllocError>
+    requires projection { p < length ground.now.catalog.now.projections }
+    requires column { j < length (projection ground.now.catalog.now p).columns }
+    requires below { (k : ℕ) → k < length numbers.now → slice_index numbers.now k < length ground.now.walked.now.rows }
+    requires few { length numbers.now ≤ row_limit }
+    requires rises { code_at ground.now.catalog.now p j ≡ CodeData.Differences → (kind_at ground.now.catalog.now p j ≡ KindData.Int) × Rises (values_at ground.now.catalog.now p ground.now.walked.now.rows j numbers.now) }
+    ensures { IfOk result (λ piece. IsPieceOf piece (code_at ground.now.catalog.now p j) (kind_at ground.now.catalog.now p j) (values_at ground.now.catalog.now p ground.now.walked.now.rows j numbers.now)) }
+{
+    let few = cells_at_once(ground.catalog.column_kind(p, j));
+    let parts = pieces_in(numbers.len(), few);
+    let mut column = encode_copies(alloc, ground, p, j, cut_of(numbers, few, 0))?;
+    // the others are about as long
+    column.reserve(parts - 1)?;
+    for k in 1..parts {
+        let piece = encode_copies(alloc, ground, p, j, cut_of(numbers, few, k))?;
+        column = join_pieces(column, piece)?;
+    }
+    Ok(column)
 }
 
 /// The encoding of the columns of one segment, in pieces of `cut` rows.

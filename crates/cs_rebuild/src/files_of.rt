@@ -15,9 +15,10 @@ use cs_delta::{Delta, Image, merge_owned, read_delta};
 use cs_jix::{JoinIndex, read_jix};
 use cs_schema::{Catalog, FileName};
 use cs_segment::fault::FileFault;
-use cs_segment::segment::{Segment, read_segment};
+use cs_segment::{Segment, par_read_segment};
 use cs_store::{Fault, FileSet};
 use std::alloc::Global;
+use std::thread::Threads;
 
 /// The bytes under a name, which has to be there.
 fn bytes_of(files: &FileSet, name: FileName) -> Result<&[u8], Fault>
@@ -41,7 +42,8 @@ fn refusal(name: FileName, fault: FileFault) -> Fault
 }
 
 /// Reads the segment file of a segment.
-fn read_base(
+fn read_base<R: Threads>(
+    rt: &R,
     alloc: Global,
     catalog: &Catalog,
     files: &FileSet,
@@ -57,7 +59,7 @@ fn read_base(
         Ok(bytes) => bytes,
         Err(fault) => return Err(fault),
     };
-    match read_segment(alloc, catalog, p, s, bytes) {
+    match par_read_segment(rt, alloc, catalog, p, s, bytes) {
         Ok(segment) => Ok(segment),
         Err(fault) => Err(refusal(name, fault)),
     }
@@ -163,7 +165,8 @@ fn read_joins(
 }
 
 /// What the files of a segment hold, or the refusal of the least bad one.
-pub fn read_files(
+pub fn read_files<R: Threads>(
+    rt: &R,
     alloc: Global,
     catalog: &Catalog,
     files: &FileSet,
@@ -176,7 +179,7 @@ pub fn read_files(
     ensures err { IfErr result (λ fault. MemoryOr fault (IsFirstBadOf catalog.now (contents_of files.now) (p, s) fault)) }
 {
     let _count = catalog.projection_count();
-    let segment = match read_base(alloc, catalog, files, p, s) {
+    let segment = match read_base(rt, alloc, catalog, files, p, s) {
         Ok(segment) => segment,
         Err(fault) => return Err(fault),
     };

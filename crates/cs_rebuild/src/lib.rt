@@ -5,8 +5,10 @@
 //! answer depends on the bytes alone: not on the number of workers, nor on how the work is cut.
 #![tactic(auto)]
 
+mod anchored;
 mod appending;
 mod columns;
+mod comparing;
 mod crew;
 mod encoding;
 mod files_of;

@@ -9,12 +9,14 @@ ghost use Rattle.cs_rebuild.specs.Steps.{is_memory};
 ghost use Rattle.cs_rebuild.specs.Walking.{HasTableKinds, WalkFaultAt, WalkAnswerAt};
 ghost use Rattle.cs_rebuild.specs.WorkLaws.{stray_is_no_memory, one_value};
 
+use crate::anchored::walk_anchored;
 use crate::appending::append_all;
 use crate::crew::Crew;
 use crate::walking::count_pieces;
 use cs_board::{Gate, RunFault, Work, run};
 use cs_rows::counts::anchor_rows;
 use cs_rows::range::{WalkFault, walk_range};
+use cs_rows::whole::reads_anchor_alone;
 use cs_rows::{Survivors, Walked};
 use cs_safety::Plan;
 use cs_schema::Catalog;
@@ -106,6 +108,9 @@ pub fn walk_planned<R: Threads + Sync, G: Gate + Sync>(
         Some(pieces) => pieces,
         None => return Err(Fault::Memory),
     };
+    if reads_anchor_alone(catalog, plan) {
+        return walk_anchored(crew, catalog, plan, survivors, pieces);
+    }
     let work = PlannedWork {
         alloc: crew.alloc,
         catalog,

@@ -35,7 +35,8 @@ pub struct SegmentFiles {
 
 /// The reading of the files of some segments.
 #[derive(Drop)]
-struct FilesWork<'a> {
+struct FilesWork<'a, R> {
+    rt: &'a R,
     alloc: Global,
     catalog: &'a Catalog,
     files: &'a FileSet,
@@ -44,7 +45,7 @@ struct FilesWork<'a> {
     ghost exist: { (a : ℕ × ℕ) → IsIn a segments.now → HasSegment catalog.now a.0 a.1 },
 }
 
-impl Work for FilesWork<'_> {
+impl<R: Threads> Work for FilesWork<'_, R> {
     type Out = SegmentFiles;
 
     type Fault = Fault;
@@ -63,7 +64,7 @@ impl Work for FilesWork<'_> {
 
     fn piece(&self, i: u32) -> Result<SegmentFiles, Fault> {
         let (p, s) = self.segments[i as usize];
-        match read_files(self.alloc, self.catalog, self.files, p, s) {
+        match read_files(self.rt, self.alloc, self.catalog, self.files, p, s) {
             Ok(files) => Ok(files),
             Err(fault) => Err(fault),
         }
@@ -97,6 +98,7 @@ pub fn read_survivors<R: Threads + Sync, G: Gate + Sync>(
     ensures err { IfErr result (λ fault. MemoryOr fault (IsBadFile catalog.now (contents_of files.now) loss fault)) }
 {
     let work = FilesWork {
+        rt: crew.rt,
         alloc: crew.alloc,
         catalog,
         files,

@@ -13,7 +13,7 @@ use Rattle.cs_rebuild.proofs.Numbers.{decided}
 use Rattle.cs_rebuild.proofs.placed.is_placed.Goals as goal
 
 pub returns : goal.returns
-returns c =
+returns g c =
     let C = c.args.ground.now.catalog.now in
     let p = c.args.p in
     let rows = c.args.ground.now.walked.now.rows in

@@ -12,12 +12,12 @@ by_test f (inl m) g = inl (ap is_memory m)
 by_test f (inr p) g = inr (g p)
 
 pub read_files-requires : goal.read_files-requires
-read_files-requires c = c.args.self.now.exist _ (in_at c.args.self.now.segments.now c.args.i _ (slice_get-get_or c.args.self.now.segments.now c.args.i (0, 0) c.requires))
+read_files-requires g c = c.args.self.now.exist _ (in_at c.args.self.now.segments.now c.args.i _ (slice_get-get_or c.args.self.now.segments.now c.args.i (0, 0) c.requires))
 
 pub returns-in-Ok-clause-ok : goal.returns-in-Ok-clause-ok
-returns-in-Ok-clause-ok c =
+returns-in-Ok-clause-ok g c =
     let at = slice_get-get_or c.args.self.now.segments.now c.args.i (0, 0) c.requires in
     ((_, at, c.in-Ok.ensures.sound), (_, at, c.in-Ok.ensures.ok))
 
 pub returns-in-Err-clause-err : goal.returns-in-Err-clause-err
-returns-in-Err-clause-err c = by_test _ c.in-Err.ensures.err (λ h. (_, slice_get-get_or c.args.self.now.segments.now c.args.i (0, 0) c.requires, h))
+returns-in-Err-clause-err g c = by_test _ c.in-Err.ensures.err (λ h. (_, slice_get-get_or c.args.self.now.segments.now c.args.i (0, 0) c.requires, h))

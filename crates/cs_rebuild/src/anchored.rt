@@ -1,0 +1,161 @@
+//! The walk of a plan that reads each column at its anchor: its rows are followed in pieces, and then each column is
+//! copied once from the images, in a thread of its own.
+ghost use Rattle.std.specs.Prelude.{◌≡◌, ◌<◌, ◌≤◌, ◌*◌, length, map, Ok, Err, IfOk, IfErr};
+ghost use Rattle.cs_schema.specs.CatalogRules.{IsCatalog};
+ghost use Rattle.cs_store.specs.Fault.{MemoryOr};
+ghost use Rattle.cs_store.specs.declared.fault.Fault.{Fault as FaultData};
+ghost use Rattle.cs_rows.specs.Survivors.{HasRoom, HoldsImages, contents_of};
+ghost use Rattle.cs_rows.specs.Columns.{ColumnsFit};
+ghost use Rattle.cs_rows.specs.Range.{IsPlanOf, ReadsAnchorAlone};
+ghost use Rattle.cs_rows.specs.RowSteps.{AreRows};
+ghost use Rattle.cs_rows.specs.Walk.{Stray, projection_rows, walked, walked_row};
+ghost use Rattle.cs_rebuild.specs.Steps.{is_memory};
+ghost use Rattle.cs_rebuild.specs.Walking.{HasTableKinds, IsColumnOf, WalkFaultAt};
+ghost use Rattle.cs_rebuild.specs.WorkLaws.{stray_is_no_memory, one_value};
+
+use crate::appending::column_count;
+use crate::crew::Crew;
+use cs_board::{Gate, RunFault, Work, run};
+use cs_rows::range::WalkFault;
+use cs_rows::whole::{anchor_column, follow_range};
+use cs_rows::{Survivors, Walked};
+use cs_safety::Plan;
+use cs_schema::{Catalog, Cells};
+use cs_store::Fault;
+use rayon::prelude::*;
+use std::alloc::{AllocError, Global};
+use std::marker::Sync;
+use std::thread::Threads;
+
+/// The following of the anchor's rows along a plan, in pieces of `cut` rows.
+#[derive(Drop)]
+struct FollowWork<'a> {
+    alloc: Global,
+    catalog: &'a Catalog,
+    plan: &'a Plan,
+    survivors: &'a Survivors,
+    cut: u32,
+    pieces: u32,
+    ghost planned: { ∥ IsPlanOf catalog.now plan.now ∥₁ },
+    ghost room: { HasRoom catalog.now survivors.now },
+    ghost cut_range: { cut ≤ 1048576 },
+}
+
+impl Work for FollowWork<'_> {
+    type Out = ();
+
+    type Fault = Fault;
+
+    ghost pieces = { λ work. work.pieces };
+
+    ghost fault_at = { λ work i fault. WalkFaultAt work.catalog.now (contents_of work.survivors.now) work.plan.now work.cut i fault };
+
+    ghost answers = { λ work i out. Unit {0} };
+
+    ghost of_memory = { is_memory };
+
+    fn count(&self) -> u32 {
+        self.pieces
+    }
+
+    fn piece(&self, i: u32) -> Result<(), Fault> {
+        let _rules = self.catalog.projection_count();
+        let from = i as usize * self.cut as usize;
+        let to = from + self.cut as usize;
+        match follow_range(
+            self.alloc,
+            self.catalog,
+            self.plan,
+            self.survivors,
+            from,
+            to,
+        ) {
+            Ok(()) => Ok(()),
+            Err(WalkFault::Memory) => Err(Fault::Memory),
+            Err(WalkFault::Astray { p, s, row }) => Err(Fault::Astray { p, s, row }),
+        }
+    }
+
+    fn is_memory(fault: &Fault) -> bool
+        ensures { result ≡ is_memory fault.now }
+    {
+        match fault {
+            Fault::Memory => true,
+            _ => false,
+        }
+    }
+
+    ghost never_memory = { λ work i fault below at. stray_is_no_memory work.plan.now _ fault at };
+
+    ghost one_fault = { λ work i f g below a b. one_value _ f g a b };
+}
+
+/// The columns of the anchor's rows, each copied in a thread of its own.
+fn copy_columns<R: Threads + Sync>(
+    rt: &R,
+    alloc: Global,
+    catalog: &Catalog,
+    plan: &Plan,
+    survivors: &Survivors,
+) -> Result<Vec<Cells>, AllocError>
+    requires plan { ∥ IsPlanOf catalog.now plan.now ∥₁ }
+    requires room { HasRoom catalog.now survivors.now }
+    requires made { HoldsImages catalog.now survivors.now }
+    requires read { ReadsAnchorAlone catalog.now plan.now }
+    ensures fit { IfOk result (λ columns. ColumnsFit catalog.now columns.items) }
+    ensures rows { IfOk result (λ columns. AreRows catalog.now (map (walked_row catalog.now (contents_of survivors.now) plan.now) (projection_rows catalog.now (contents_of survivors.now) plan.now.anchor)) columns.items) }
+    ensures rules { IsCatalog catalog.now }
+{
+    (0..column_count(catalog))
+        .into_par_iter()
+        // a column is worth a thread
+        .with_min_len(1)
+        .map(
+            |c: usize| -> Result<Cells, AllocError>
+                requires column { c < length catalog.now.columns }
+                requires rules { IsCatalog catalog.now }
+                requires plan { ∥ IsPlanOf catalog.now plan.now ∥₁ }
+                requires room { HasRoom catalog.now survivors.now }
+                requires made { HoldsImages catalog.now survivors.now }
+                requires read { ReadsAnchorAlone catalog.now plan.now }
+                ensures { IfOk result (IsColumnOf catalog.entry.now (map (walked_row catalog.entry.now (contents_of survivors.entry.now) plan.entry.now) (projection_rows catalog.entry.now (contents_of survivors.entry.now) plan.entry.now.anchor)) c) }
+            { anchor_column(alloc, catalog, plan, survivors, c) },
+        )
+        .collect::<Result<Vec<Cells>, AllocError>>(rt, alloc)?
+}
+
+/// The anchor's rows in the table's columns, where the plan reads each at the anchor. The gate is entered for each of the
+/// pieces, in which the rows are followed.
+pub fn walk_anchored<R: Threads + Sync, G: Gate + Sync>(
+    crew: &Crew<'_, R, G>,
+    catalog: &Catalog,
+    plan: &Plan,
+    survivors: &Survivors,
+    pieces: u32,
+) -> Result<Walked, Fault>
+    requires plan { ∥ IsPlanOf catalog.now plan.now ∥₁ }
+    requires room { HasRoom catalog.now survivors.now }
+    requires made { HoldsImages catalog.now survivors.now }
+    requires read { ReadsAnchorAlone catalog.now plan.now }
+    requires pieces { length (projection_rows catalog.now (contents_of survivors.now) plan.now.anchor) ≤ pieces * crew.now.cut }
+    ensures kinds { IfOk result (HasTableKinds catalog.now) }
+    ensures rows { IfOk result (λ rows. walked catalog.now (contents_of survivors.now) plan.now ≡ Ok rows.rows) }
+    ensures err { IfErr result (λ fault. MemoryOr fault ((at : Stray) × (walked catalog.now (contents_of survivors.now) plan.now ≡ Err at) × (fault ≡ FaultData.Astray at.0 at.1 at.2))) }
+{
+    let work = FollowWork {
+        alloc: crew.alloc,
+        catalog,
+        plan,
+        survivors,
+        cut: crew.cut,
+        pieces,
+    };
+    match run(crew.rt, crew.alloc, crew.workers, &work, crew.gate) {
+        Ok(_done) => match copy_columns(crew.rt, crew.alloc, catalog, plan, survivors) {
+            Ok(columns) => Ok(Walked::from_columns(columns)),
+            Err(_) => Err(Fault::Memory),
+        },
+        Err(RunFault::Memory) => Err(Fault::Memory),
+        Err(RunFault::At(_, fault)) => Err(fault),
+    }
+}
