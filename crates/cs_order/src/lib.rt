@@ -18,6 +18,7 @@ mod sort;
 #[cfg(test)]
 mod tests;
 mod words;
+mod writing;
 
 pub use fault::OrderFault;
 pub use parallel::orders;

@@ -37,7 +37,7 @@ pub fn orders<R: Threads + Sync>(
     }
     let mut projections = Vec::new(alloc);
     for p in 0..catalog.projection_count() {
-        let (rows, by) = rows_for(walked, catalog, p, &all, &by_key);
+        let (rows, by) = rows_for(rt, walked, catalog, p, &all, &by_key);
         let order = projection_order(rt, alloc, walked, catalog, p, by, rows)?;
         projections.push(order)?;
     }
