@@ -20,3 +20,4 @@ pub mod SurveySteps
 pub mod Verdicts
 pub mod WalkPieces
 pub mod WrittenFiles
+pub mod WrittenJoins

@@ -8,4 +8,5 @@ pub mod Steps
 pub mod Surveys
 pub mod Reading
 pub mod Writing
+pub mod WritingJoins
 pub mod OnGround

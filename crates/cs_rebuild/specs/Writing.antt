@@ -4,6 +4,12 @@ use Rattle.cs_schema.specs.declared.file_name.FileName.{FileName}
 use Rattle.cs_schema.specs.FileNames.{FileContents, projection_of, segment_of}
 use Rattle.cs_store.specs.FileSet.{Files, contents_of}
 
+-- the same without the join indexes
+abbrev pub bases : FileContents → FileContents
+bases all (FileName.Seg p s) = all (FileName.Seg p s)
+bases all (FileName.Del p s) = all (FileName.Del p s)
+bases all (FileName.Jix p s q) = None
+
 -- under each name stands nothing yet, or what has to
 abbrev pub IsPartOf : FileContents → Files → Type 0
 IsPartOf all out = (n : FileName) → (contents_of out n ≡ None) ⊎ (contents_of out n ≡ all n)

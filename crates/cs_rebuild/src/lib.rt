@@ -28,5 +28,6 @@ mod survey;
 mod tests;
 mod walking;
 mod writing;
+mod writing_joins;
 
 pub use recovery::{check, check_gated, rebuild, rebuild_gated};

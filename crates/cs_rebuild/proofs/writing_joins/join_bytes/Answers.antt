@@ -5,7 +5,7 @@ use Rattle.cs_order.specs.Tables.{table_of}
 use Rattle.cs_recovery.specs.Places.{entries_for}
 use Rattle.cs_rebuild.proofs.SoundFacts.{entries_are}
 use Rattle.cs_rebuild.proofs.WrittenFiles.{text_of}
-use Rattle.cs_rebuild.proofs.writing.join_bytes.Goals as goal
+use Rattle.cs_rebuild.proofs.writing_joins.join_bytes.Goals as goal
 
 pub write_jix-requires-clause-count : goal.write_jix-requires-clause-count
 write_jix-requires-clause-count g c =
