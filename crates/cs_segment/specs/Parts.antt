@@ -13,12 +13,6 @@ use Rattle.cs_schema.specs.CatalogData.{code_at, kind_at}
 abbrev pub part_text : Code → Kind → List Value → List ℕ
 part_text code kind v = code_number code ∷ kind_number kind ∷ be32 (length (column_text code v)) ++ column_text code v
 
--- the bytes begin with the part of this column, of so many rows
-pub record BeginsWithPart (code : Code) (kind : Kind) (bytes : List ℕ) (rows : ℕ) (v : List Value) (rest : List ℕ) : Type 0 where
-  pub text : bytes ≡ part_text code kind v ++ rest
-  pub rows_are : length v ≡ rows
-  pub fits : FitsColumn code kind v
-
 -- what holds of each column with its number, from number j on
 abbrev pub AllFrom : {X : Type 0} → (ℕ → X → Type 0) → ℕ → List X → Type 0
 AllFrom P j [] = Unit {0}
