@@ -13,3 +13,4 @@ pub mod KeyLed
 pub mod Leads
 pub mod PassLemmas
 pub mod WordLemmas
+pub mod Sides

@@ -7,3 +7,4 @@ pub mod Places
 pub mod Leads
 pub mod Passes
 pub mod Words
+pub mod Sides

@@ -1,22 +1,26 @@
-//! The orders of walked rows.
+//! The orders of walked rows, those of the projections made side by side.
 ghost use Rattle.std.specs.Prelude.{◌≡◌, ◌<◌, ◌^◌, false, IfOk, IfErr, None, length, map};
+ghost use Rattle.std.specs.List.{AllZip, range_with_len};
 ghost use Rattle.cs_order.specs.Tables.{is_twice, table_of};
 ghost use Rattle.cs_order.specs.Orders.{AreOrdersOf, first_full};
 ghost use Rattle.cs_order.specs.Faults.{IsOrderFault};
+ghost use Rattle.cs_order.specs.Sides.{AreAllRows, IsOrderOrFault};
 
 use crate::fault::OrderFault;
 use crate::places::Orders;
-use crate::segments::{projection_order, rows_for};
+use crate::segments::{ProjectionOrder, projection_order, rows_for};
 use crate::sort::{all_rows, key_stands_twice, sort_by_key};
 use cs_rows::Walked;
 use cs_schema::Catalog;
-use std::alloc::Global;
+use rayon::prelude::*;
+use std::alloc::{AllocError, Global};
 use std::thread::Threads;
 
 /// The orders of all projections.
 ///
 /// Refuses rows of which two have one primary key, and else the least range that has too many rows.
-/// Keeps 10 bytes a row and projection. While it runs each row takes 8 bytes more, and each that is sorted 8 to 24.
+/// Keeps 10 bytes a row and projection. While it runs each row takes 8 bytes more, and 8 to 24 for each projection that is
+/// sorted.
 pub fn orders<R: Threads + Sync>(
     rt: &R,
     alloc: Global,
@@ -35,14 +39,59 @@ pub fn orders<R: Threads + Sync>(
     if key_stands_twice(walked, catalog, &by_key) {
         return Err(OrderFault::Twice);
     }
+    let mut made = made_orders(rt, alloc, walked, catalog, &all, &by_key)?;
     let mut projections = Vec::new(alloc);
-    for p in 0..catalog.projection_count() {
-        let (rows, by) = rows_for(rt, walked, catalog, p, &all, &by_key);
-        let order = projection_order(rt, alloc, walked, catalog, p, by, rows)?;
+    for _p in 0..catalog.projection_count() {
+        // they are few: so it takes no time that those behind move up
+        let order = made.remove(0)?;
         projections.push(order)?;
     }
     Ok(Orders {
         rows: walked.rows(),
         projections,
     })
+}
+
+/// The order of each projection, or why it has none, each made in a thread of its own.
+fn made_orders<R: Threads + Sync>(
+    rt: &R,
+    alloc: Global,
+    walked: &Walked,
+    catalog: &Catalog,
+    all: &[u32],
+    by_key: &[u32],
+) -> Result<Vec<Result<ProjectionOrder, OrderFault>>, AllocError>
+    requires rows { AreAllRows catalog.now walked.now all.now by_key.now }
+    ensures { IfOk result (λ made. AllZip (IsOrderOrFault catalog.now walked.now.rows) (range_with_len 0 (length catalog.now.projections)) made.items) }
+{
+    (0..catalog.projection_count())
+        .into_par_iter()
+        // a projection is worth a thread
+        .with_min_len(1)
+        .map(
+            |p: u16| -> Result<ProjectionOrder, OrderFault>
+                requires rows { AreAllRows catalog.now walked.now all.now by_key.now }
+                requires projection { p < length catalog.now.projections }
+                ensures { IsOrderOrFault catalog.entry.now walked.entry.now.rows p result }
+            { order_of(rt, alloc, walked, catalog, p, all, by_key) },
+        )
+        .collect(rt, alloc)
+}
+
+/// The order of a projection, from all rows as they were walked and by key.
+fn order_of<R: Threads + Sync>(
+    rt: &R,
+    alloc: Global,
+    walked: &Walked,
+    catalog: &Catalog,
+    p: u16,
+    all: &[u32],
+    by_key: &[u32],
+) -> Result<ProjectionOrder, OrderFault>
+    requires rows { AreAllRows catalog.now walked.now all.now by_key.now }
+    requires projection { p < length catalog.now.projections }
+    ensures { IsOrderOrFault catalog.now walked.now.rows p result }
+{
+    let (rows, by) = rows_for(rt, walked, catalog, p, all, by_key);
+    projection_order(rt, alloc, walked, catalog, p, by, rows)
 }

@@ -19,6 +19,9 @@ use Rattle.cs_recovery.specs.Verdicts.{twice, full}
 use Rattle.cs_recovery.proofs.Judged.{full_fits}
 use Rattle.cs_recovery.proofs.KeptKinds.{image_kinds}
 use Rattle.cs_recovery.proofs.Keyed.{image_keyed}
+use Rattle.cs_recovery.specs.Places.{image_after, entry_for, entries_for}
+use Rattle.cs_rebuild.specs.declared.ground.Ground.{Ground}
+use Rattle.cs_rebuild.specs.OnGround.{held_on, table_on}
 use Rattle.cs_rebuild.specs.Steps.{AreRead, row_fault}
 use Rattle.cs_rebuild.specs.Ground.{HaveImageRoom, HaveJoinRoom, HaveKinds, HaveWidths, HaveKeys, HaveTops, HaveEntries, HaveOrders, AreNumbersBelow, AreInOrder, HaveRoomInRanges}
 
@@ -77,3 +80,15 @@ module _ (C : CatalogData) (rows : List Row) (o : OrdersData) (are : AreOrdersOf
       let long : length (map (row_at rows) (numbers_in o p s)) ≡ length (numbers_in o p s) = length-map (numbers_in o p s) (row_at rows) in
       let same = ap length (are.each p s h.0) in
       omega (arith, fit, long, same)
+
+-- ---- what is looked up on a ground, where it is looked up on the same one
+
+module _ (g h : Ground) (same : h ≡ g) (p s q a b c : ℕ) (one : a ≡ p) (two : b ≡ s) where
+  pub same_top : (image_after h.catalog.now h.loss (held_on h) (table_on h) a b).top ≡ (image_after g.catalog.now g.loss (held_on g) (table_on g) p s).top
+  same_top = λ i. (image_after (same i).catalog.now (same i).loss (held_on (same i)) (table_on (same i)) (one i) (two i)).top
+
+  pub same_entry : c ≡ q → (key : ℕ) → entry_for h.catalog.now h.loss (held_on h) (table_on h) a b c key ≡ entry_for g.catalog.now g.loss (held_on g) (table_on g) p s q key
+  same_entry three key = λ i. entry_for (same i).catalog.now (same i).loss (held_on (same i)) (table_on (same i)) (one i) (two i) (three i) key
+
+  pub same_entries : c ≡ q → entries_for h.catalog.now h.loss (held_on h) (table_on h) a b c ≡ entries_for g.catalog.now g.loss (held_on g) (table_on g) p s q
+  same_entries three = λ i. entries_for (same i).catalog.now (same i).loss (held_on (same i)) (table_on (same i)) (one i) (two i) (three i)

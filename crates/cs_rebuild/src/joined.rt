@@ -19,7 +19,7 @@ ghost use Rattle.cs_rebuild.specs.OnGround.{held_on, table_on};
 
 use crate::crew::Crew;
 use crate::ground::Ground;
-use crate::places::{entry_for, top_after};
+use crate::places::Entries;
 use cs_board::{Gate, RunFault, Work, run};
 use cs_jix::JoinIndex;
 use cs_schema::{Catalog, Loss};
@@ -59,12 +59,13 @@ fn leads(ground: &Ground<'_>, p: u16, s: u16, q: u16, join: &JoinIndex) -> bool
     requires entries { (e : Place) → IsIn e join.now → e.1 ≡ 0 → e.0 ≡ 0 }
     ensures { result ≡ pointwise (agrees ground.now.catalog.now ground.now.loss q) join.now (entries_for ground.now.catalog.now ground.now.loss (held_on ground.now) (table_on ground.now) p s q) }
 {
-    let top = top_after(ground, p, s);
+    let entries = Entries::new(ground, p, s, q);
+    let top = entries.top();
     if join.top() != top {
         return false;
     }
     for i in 0..top {
-        let place = entry_for(ground, p, s, q, i + 1);
+        let place = entries.at(i + 1);
         if !agrees(
             ground.catalog,
             ground.loss,

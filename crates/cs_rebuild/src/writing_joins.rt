@@ -13,7 +13,7 @@ ghost use Rattle.cs_rebuild.specs.OnGround.{IsEntryOn, IsSound, held_on, table_o
 
 use crate::crew::Crew;
 use crate::ground::Ground;
-use crate::places::{entry_for, top_after};
+use crate::places::Entries;
 use cs_board::Gate;
 use cs_jix::write_jix;
 use cs_safety::alive;
@@ -39,26 +39,19 @@ fn least_entries(workers: u32, joins: usize) -> usize {
 /// The entries of a join index after the recovery, each looked for by one of several threads.
 fn entries_of<R: Threads + Sync, G: Gate + Sync>(
     crew: &Crew<'_, R, G>,
-    ground: &Ground<'_>,
-    p: u16,
-    s: u16,
-    q: u16,
+    entries: &Entries<'_>,
     least: usize,
 ) -> Result<Vec<(u16, u32)>, AllocError>
-    requires segment { HasSegment ground.now.catalog.now p s }
-    requires target { q < length ground.now.catalog.now.projections }
-    ensures { IfOk result (λ entries. entries.items ≡ entries_for ground.now.catalog.now ground.now.loss (held_on ground.now) (table_on ground.now) p s q) }
+    ensures { IfOk result (λ list. list.items ≡ entries_for entries.now.ground.now.catalog.now entries.now.ground.now.loss (held_on entries.now.ground.now) (table_on entries.now.ground.now) entries.now.p entries.now.s entries.now.q) }
 {
-    (0..top_after(ground, p, s))
+    (0..entries.top())
         .into_par_iter()
         .with_min_len(least)
         .map(
             |i: u32| -> (u16, u32)
-                requires segment { HasSegment ground.now.catalog.now p s }
-                requires target { q < length ground.now.catalog.now.projections }
                 requires below { i < 4294967295 }
-                ensures { IsEntryOn ground.entry.now p s q (i + 1) result }
-            { entry_for(ground, p, s, q, i + 1) },
+                ensures { IsEntryOn entries.entry.now.ground.now entries.entry.now.p entries.entry.now.s entries.entry.now.q (i + 1) result }
+            { entries.at(i + 1) },
         )
         .collect(crew.rt, crew.alloc)
 }
@@ -78,7 +71,7 @@ fn join_bytes<R: Threads + Sync, G: Gate + Sync>(
     ensures { IfOk result (λ bytes. bytes.items ≡ join_index_text p s q (entries_for ground.now.catalog.now ground.now.loss (held_on ground.now) (table_on ground.now) p s q)) }
 {
     let _rules = ground.catalog.projection_count();
-    let entries = entries_of(crew, ground, p, s, q, least)?;
+    let entries = entries_of(crew, &Entries::new(ground, p, s, q), least)?;
     write_jix(crew.alloc, p, s, q, entries.as_slice())
 }
 

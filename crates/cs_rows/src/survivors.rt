@@ -184,7 +184,7 @@ impl Survivors {
     }
 
     /// The images of a projection's segments.
-    pub(crate) fn images(&self, p: usize) -> &[Option<Image>]
+    pub fn images(&self, p: usize) -> &[Option<Image>]
         requires { p < length self.now.images }
         ensures { result.now ≡ images_of self.now p }
     {
