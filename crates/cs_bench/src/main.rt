@@ -15,6 +15,7 @@ mod stores;
 
 use anyhow::{Result, anyhow};
 use cs_order::samples::walked_rows;
+use cs_rows::Table;
 use cs_safety::ksafe;
 use cs_schema::{Catalog, read_catalog};
 use std::env;
@@ -90,7 +91,8 @@ fn order(
         return Err(anyhow!("too many rows"));
     }
     let start = Instant::now(rt)?;
-    match cs_order::orders(rt, rt.alloc(), &walked, &catalog) {
+    let table = Table::of_walk(rt.alloc(), walked);
+    match cs_order::orders(rt, rt.alloc(), &table, &catalog) {
         Ok(_) => tell(rt, what, start, timed),
         Err(fault) => Err(anyhow!("{fault:?}")),
     }

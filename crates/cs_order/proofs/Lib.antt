@@ -11,6 +11,7 @@ pub mod AllOrders
 pub mod SampleColumns
 pub mod KeyLed
 pub mod Leads
+pub mod Ties
 pub mod PassLemmas
 pub mod WordLemmas
 pub mod Sides

@@ -5,6 +5,7 @@ pub mod Items
 pub mod Faults
 pub mod Places
 pub mod Leads
+pub mod Ties
 pub mod Passes
 pub mod Words
 pub mod Sides

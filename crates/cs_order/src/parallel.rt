@@ -10,7 +10,7 @@ use crate::fault::OrderFault;
 use crate::places::Orders;
 use crate::segments::{ProjectionOrder, projection_order, rows_for};
 use crate::sort::{all_rows, key_stands_twice, sort_by_key};
-use cs_rows::Walked;
+use cs_rows::Table;
 use cs_schema::Catalog;
 use rayon::prelude::*;
 use std::alloc::{AllocError, Global};
@@ -24,7 +24,7 @@ use std::thread::Threads;
 pub fn orders<R: Threads + Sync>(
     rt: &R,
     alloc: Global,
-    walked: &Walked,
+    walked: &Table<'_>,
     catalog: &Catalog,
 ) -> Result<Orders, OrderFault>
     requires kinds { walked.now.kinds ≡ map (λ c. c.kind) catalog.now.columns }
@@ -56,7 +56,7 @@ pub fn orders<R: Threads + Sync>(
 fn made_orders<R: Threads + Sync>(
     rt: &R,
     alloc: Global,
-    walked: &Walked,
+    walked: &Table<'_>,
     catalog: &Catalog,
     all: &[u32],
     by_key: &[u32],
@@ -82,7 +82,7 @@ fn made_orders<R: Threads + Sync>(
 fn order_of<R: Threads + Sync>(
     rt: &R,
     alloc: Global,
-    walked: &Walked,
+    walked: &Table<'_>,
     catalog: &Catalog,
     p: u16,
     all: &[u32],

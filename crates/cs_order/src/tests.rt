@@ -3,15 +3,15 @@ ghost use Rattle.std.specs.Prelude.{◌≡◌, ◌<◌, ◌^◌, length, map, If
 use crate::item::key_column;
 use crate::samples::walked_rows;
 use crate::{OrderFault, orders};
-use cs_rows::Walked;
+use cs_rows::Table;
 use cs_schema::samples::{CITIES, THREE_PROJECTIONS, TWO_ORDERS};
 use cs_schema::{Catalog, Cells, Value, Word, read_catalog};
-use std::alloc::AllocGlobal;
+use std::alloc::{AllocGlobal, Global};
 use std::test::Fail;
 use std::thread::Threads;
 
 /// Rows of these columns, few enough to be numbered.
-fn walked(catalog: &Catalog, columns: Vec<Cells>) -> Result<Walked, Fail>
+fn walked(alloc: Global, catalog: &Catalog, columns: Vec<Cells>) -> Result<Table<'_>, Fail>
     ensures kinds { IfOk result (λ walked. walked.kinds ≡ map (λ c. c.kind) catalog.now.columns) }
     ensures few { IfOk result (λ walked. length walked.rows < 2 ^ 32) }
 {
@@ -21,7 +21,7 @@ fn walked(catalog: &Catalog, columns: Vec<Cells>) -> Result<Walked, Fail>
     if walked.rows() > u32::MAX as usize {
         return Err(Fail::new("too many rows"));
     }
-    Ok(walked)
+    Ok(Table::of_walk(alloc, walked))
 }
 
 /// The catalog of a text.
@@ -40,7 +40,7 @@ fn keys_in(
     p: u16,
     s: u16,
 ) -> Result<Vec<i64>, Fail> {
-    let walked = walked(catalog, columns)?;
+    let walked = walked(rt.alloc(), catalog, columns)?;
     if p >= catalog.projection_count() || s >= catalog.segments(p) {
         return Err(Fail::new("no such segment"));
     }
@@ -57,7 +57,7 @@ fn keys_in(
         if segment != s || at as usize != index {
             return Err(Fail::new("another place"));
         }
-        match walked.cell(*row as usize, key_column(catalog)) {
+        match walked.column(key_column(catalog)).cell(*row as usize) {
             Value::Int(key) => keys.push(key)?,
             Value::Text(_) => return Err(Fail::new("no int")),
         }
@@ -71,7 +71,7 @@ fn fault_of(
     catalog: &Catalog,
     columns: Vec<Cells>,
 ) -> Result<Option<OrderFault>, Fail> {
-    let walked = walked(catalog, columns)?;
+    let walked = walked(rt.alloc(), catalog, columns)?;
     match orders(rt, rt.alloc(), &walked, catalog) {
         Ok(_) => Ok(None),
         Err(fault) => Ok(Some(fault)),
@@ -131,6 +131,25 @@ fn ties_by_a_key_that_the_projection_lacks(rt: HostRuntime) -> Result<(), Fail> 
     assert!(rt; high.as_slice() == [4, -2, 7].as_slice());
     let none = keys_in(&rt, &catalog, cities(&rt, &[])?, 1, 1)?;
     assert!(rt; none.is_empty());
+    Ok(())
+}
+
+#[test]
+fn texts_that_begin_others(rt: HostRuntime) -> Result<(), Fail> {
+    // of more than seven bytes only the cells tell texts apart
+    let rows = [
+        (3, "abcdefgi"),
+        (8, "abcdefgh"),
+        (6, "abcdefg"),
+        (4, "abcdef\0"),
+        (5, "abcdef"),
+        (2, "abcdefg"),
+        (7, ""),
+        (1, "abcdefgh"),
+    ];
+    let catalog = catalog(&rt, CITIES)?;
+    let low = keys_in(&rt, &catalog, cities(&rt, &rows)?, 1, 0)?;
+    assert!(rt; low.as_slice() == [7, 5, 4, 2, 6, 1, 8, 3].as_slice());
     Ok(())
 }
 

@@ -2,7 +2,6 @@
 use Rattle.std.proofs.Common.{◌≡◌, ℕ, ◌<◌, ◌≤◌, ◌+◌, List, map, length, sym, ap, ◌∙◌, inl, inr, ◌⊎◌, subst, arith}
 use Rattle.std.specs.Prelude.{slice_index, pos}
 use Rattle.std.specs.List.{slice_get}
-use Rattle.std.proofs.Math.Nat.{eq-or-lt_of_le}
 use Rattle.std.proofs.lemmas.Bool.{cases_lt}
 use Rattle.std.proofs.lemmas.List.{length-map}
 use Rattle.std.proofs.lemmas.Option.{slice_get-get_or}
@@ -17,12 +16,20 @@ use Rattle.cs_schema.proofs.Lists.{slice_get_map}
 use Rattle.cs_delta.specs.Image.{Pair, image_rows}
 use Rattle.cs_delta.specs.KindedImage.{KindedImage, image_column}
 use Rattle.cs_order.specs.Orders.{row_at}
-use Rattle.cs_rebuild.specs.Comparing.{AreComparable, IsCellThere, ArePartThere, AreFirstThere}
+use Rattle.cs_rebuild.specs.Comparing.{AreAlike, AreComparable, IsCellThere}
 use Rattle.cs_rows.specs.WalkedView.{WalkedData}
 use Rattle.cs_rebuild.proofs.CellsAlike.{column_exists, column_of, same_rows, same_cells, image_cells}
 
 cell_alike : (ys : List Value) (ns : List ℕ) (k : ℕ) → k < length ns → slice_index ns k < length ys → slice_get (map (cell ys) ns) k ≡ slice_get ys (slice_index ns k)
 cell_alike ys ns k l below = slice_get_map (cell ys) ns k (slice_index ns k) (slice_get-get_or ns k 0 l) ∙ sym (slice_get-get_or ys (slice_index ns k) (Value.Int (pos 0)) below)
+
+-- the first cells, and a part after them
+pub one_more_part : (cells column : List Value) (ns : List ℕ) (start end : ℕ) → AreAlike cells column ns 0 start → AreAlike cells column ns start end → AreAlike cells column ns 0 end
+one_more_part cells column ns start end before here k z l = go (cases_lt k start)
+  where
+    go : (k < start) ⊎ (start ≤ k) → slice_get cells k ≡ slice_get column (slice_index ns k)
+    go (inl m) = before k z m
+    go (inr m) = here k m l
 
 -- an image of a projection, and rows of the table
 pub comparable : (C : CatalogData) (p : ℕ) (image : KindedImage) (walked : WalkedData) (ns : List ℕ) → IsCatalog C → p < length C.projections → image.kinds ≡ kinds_at C p → walked.kinds ≡ map (λ c. c.kind) C.columns
@@ -35,22 +42,6 @@ comparable C p image walked ns cat exists kinds walked_kinds count below = recor
 }
 
 module _ (image : KindedImage) (walked : WalkedData) (cols ns : List ℕ) where
-  -- a part of a column after its first cells
-  pub one_more_part : (j start end : ℕ) → AreFirstThere image walked cols ns j start → ArePartThere image walked cols ns j start end → AreFirstThere image walked cols ns j end
-  one_more_part j start end before here = (before.0, λ k l. go k l (cases_lt k start))
-    where
-      go : (k : ℕ) → k < end → (k < start) ⊎ (start ≤ k) → IsCellThere image walked cols ns j k
-      go k l (inl m) = before.1 k m
-      go k l (inr m) = here k m l
-
-  -- the columns before the last one, and the last one
-  pub all_there : (j : ℕ) → length cols ≡ j + 1 → AreFirstThere image walked cols ns j (length ns) → (i k : ℕ) → i < length cols → k < length ns → IsCellThere image walked cols ns i k
-  all_there j e first i k l m = go (eq-or-lt_of_le (let h : i ≤ j = omega (arith, l, e) in h))
-    where
-      go : (i ≡ j) ⊎ (i < j) → IsCellThere image walked cols ns i k
-      go (inl s) = subst (λ n. IsCellThere image walked cols ns n k) (sym s) (first.1 k m)
-      go (inr s) = first.0 i k s m
-
   -- an image with all cells of the rows has the rows
   pub rows_there : AreComparable image walked cols ns → ((x : List Value) → IsIn x (image_rows image.image) → length x ≡ length cols) → ((i k : ℕ) → i < length cols → k < length ns → IsCellThere image walked cols ns i k)
       → image_rows image.image ≡ map (λ (r : Row). map (cell r) cols) (map (row_at walked.rows) ns)

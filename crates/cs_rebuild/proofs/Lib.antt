@@ -1,5 +1,6 @@
 pub mod AnchoredRows
 pub mod AppendedColumns
+pub mod LentColumns
 pub mod CellsAlike
 pub mod Compared
 pub mod Counts
@@ -18,6 +19,6 @@ pub mod Segments
 pub mod SoundFacts
 pub mod SurveySteps
 pub mod Verdicts
+pub mod UnwrittenFiles
 pub mod WalkPieces
 pub mod WrittenFiles
-pub mod WrittenJoins

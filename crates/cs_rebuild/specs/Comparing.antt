@@ -1,6 +1,7 @@
 -- An image beside rows of the table, cell by cell.
 use Rattle.std.specs.Prelude.{◌≡◌, ℕ, ◌<◌, ◌≤◌, List, length, map, slice_index}
 use Rattle.std.specs.List.{slice_get}
+use Rattle.cs_schema.specs.declared.cells.Value.{Value}
 use Rattle.cs_schema.specs.Rows.{cell}
 use Rattle.cs_delta.specs.KindedImage.{KindedImage, image_column}
 use Rattle.cs_rows.specs.WalkedView.{WalkedData}
@@ -16,10 +17,15 @@ pub record AreComparable (image : KindedImage) (walked : WalkedData) (columns nu
 abbrev pub IsCellThere : KindedImage → WalkedData → List ℕ → List ℕ → ℕ → ℕ → Type 0
 IsCellThere image walked columns numbers j k = slice_get (image_column image.image j) k ≡ slice_get (map (λ row. cell row (slice_index columns j)) walked.rows) (slice_index numbers k)
 
--- so are the cells of column j from a start up to an end
-abbrev pub ArePartThere : KindedImage → WalkedData → List ℕ → List ℕ → ℕ → ℕ → ℕ → Type 0
-ArePartThere image walked columns numbers j start end = (k : ℕ) → start ≤ k → k < end → IsCellThere image walked columns numbers j k
+-- so are all cells of column j
+abbrev pub IsColumnThere : KindedImage → WalkedData → List ℕ → List ℕ → ℕ → Type 0
+IsColumnThere image walked columns numbers j = (k : ℕ) → k < length numbers → IsCellThere image walked columns numbers j k
 
--- so are all cells of the columns before column j, and the cells of column j up to an end
-abbrev pub AreFirstThere : KindedImage → WalkedData → List ℕ → List ℕ → ℕ → ℕ → Type 0
-AreFirstThere image walked columns numbers j end = ((i k : ℕ) → i < j → k < length numbers → IsCellThere image walked columns numbers i k) × ((k : ℕ) → k < end → IsCellThere image walked columns numbers j k)
+-- cells for as many numbers, each the number of a cell in a column
+pub record AreBeside (cells column : List Value) (numbers : List ℕ) : Type 0 where
+  pub count : length cells ≡ length numbers
+  pub below : (k : ℕ) → k < length numbers → slice_index numbers k < length column
+
+-- from a start up to an end, cell k is that of the k-th number
+abbrev pub AreAlike : List Value → List Value → List ℕ → ℕ → ℕ → Type 0
+AreAlike cells column numbers start end = (k : ℕ) → start ≤ k → k < end → slice_get cells k ≡ slice_get column (slice_index numbers k)

@@ -8,5 +8,5 @@ pub mod Steps
 pub mod Surveys
 pub mod Reading
 pub mod Writing
-pub mod WritingJoins
+pub mod Unwritten
 pub mod OnGround

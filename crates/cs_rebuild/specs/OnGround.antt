@@ -9,7 +9,6 @@ use Rattle.cs_jix.specs.JoinIndex.{Place}
 use Rattle.cs_recovery.specs.Expected.{written}
 use Rattle.cs_recovery.specs.Places.{entry_for}
 use Rattle.cs_rebuild.specs.Steps.{AreSound}
-use Rattle.cs_rebuild.specs.Writing.{bases}
 use Rattle.cs_rebuild.specs.declared.ground.Ground.{Ground}
 
 -- what the survivors hold
@@ -23,10 +22,6 @@ table_on g = table_of g.catalog.now g.walked.now.rows
 -- the files that a recovery writes
 abbrev pub written_on : Ground → FileContents
 written_on g = written g.catalog.now g.loss (held_on g) (table_on g)
-
--- those of the lost segments and their deltas
-abbrev pub bases_on : Ground → FileContents
-bases_on g = bases (written_on g)
 
 -- the steps before it found a sound store
 abbrev pub IsSound : Ground → Type 0

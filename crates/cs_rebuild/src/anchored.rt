@@ -1,6 +1,6 @@
-//! The walk of a plan that reads each column at its anchor: its rows are followed in pieces, and then each column is
-//! copied once from the images, in a thread of its own.
-ghost use Rattle.std.specs.Prelude.{◌≡◌, ◌<◌, ◌≤◌, ◌*◌, length, map, Ok, Err, IfOk, IfErr};
+//! The walk of a plan that reads each column at its anchor: its rows are followed in pieces, and then the columns are lent
+//! by the anchor's image, or each is copied once from its images in a thread of its own.
+ghost use Rattle.std.specs.Prelude.{◌≡◌, ◌<◌, ◌≤◌, ◌*◌, length, map, Ok, Err, IfOk, IfErr, IfSome};
 ghost use Rattle.cs_schema.specs.CatalogRules.{IsCatalog};
 ghost use Rattle.cs_store.specs.Fault.{MemoryOr};
 ghost use Rattle.cs_store.specs.declared.fault.Fault.{Fault as FaultData};
@@ -17,8 +17,8 @@ use crate::appending::column_count;
 use crate::crew::Crew;
 use cs_board::{Gate, RunFault, Work, run};
 use cs_rows::range::WalkFault;
-use cs_rows::whole::{anchor_column, follow_range};
-use cs_rows::{Survivors, Walked};
+use cs_rows::whole::{anchor_column, follow_range, lone_column};
+use cs_rows::{Survivors, Table, Walked};
 use cs_safety::Plan;
 use cs_schema::{Catalog, Cells};
 use cs_store::Fault;
@@ -124,15 +124,64 @@ fn copy_columns<R: Threads + Sync>(
         .collect::<Result<Vec<Cells>, AllocError>>(rt, alloc)?
 }
 
-/// The anchor's rows in the table's columns, where the plan reads each at the anchor. The gate is entered for each of the
-/// pieces, in which the rows are followed.
-pub fn walk_anchored<R: Threads + Sync, G: Gate + Sync>(
-    crew: &Crew<'_, R, G>,
+/// The columns of the anchor's rows, where its image has all of them.
+fn lent_columns<'a>(
+    alloc: Global,
     catalog: &Catalog,
     plan: &Plan,
-    survivors: &Survivors,
+    survivors: &'a Survivors,
+) -> Result<Option<Vec<&'a Cells>>, AllocError>
+    requires plan { ∥ IsPlanOf catalog.now plan.now ∥₁ }
+    requires room { HasRoom catalog.now survivors.now }
+    requires made { HoldsImages catalog.now survivors.now }
+    requires read { ReadsAnchorAlone catalog.now plan.now }
+    ensures fit { IfOk result (λ lent. IfSome lent (λ columns. ColumnsFit catalog.now (map (λ column. column.now) columns.items))) }
+    ensures rows { IfOk result (λ lent. IfSome lent (λ columns. AreRows catalog.now (map (walked_row catalog.now (contents_of survivors.now) plan.now) (projection_rows catalog.now (contents_of survivors.now) plan.now.anchor)) (map (λ column. column.now) columns.items))) }
+{
+    let mut columns = Vec::new(alloc);
+    for c in 0..column_count(catalog) {
+        match lone_column(catalog, plan, survivors, c) {
+            Some(column) => columns.push(column)?,
+            None => return Ok(None),
+        }
+    }
+    Ok(Some(columns))
+}
+
+/// The table of the anchor's rows.
+fn anchor_table<'a, R: Threads + Sync>(
+    rt: &R,
+    alloc: Global,
+    catalog: &Catalog,
+    plan: &Plan,
+    survivors: &'a Survivors,
+) -> Result<Table<'a>, AllocError>
+    requires plan { ∥ IsPlanOf catalog.now plan.now ∥₁ }
+    requires room { HasRoom catalog.now survivors.now }
+    requires made { HoldsImages catalog.now survivors.now }
+    requires read { ReadsAnchorAlone catalog.now plan.now }
+    ensures kinds { IfOk result (HasTableKinds catalog.now) }
+    ensures rows { IfOk result (λ table. table.rows ≡ map (walked_row catalog.now (contents_of survivors.now) plan.now) (projection_rows catalog.now (contents_of survivors.now) plan.now.anchor)) }
+{
+    let _rules = catalog.projection_count();
+    match lent_columns(alloc, catalog, plan, survivors)? {
+        Some(columns) => Ok(Table::of_lent(alloc, columns)),
+        None => {
+            let columns = copy_columns(rt, alloc, catalog, plan, survivors)?;
+            Ok(Table::of_walk(alloc, Walked::from_columns(columns)))
+        }
+    }
+}
+
+/// The anchor's rows in the table's columns, where the plan reads each at the anchor. The gate is entered for each of the
+/// pieces, in which the rows are followed.
+pub fn walk_anchored<'a, R: Threads + Sync, G: Gate + Sync>(
+    crew: &Crew<'_, '_, R, G>,
+    catalog: &Catalog,
+    plan: &Plan,
+    survivors: &'a Survivors,
     pieces: u32,
-) -> Result<Walked, Fault>
+) -> Result<Table<'a>, Fault>
     requires plan { ∥ IsPlanOf catalog.now plan.now ∥₁ }
     requires room { HasRoom catalog.now survivors.now }
     requires made { HoldsImages catalog.now survivors.now }
@@ -151,8 +200,8 @@ pub fn walk_anchored<R: Threads + Sync, G: Gate + Sync>(
         pieces,
     };
     match run(crew.rt, crew.alloc, crew.workers, &work, crew.gate) {
-        Ok(_done) => match copy_columns(crew.rt, crew.alloc, catalog, plan, survivors) {
-            Ok(columns) => Ok(Walked::from_columns(columns)),
+        Ok(_done) => match anchor_table(crew.rt, crew.alloc, catalog, plan, survivors) {
+            Ok(table) => Ok(table),
             Err(_) => Err(Fault::Memory),
         },
         Err(RunFault::Memory) => Err(Fault::Memory),

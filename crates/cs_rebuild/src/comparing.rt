@@ -1,6 +1,5 @@
 //! Comparing an image with rows of the table: a large one in several threads.
 ghost use Rattle.std.specs.Prelude.{◌≡◌, ◌<◌, ◌≤◌, ◌↔◌, ℕ, IsTrue, List, length, map, slice_index};
-ghost use Rattle.std.specs.List.{slice_get};
 ghost use Rattle.cs_schema.specs.declared.cells.Value.{Value};
 ghost use Rattle.cs_schema.specs.CatalogData.{projection};
 ghost use Rattle.cs_schema.specs.Lists.{IsIn};
@@ -9,11 +8,11 @@ ghost use Rattle.cs_schema.specs.Values.{values};
 ghost use Rattle.cs_segment.specs.SegmentData.{kinds_at};
 ghost use Rattle.cs_delta.specs.Image.{image_rows};
 ghost use Rattle.cs_order.specs.Orders.{row_at};
-ghost use Rattle.cs_rebuild.specs.Comparing.{AreComparable, ArePartThere, AreFirstThere};
+ghost use Rattle.cs_rebuild.specs.Comparing.{AreAlike, AreBeside, AreComparable, IsColumnThere};
 
 use crate::columns::columns_of;
 use cs_delta::Image;
-use cs_rows::Walked;
+use cs_rows::Table;
 use cs_schema::{Catalog, Cells};
 use std::thread::{Threads, join};
 
@@ -25,10 +24,9 @@ const PARTS: usize = 4;
 
 /// Whether a column has, from a start up to an end, the cells of another one at the rows of these numbers.
 fn has_cells(cells: &Cells, column: &Cells, numbers: &[u32], start: usize, end: usize) -> bool
-    requires count { length (values cells.now) ≡ length numbers.now }
-    requires below { (k : ℕ) → k < length numbers.now → slice_index numbers.now k < length (values column.now) }
+    requires beside { AreBeside (values cells.now) (values column.now) numbers.now }
     requires within { end ≤ length numbers.now }
-    ensures { IsTrue result ↔ ((k : ℕ) → start ≤ k → k < end → slice_get (values cells.now) k ≡ slice_get (values column.now) (slice_index numbers.now k)) }
+    ensures { IsTrue result ↔ AreAlike (values cells.now) (values column.now) numbers.now start end }
 {
     for k in start..end {
         if !cells.same(k, column, numbers[k] as usize) {
@@ -38,25 +36,6 @@ fn has_cells(cells: &Cells, column: &Cells, numbers: &[u32], start: usize, end: 
     true
 }
 
-/// Whether column `j` of the image has, from a start up to an end, the cells of the rows of these numbers.
-fn has_part(
-    image: &Image,
-    walked: &Walked,
-    columns: &[u8],
-    numbers: &[u32],
-    j: usize,
-    start: usize,
-    end: usize,
-) -> bool
-    requires comparable { AreComparable image.now walked.now columns.now numbers.now }
-    requires column { j < length columns.now }
-    requires within { end ≤ length numbers.now }
-    ensures { IsTrue result ↔ ArePartThere image.now walked.now columns.now numbers.now j start end }
-{
-    let column = walked.column(columns[j] as usize);
-    has_cells(image.column(j), column, numbers, start, end)
-}
-
 /// How many cells of a column with so many rows are compared by one thread.
 fn part_of(rows: usize) -> usize
     ensures { 0 < result }
@@ -64,43 +43,47 @@ fn part_of(rows: usize) -> usize
     (rows / PARTS).max(WORTH_THREADS)
 }
 
-/// Whether the image has the cells of the rows in the columns before column `j`, and in that one up to an end.
-///
-/// Each part of a column is compared by a thread of its own.
-fn has_first<R: Threads>(
-    rt: &R,
-    image: &Image,
-    walked: &Walked,
-    columns: &[u8],
-    numbers: &[u32],
-    j: usize,
-    end: usize,
-) -> bool
-    requires comparable { AreComparable image.now walked.now columns.now numbers.now }
-    requires column { j < length columns.now }
+/// Whether the first cells of a column are those of another one at the rows of these numbers, each part of them compared
+/// by a thread of its own.
+fn has_first<R: Threads>(rt: &R, cells: &Cells, column: &Cells, numbers: &[u32], end: usize) -> bool
+    requires beside { AreBeside (values cells.now) (values column.now) numbers.now }
     requires within { end ≤ length numbers.now }
-    ensures { IsTrue result ↔ AreFirstThere image.now walked.now columns.now numbers.now j end }
+    ensures { IsTrue result ↔ AreAlike (values cells.now) (values column.now) numbers.now 0 end }
 {
     let part = part_of(numbers.len());
-    if j == 0 && end <= part {
-        return has_part(image, walked, columns, numbers, 0, 0, end);
+    if end <= part {
+        return has_cells(cells, column, numbers, 0, end);
     }
-    if end == 0 {
-        return has_first(rt, image, walked, columns, numbers, j - 1, numbers.len());
-    }
-    let start = end.saturating_sub(part);
+    let start = end - part;
     let (here, before) = join(
         rt,
         || -> bool
-            requires { AreComparable image.now walked.now columns.now numbers.now × (j < length columns.now) × (end ≤ length numbers.now) }
-            ensures { IsTrue result ↔ ArePartThere image.entry.now walked.entry.now columns.entry.now numbers.entry.now j start end }
-        { has_part(image, walked, columns, numbers, j, start, end) },
+            requires { AreBeside (values cells.now) (values column.now) numbers.now × (end ≤ length numbers.now) }
+            ensures { IsTrue result ↔ AreAlike (values cells.entry.now) (values column.entry.now) numbers.entry.now start end }
+        { has_cells(cells, column, numbers, start, end) },
         || -> bool
-            requires { AreComparable image.now walked.now columns.now numbers.now × (j < length columns.now) × (start ≤ length numbers.now) }
-            ensures { IsTrue result ↔ AreFirstThere image.entry.now walked.entry.now columns.entry.now numbers.entry.now j start }
-        { has_first(rt, image, walked, columns, numbers, j, start) },
+            requires { AreBeside (values cells.now) (values column.now) numbers.now × (start ≤ length numbers.now) }
+            ensures { IsTrue result ↔ AreAlike (values cells.entry.now) (values column.entry.now) numbers.entry.now 0 start }
+        { has_first(rt, cells, column, numbers, start) },
     );
     here && before
+}
+
+/// Whether column `j` of the image has the cells of the rows of these numbers.
+fn has_column<R: Threads>(
+    rt: &R,
+    image: &Image,
+    walked: &Table<'_>,
+    columns: &[u8],
+    numbers: &[u32],
+    j: usize,
+) -> bool
+    requires comparable { AreComparable image.now walked.now columns.now numbers.now }
+    requires column { j < length columns.now }
+    ensures { IsTrue result ↔ IsColumnThere image.now walked.now columns.now numbers.now j }
+{
+    let column = walked.column(columns[j] as usize);
+    has_first(rt, image.column(j), column, numbers, numbers.len())
 }
 
 /// Whether an image has the walked rows of these numbers, as a projection keeps them.
@@ -109,7 +92,7 @@ pub fn has_rows<R: Threads>(
     catalog: &Catalog,
     p: u16,
     image: &Image,
-    walked: &Walked,
+    walked: &Table<'_>,
     numbers: &[u32],
 ) -> bool
     requires exists { p < length catalog.now.projections }
@@ -125,11 +108,8 @@ pub fn has_rows<R: Threads>(
     }
     let width = catalog.width(p);
     let columns = columns_of(catalog, p);
-    if rows >= WORTH_THREADS {
-        return has_first(rt, image, walked, columns, numbers, width - 1, rows);
-    }
     for j in 0..width {
-        if !has_part(image, walked, columns, numbers, j, 0, rows) {
+        if !has_column(rt, image, walked, columns, numbers, j) {
             return false;
         }
     }

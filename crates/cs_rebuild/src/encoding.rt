@@ -67,7 +67,7 @@ fn cut_of(numbers: &[u32], cut: u32, k: u32) -> &[u32]
 /// Encodes copies of the cells of a projection's column at some walked rows.
 fn encode_copies(
     alloc: Global,
-    ground: &Ground<'_>,
+    ground: &Ground<'_, '_>,
     p: u16,
     j: usize,
     numbers: &[u32],
@@ -97,7 +97,7 @@ fn cells_at_once(kind: Kind) -> u32
 /// Encodes the cells of a projection's column at some walked rows.
 fn encode_rows(
     alloc: Global,
-    ground: &Ground<'_>,
+    ground: &Ground<'_, '_>,
     p: u16,
     j: usize,
     numbers: &[u32],
@@ -125,7 +125,7 @@ fn encode_rows(
 #[derive(Drop)]
 pub struct EncodeWork<'a> {
     pub alloc: Global,
-    pub ground: &'a Ground<'a>,
+    pub ground: &'a Ground<'a, 'a>,
     pub p: u16,
     pub numbers: &'a [u32],
     pub cut: u32,
@@ -183,8 +183,8 @@ impl Work for EncodeWork<'_> {
 
 /// The columns of a lost segment, as the table has them, encoded in pieces by the crew.
 pub fn encode_columns<R: Threads + Sync, G: Gate + Sync>(
-    crew: &Crew<'_, R, G>,
-    ground: &Ground<'_>,
+    crew: &Crew<'_, '_, R, G>,
+    ground: &Ground<'_, '_>,
     p: u16,
     s: u16,
 ) -> Result<Vec<Piece>, Fault>

@@ -7,16 +7,16 @@ ghost use Rattle.cs_rebuild.specs.Steps.{AreRead, AreWalkedRows, row_fault};
 ghost use Rattle.cs_rebuild.specs.Ground.{HaveImageRoom, HaveJoinRoom, AreImagesThere, AreJoinsThere, HaveKinds, HaveWidths, HaveKeys, HaveTops, HaveEntries, HaveOrders, AreNumbersBelow, AreInOrder, HaveRoomInRanges};
 
 use cs_order::Orders;
-use cs_rows::{Survivors, Walked};
+use cs_rows::{Survivors, Table};
 use cs_schema::{Catalog, Loss};
 
 /// What survives a loss, and the table's rows with their orders.
 #[derive(Drop)]
-pub struct Ground<'a> {
+pub struct Ground<'a, 't> {
     pub catalog: &'a Catalog,
     pub loss: Loss,
     pub survivors: &'a Survivors,
-    pub walked: &'a Walked,
+    pub walked: &'a Table<'t>,
     pub orders: &'a Orders,
     pub ghost image_room: { HaveImageRoom catalog.now survivors.now },
     pub ghost join_room: { HaveJoinRoom catalog.now survivors.now },
@@ -37,13 +37,13 @@ pub struct Ground<'a> {
 }
 
 /// The ground that the survivors of a loss, their rows and the orders of these make.
-pub fn ground_of<'a>(
+pub fn ground_of<'a, 't>(
     catalog: &'a Catalog,
     loss: Loss,
     survivors: &'a Survivors,
-    walked: &'a Walked,
+    walked: &'a Table<'t>,
     orders: &'a Orders,
-) -> Ground<'a>
+) -> Ground<'a, 't>
     requires read { (F : FileContents) × AreRead catalog.now F loss survivors.now }
     requires walked { AreWalkedRows catalog.now loss (contents_of survivors.now) walked.now }
     requires orders { AreOrdersOf catalog.now walked.now.rows orders.now }

@@ -53,7 +53,7 @@ fn agrees(catalog: &Catalog, loss: Loss, q: u16, entry: (u16, u32), place: (u16,
 }
 
 /// Whether a join index of a segment has the expected entries.
-fn leads(ground: &Ground<'_>, p: u16, s: u16, q: u16, join: &JoinIndex) -> bool
+fn leads(ground: &Ground<'_, '_>, p: u16, s: u16, q: u16, join: &JoinIndex) -> bool
     requires survives { Survives ground.now.catalog.now ground.now.loss (NameData.Jix p s q) }
     requires target { q < length ground.now.catalog.now.projections }
     requires entries { (e : Place) → IsIn e join.now → e.1 ≡ 0 → e.0 ≡ 0 }
@@ -80,7 +80,7 @@ fn leads(ground: &Ground<'_>, p: u16, s: u16, q: u16, join: &JoinIndex) -> bool
 }
 
 /// Whether a surviving join index leads to the places of its rows.
-fn is_led(ground: &Ground<'_>, p: u16, s: u16, q: u16) -> bool
+fn is_led(ground: &Ground<'_, '_>, p: u16, s: u16, q: u16) -> bool
     requires { Survives ground.now.catalog.now ground.now.loss (NameData.Jix p s q) }
     ensures { result ≡ not (is_misled ground.now.catalog.now ground.now.loss (held_on ground.now) (table_on ground.now) (p, s, q)) }
 {
@@ -94,7 +94,7 @@ fn is_led(ground: &Ground<'_>, p: u16, s: u16, q: u16) -> bool
 /// The comparing of some join indexes with the places of their rows.
 #[derive(Drop)]
 struct JoinedWork<'a> {
-    ground: &'a Ground<'a>,
+    ground: &'a Ground<'a, 'a>,
     joins: &'a [(u16, u16, u16)],
     ghost few: { length joins.now ≤ 1024 },
     ghost survive: { (a : ℕ × ℕ × ℕ) → IsIn a joins.now → Survives ground.now.catalog.now ground.now.loss (NameData.Jix a.0 a.1 a.2) },
@@ -142,8 +142,8 @@ impl Work for JoinedWork<'_> {
 
 /// Compares each surviving join index with the places of its rows.
 pub fn verify_joins<R: Threads + Sync, G: Gate + Sync>(
-    crew: &Crew<'_, R, G>,
-    ground: &Ground<'_>,
+    crew: &Crew<'_, '_, R, G>,
+    ground: &Ground<'_, '_>,
     joins: &[(u16, u16, u16)],
 ) -> Result<(), Fault>
     requires few { length joins.now ≤ 1024 }

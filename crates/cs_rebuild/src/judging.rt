@@ -1,10 +1,11 @@
 //! What the surviving files of a store come to.
 ghost use Rattle.std.specs.Prelude.{Err, IfOk, IfErr};
+ghost use Rattle.cs_schema.specs.FileNames.{FileContents};
 ghost use Rattle.cs_store.specs.FileSet.{contents_of};
 ghost use Rattle.cs_store.specs.Fault.{MemoryOr};
 ghost use Rattle.cs_safety.specs.Safety.{IsSafe};
 ghost use Rattle.cs_recovery.specs.Verdicts.{IsVerdict};
-ghost use Rattle.cs_rebuild.specs.Steps.{AreSound};
+ghost use Rattle.cs_rebuild.specs.Steps.{AreRead, AreSound};
 
 use crate::crew::Crew;
 use crate::ground::ground_of;
@@ -16,40 +17,56 @@ use crate::survey::{joins_of, surviving_segments};
 use crate::walking::walk_all;
 use cs_board::Gate;
 use cs_order::Orders;
-use cs_rows::{Survivors, Walked};
+use cs_rows::{Survivors, Table};
 use cs_schema::{Catalog, Loss};
 use cs_store::{Fault, FileSet};
 use std::marker::Sync;
 use std::thread::Threads;
 
-/// A store whose surviving files are sound: what they hold, and the table's rows with their orders.
+/// A store whose surviving files are sound: the table's rows with their orders.
 #[derive(Drop)]
-pub struct SoundStore {
-    pub survivors: Survivors,
-    pub walked: Walked,
+pub struct SoundStore<'a> {
+    pub walked: Table<'a>,
     pub orders: Orders,
 }
 
-/// What the surviving files come to: the first refusal that applies, or the table's rows.
-pub fn judge<R: Threads + Sync, G: Gate + Sync>(
-    crew: &Crew<'_, R, G>,
+/// What the surviving files hold, or the refusal of the least bad one.
+pub fn read_store<R: Threads + Sync, G: Gate + Sync>(
+    crew: &Crew<'_, '_, R, G>,
     catalog: &Catalog,
     files: &FileSet,
     loss: Loss,
-) -> Result<SoundStore, Fault>
-    requires safe { IsSafe catalog.now loss }
-    ensures ok { IfOk result (λ store. AreSound catalog.now (contents_of files.now) loss store.survivors store.walked store.orders) }
+) -> Result<Survivors, Fault>
+    ensures ok { IfOk result (AreRead catalog.now (contents_of files.now) loss) }
     ensures err { IfErr result (λ fault. MemoryOr fault (IsVerdict catalog.now (contents_of files.now) loss (Err fault))) }
 {
     let segments = match surviving_segments(crew.alloc, catalog, loss) {
         Ok(segments) => segments,
         Err(_) => return Err(Fault::Memory),
     };
-    let survivors = match read_survivors(crew, catalog, files, loss, segments.as_slice()) {
-        Ok(survivors) => survivors,
-        Err(fault) => return Err(fault),
+    match read_survivors(crew, catalog, files, loss, segments.as_slice()) {
+        Ok(survivors) => Ok(survivors),
+        Err(fault) => Err(fault),
+    }
+}
+
+/// What a store comes to of which this was read: the first refusal that applies, or the table's rows.
+pub fn judge<'a, R: Threads + Sync, G: Gate + Sync>(
+    crew: &Crew<'_, '_, R, G>,
+    catalog: &Catalog,
+    loss: Loss,
+    survivors: &'a Survivors,
+) -> Result<SoundStore<'a>, Fault>
+    requires safe { IsSafe catalog.now loss }
+    requires read { (F : FileContents) × AreRead catalog.now F loss survivors.now }
+    ensures ok { IfOk result (λ store. (F : FileContents) → AreRead catalog.now F loss survivors.now → AreSound catalog.now F loss survivors.now store.walked store.orders) }
+    ensures err { IfErr result (λ fault. (F : FileContents) → AreRead catalog.now F loss survivors.now → MemoryOr fault (IsVerdict catalog.now F loss (Err fault))) }
+{
+    let segments = match surviving_segments(crew.alloc, catalog, loss) {
+        Ok(segments) => segments,
+        Err(_) => return Err(Fault::Memory),
     };
-    let walked = match walk_all(crew, catalog, loss, &survivors) {
+    let walked = match walk_all(crew, catalog, loss, survivors) {
         Ok(walked) => walked,
         Err(fault) => return Err(fault),
     };
@@ -57,7 +74,7 @@ pub fn judge<R: Threads + Sync, G: Gate + Sync>(
         Ok(orders) => orders,
         Err(fault) => return Err(fault),
     };
-    let ground = ground_of(catalog, loss, &survivors, &walked, &orders);
+    let ground = ground_of(catalog, loss, survivors, &walked, &orders);
     match verify_images(crew, &ground, segments.as_slice()) {
         Ok(()) => {}
         Err(fault) => return Err(fault),
@@ -70,9 +87,5 @@ pub fn judge<R: Threads + Sync, G: Gate + Sync>(
         Ok(()) => {}
         Err(fault) => return Err(fault),
     }
-    Ok(SoundStore {
-        survivors,
-        walked,
-        orders,
-    })
+    Ok(SoundStore { walked, orders })
 }

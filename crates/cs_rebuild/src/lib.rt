@@ -26,6 +26,7 @@ mod rowwise;
 mod survey;
 #[cfg(test)]
 mod tests;
+mod unwritten;
 mod walking;
 mod writing;
 mod writing_joins;

@@ -6,7 +6,7 @@ ghost use Rattle.cs_rebuild.specs.Steps.{row_fault};
 
 use crate::crew::Crew;
 use cs_order::{OrderFault, Orders, orders};
-use cs_rows::Walked;
+use cs_rows::Table;
 use cs_schema::Catalog;
 use cs_store::Fault;
 use std::marker::Sync;
@@ -14,9 +14,9 @@ use std::thread::Threads;
 
 /// The orders of the walked rows, unless a key stands twice or a range is too large.
 pub fn orders_of<R: Threads + Sync, G>(
-    crew: &Crew<'_, R, G>,
+    crew: &Crew<'_, '_, R, G>,
     catalog: &Catalog,
-    walked: &Walked,
+    walked: &Table<'_>,
 ) -> Result<Orders, Fault>
     requires kinds { walked.now.kinds ≡ map (λ c. c.kind) catalog.now.columns }
     requires few { length walked.now.rows < 2 ^ 32 }

@@ -21,7 +21,7 @@ use std::marker::Sync;
 use std::thread::Threads;
 
 /// Whether the image of a surviving segment has the table's rows in its range, in their order.
-fn is_placed<R: Threads>(rt: &R, ground: &Ground<'_>, p: u16, s: u16) -> bool
+fn is_placed<R: Threads>(rt: &R, ground: &Ground<'_, '_>, p: u16, s: u16) -> bool
     requires { Survives ground.now.catalog.now ground.now.loss (NameData.Seg p s) }
     ensures { result ≡ not (is_misplaced ground.now.catalog.now (held_on ground.now) (table_on ground.now) (p, s)) }
 {
@@ -36,7 +36,7 @@ fn is_placed<R: Threads>(rt: &R, ground: &Ground<'_>, p: u16, s: u16) -> bool
 #[derive(Drop)]
 struct PlacedWork<'a, R> {
     rt: &'a R,
-    ground: &'a Ground<'a>,
+    ground: &'a Ground<'a, 'a>,
     segments: &'a [(u16, u16)],
     ghost few: { length segments.now ≤ 128 },
     ghost survive: { (a : ℕ × ℕ) → IsIn a segments.now → Survives ground.now.catalog.now ground.now.loss (NameData.Seg a.0 a.1) },
@@ -84,8 +84,8 @@ impl<R: Threads> Work for PlacedWork<'_, R> {
 
 /// Compares each surviving image with the table's rows.
 pub fn verify_images<R: Threads + Sync, G: Gate + Sync>(
-    crew: &Crew<'_, R, G>,
-    ground: &Ground<'_>,
+    crew: &Crew<'_, '_, R, G>,
+    ground: &Ground<'_, '_>,
     segments: &[(u16, u16)],
 ) -> Result<(), Fault>
     requires few { length segments.now ≤ 128 }

@@ -15,7 +15,7 @@ use cs_delta::Image;
 /// The entries of a join index. What is the same for each key is looked up once, as there may be a million keys.
 #[derive(Drop)]
 pub struct Entries<'a> {
-    ground: &'a Ground<'a>,
+    ground: &'a Ground<'a, 'a>,
     p: u16,
     s: u16,
     q: u16,
@@ -31,7 +31,7 @@ pub struct Entries<'a> {
 }
 
 /// The image of a segment, where it isn't lost.
-fn kept_image<'a>(ground: &Ground<'a>, p: u16, s: u16) -> Option<&'a Image>
+fn kept_image<'a>(ground: &Ground<'a, '_>, p: u16, s: u16) -> Option<&'a Image>
     requires { HasSegment ground.now.catalog.now p s }
     ensures { MatchOption result (lost ground.now.catalog.now ground.now.loss p s ≡ true) (λ m. (lost ground.now.catalog.now ground.now.loss p s ≡ false) × (image_at ground.now.survivors.now p s ≡ Some m.now)) }
 {
@@ -46,7 +46,7 @@ fn kept_image<'a>(ground: &Ground<'a>, p: u16, s: u16) -> Option<&'a Image>
 
 impl<'a> Entries<'a> {
     /// The entries of the join index of a segment to a projection.
-    pub fn new(ground: &'a Ground<'a>, p: u16, s: u16, q: u16) -> Self
+    pub fn new(ground: &'a Ground<'a, 'a>, p: u16, s: u16, q: u16) -> Self
         requires segment { HasSegment ground.now.catalog.now p s }
         requires target { q < length ground.now.catalog.now.projections }
         ensures ground { result.ground.now ≡ ground.now }

@@ -17,7 +17,7 @@ use cs_board::{Gate, RunFault, Work, run};
 use cs_rows::counts::anchor_rows;
 use cs_rows::range::{WalkFault, walk_range};
 use cs_rows::whole::reads_anchor_alone;
-use cs_rows::{Survivors, Walked};
+use cs_rows::{Survivors, Table, Walked};
 use cs_safety::Plan;
 use cs_schema::Catalog;
 use cs_store::Fault;
@@ -90,12 +90,12 @@ impl Work for PlannedWork<'_> {
 }
 
 /// The rows to which all rows of a plan's anchor lead.
-pub fn walk_planned<R: Threads + Sync, G: Gate + Sync>(
-    crew: &Crew<'_, R, G>,
+pub fn walk_planned<'a, R: Threads + Sync, G: Gate + Sync>(
+    crew: &Crew<'_, '_, R, G>,
     catalog: &Catalog,
     plan: &Plan,
-    survivors: &Survivors,
-) -> Result<Walked, Fault>
+    survivors: &'a Survivors,
+) -> Result<Table<'a>, Fault>
     requires plan { IsPlanOf catalog.now plan.now }
     requires room { HasRoom catalog.now survivors.now }
     requires made { HoldsImages catalog.now survivors.now }
@@ -121,7 +121,7 @@ pub fn walk_planned<R: Threads + Sync, G: Gate + Sync>(
     };
     match run(crew.rt, crew.alloc, crew.workers, &work, crew.gate) {
         Ok(all) => match append_all(crew.rt, crew.alloc, catalog, all) {
-            Ok(walked) => Ok(walked),
+            Ok(walked) => Ok(Table::of_walk(crew.alloc, walked)),
             Err(_) => Err(Fault::Memory),
         },
         Err(RunFault::Memory) => Err(Fault::Memory),

@@ -86,7 +86,7 @@ impl<R: Threads> Work for FilesWork<'_, R> {
 
 /// Reads the files of all segments that survive.
 pub fn read_survivors<R: Threads + Sync, G: Gate + Sync>(
-    crew: &Crew<'_, R, G>,
+    crew: &Crew<'_, '_, R, G>,
     catalog: &Catalog,
     files: &FileSet,
     loss: Loss,

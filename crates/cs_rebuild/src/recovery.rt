@@ -8,7 +8,7 @@ ghost use Rattle.cs_rebuild.specs.Steps.{safety_refusal as refusal_of};
 
 use crate::crew::Crew;
 use crate::ground::ground_of;
-use crate::judging::judge;
+use crate::judging::{judge, read_store};
 use crate::writing::write_lost;
 use cs_board::{Gate, OpenGate};
 use cs_safety::{SafetyFault, ksafe, safe};
@@ -72,15 +72,13 @@ pub fn rebuild_gated<R: Threads + Sync, G: Gate + Sync>(
         cut,
         gate,
     };
-    match judge(&crew, catalog, files, loss) {
+    let survivors = match read_store(&crew, catalog, files, loss) {
+        Ok(survivors) => survivors,
+        Err(fault) => return Err(fault),
+    };
+    match judge(&crew, catalog, loss, &survivors) {
         Ok(store) => {
-            let ground = ground_of(
-                catalog,
-                loss,
-                &store.survivors,
-                &store.walked,
-                &store.orders,
-            );
+            let ground = ground_of(catalog, loss, &survivors, &store.walked, &store.orders);
             write_lost(&crew, &ground)
         }
         Err(fault) => Err(fault),
@@ -135,7 +133,12 @@ pub fn check_gated<R: Threads + Sync, G: Gate + Sync>(
         cut,
         gate,
     };
-    match judge(&crew, catalog, files, no_loss(catalog, k)) {
+    let loss = no_loss(catalog, k);
+    let survivors = match read_store(&crew, catalog, files, loss) {
+        Ok(survivors) => survivors,
+        Err(fault) => return Err(fault),
+    };
+    match judge(&crew, catalog, loss, &survivors) {
         Ok(store) => Ok(store.walked.rows() as u64),
         Err(fault) => Err(fault),
     }

@@ -16,7 +16,7 @@ use cs_board::{Gate, RunFault, Work, run};
 use cs_rows::by_rows::walk_rows;
 use cs_rows::counts::surviving_row_count;
 use cs_rows::range::WalkFault;
-use cs_rows::{Survivors, Walked};
+use cs_rows::{Survivors, Table, Walked};
 use cs_schema::{Catalog, Loss};
 use cs_store::Fault;
 use std::alloc::Global;
@@ -87,12 +87,12 @@ impl Work for RowsWork<'_> {
 }
 
 /// The full rows to which all surviving rows lead, each primary key once.
-pub fn walk_rowwise<R: Threads + Sync, G: Gate + Sync>(
-    crew: &Crew<'_, R, G>,
+pub fn walk_rowwise<'a, R: Threads + Sync, G: Gate + Sync>(
+    crew: &Crew<'_, '_, R, G>,
     catalog: &Catalog,
     loss: Loss,
-    survivors: &Survivors,
-) -> Result<Walked, Fault>
+    survivors: &'a Survivors,
+) -> Result<Table<'a>, Fault>
     requires room { HasRoom catalog.now survivors.now }
     requires made { HoldsImages catalog.now survivors.now }
     ensures kinds { IfOk result (HasTableKinds catalog.now) }
@@ -121,7 +121,7 @@ pub fn walk_rowwise<R: Threads + Sync, G: Gate + Sync>(
         Err(RunFault::At(_, fault)) => return Err(fault),
     };
     match walked.once(catalog) {
-        Ok(()) => Ok(walked),
+        Ok(()) => Ok(Table::of_walk(crew.alloc, walked)),
         Err(_) => Err(Fault::Memory),
     }
 }

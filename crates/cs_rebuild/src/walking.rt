@@ -10,7 +10,7 @@ use crate::crew::Crew;
 use crate::planned::walk_planned;
 use crate::rowwise::walk_rowwise;
 use cs_board::Gate;
-use cs_rows::{Survivors, Walked};
+use cs_rows::{Survivors, Table};
 use cs_safety::plan;
 use cs_schema::{Catalog, Loss, Safety};
 use cs_store::Fault;
@@ -37,12 +37,12 @@ pub fn count_pieces(rows: usize, cut: u32) -> Option<u32>
 }
 
 /// The rows to which the walk leads, by the catalog's rule.
-pub fn walk_all<R: Threads + Sync, G: Gate + Sync>(
-    crew: &Crew<'_, R, G>,
+pub fn walk_all<'a, R: Threads + Sync, G: Gate + Sync>(
+    crew: &Crew<'_, '_, R, G>,
     catalog: &Catalog,
     loss: Loss,
-    survivors: &Survivors,
-) -> Result<Walked, Fault>
+    survivors: &'a Survivors,
+) -> Result<Table<'a>, Fault>
     requires safe { IsSafe catalog.now loss }
     requires read { (F : FileContents) × AreRead catalog.now F loss survivors.now }
     ensures ok { IfOk result (AreWalkedRows catalog.now loss (contents_of survivors.now)) }

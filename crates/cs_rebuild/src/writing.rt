@@ -1,50 +1,55 @@
 //! Writing what a loss took.
-ghost use Rattle.std.specs.Prelude.{◌≡◌, ◌<◌, ◌+◌, ℕ, map, length, IfOk, IfErr, OnOk};
+ghost use Rattle.std.specs.Prelude.{◌≡◌, All, Some, map, length, IfOk, IfErr};
 ghost use Rattle.cs_schema.specs.declared.file_name.FileName.{FileName as NameData};
-ghost use Rattle.cs_schema.specs.CatalogData.{HasSegment, segments};
+ghost use Rattle.cs_schema.specs.CatalogData.{HasSegment};
 ghost use Rattle.cs_schema.specs.Order.{rows_of};
 ghost use Rattle.cs_schema.specs.Rows.{project};
 ghost use Rattle.cs_segment.specs.SegmentFile.{segment_text, base_of};
+ghost use Rattle.cs_segment.specs.SegmentPieces.{ArePiecesOf};
 ghost use Rattle.cs_delta.specs.DeltaFile.{delta_text, no_changes};
 ghost use Rattle.cs_store.specs.FileSet.{contents_of};
 ghost use Rattle.cs_store.specs.declared.fault.Fault.{Fault as FaultData};
-ghost use Rattle.cs_rebuild.specs.Writing.{IsPartOf, HasWritten, KeepsWritten, AreSegmentsWritten};
-ghost use Rattle.cs_rebuild.specs.OnGround.{IsSound, table_on, bases_on, written_on};
+ghost use Rattle.cs_rebuild.specs.OnGround.{IsSound, table_on, written_on};
+ghost use Rattle.cs_rebuild.specs.Unwritten.{IsToWrite, IsFileOf, name_of};
 
 use crate::crew::Crew;
-use crate::encoding::encode_columns;
 use crate::ground::Ground;
-use crate::writing_joins::write_joins;
+use crate::unwritten::{Unwritten, unwritten_files};
+use crate::writing_joins::{join_bytes, least_entries};
 use cs_board::Gate;
 use cs_delta::write_empty_delta;
+use cs_piece::Piece;
 use cs_schema::FileName;
 use cs_segment::writing::write_segment;
 use cs_store::{Fault, FileSet};
+use rayon::prelude::*;
 use std::alloc::{AllocError, Global};
 use std::marker::Sync;
 use std::thread::Threads;
 
 /// The file of a lost segment.
-fn segment_bytes<R: Threads + Sync, G: Gate + Sync>(
-    crew: &Crew<'_, R, G>,
-    ground: &Ground<'_>,
+fn segment_bytes(
+    alloc: Global,
+    ground: &Ground<'_, '_>,
     p: u16,
     s: u16,
+    columns: &[Piece],
 ) -> Result<Vec<u8>, AllocError>
     requires segment { HasSegment ground.now.catalog.now p s }
-    requires sound { IsSound ground.now }
-    ensures ok { IfOk result (λ bytes. bytes.items ≡ segment_text ground.now.catalog.now p s (base_of ground.now.catalog.now p (map (project ground.now.catalog.now p) (rows_of ground.now.catalog.now (table_on ground.now) p s)))) }
+    requires columns { ArePiecesOf ground.now.catalog.now p (length (rows_of ground.now.catalog.now (table_on ground.now) p s)) columns.now (base_of ground.now.catalog.now p (map (project ground.now.catalog.now p) (rows_of ground.now.catalog.now (table_on ground.now) p s))) }
+    ensures { IfOk result (λ bytes. bytes.items ≡ segment_text ground.now.catalog.now p s (base_of ground.now.catalog.now p (map (project ground.now.catalog.now p) (rows_of ground.now.catalog.now (table_on ground.now) p s)))) }
 {
-    let columns = match encode_columns(crew, ground, p, s) {
-        Ok(columns) => columns,
-        Err(_) => return Err(AllocError),
-    };
     let rows = ground.orders.segment(p, s).len() as u32;
-    write_segment(crew.alloc, ground.catalog, p, s, rows, columns.as_slice())
+    write_segment(alloc, ground.catalog, p, s, rows, columns)
 }
 
 /// The file of a lost segment's delta: it has no changes.
-fn delta_bytes(alloc: Global, ground: &Ground<'_>, p: u16, s: u16) -> Result<Vec<u8>, AllocError>
+fn delta_bytes(
+    alloc: Global,
+    ground: &Ground<'_, '_>,
+    p: u16,
+    s: u16,
+) -> Result<Vec<u8>, AllocError>
     requires segment { HasSegment ground.now.catalog.now p s }
     ensures { IfOk result (λ bytes. bytes.items ≡ delta_text (no_changes p s (length (rows_of ground.now.catalog.now (table_on ground.now) p s)))) }
 {
@@ -52,82 +57,88 @@ fn delta_bytes(alloc: Global, ground: &Ground<'_>, p: u16, s: u16) -> Result<Vec
     write_empty_delta(alloc, p, s, rows)
 }
 
-/// Writes a segment's file and that of its delta where the segment is lost.
-fn write_base<R: Threads + Sync, G: Gate + Sync>(
-    crew: &Crew<'_, R, G>,
-    ground: &Ground<'_>,
-    p: u16,
-    s: u16,
-    files: &mut FileSet,
-) -> Result<(), AllocError>
-    requires segment { HasSegment ground.now.catalog.now p s }
+/// A file that is to be written, with its name. What it is made from is free afterwards.
+fn make_file<R: Threads + Sync, G: Gate + Sync>(
+    crew: &Crew<'_, '_, R, G>,
+    ground: &Ground<'_, '_>,
+    file: Unwritten,
+    least: usize,
+) -> Result<(FileName, Vec<u8>), AllocError>
+    requires file { IsToWrite ground.now file }
     requires sound { IsSound ground.now }
-    requires part { IsPartOf (bases_on ground.now) files.old }
-    ensures part { OnOk result (IsPartOf (bases_on ground.now) files.new) }
-    ensures kept { OnOk result (KeepsWritten (bases_on ground.now) files.old files.new) }
-    ensures segment { OnOk result (HasWritten (bases_on ground.now) files.new (NameData.Seg p s)) }
-    ensures delta { OnOk result (HasWritten (bases_on ground.now) files.new (NameData.Del p s)) }
+    ensures { IfOk result (λ made. IsFileOf ground.now file made.0 made.1.items) }
 {
-    if !ground.catalog.lost(p, s, ground.loss) {
-        return Ok(());
+    match file {
+        Unwritten::Segment { p, s, columns } => {
+            let bytes = segment_bytes(crew.alloc, ground, p, s, columns.as_slice())?;
+            Ok((FileName::Seg { p, s }, bytes))
+        }
+        Unwritten::Delta { p, s } => {
+            let bytes = delta_bytes(crew.alloc, ground, p, s)?;
+            Ok((FileName::Del { p, s }, bytes))
+        }
+        Unwritten::Join { p, s, q } => {
+            let bytes = join_bytes(crew, ground, p, s, q, least)?;
+            Ok((FileName::Jix { p, s, q }, bytes))
+        }
     }
-    let segment = segment_bytes(crew, ground, p, s)?;
-    let delta = delta_bytes(crew.alloc, ground, p, s)?;
-    files.put(FileName::Seg { p, s }, segment)?;
-    files.put(FileName::Del { p, s }, delta)?;
-    Ok(())
 }
 
-/// Writes the files of a projection's lost segments.
-fn write_projection<R: Threads + Sync, G: Gate + Sync>(
-    crew: &Crew<'_, R, G>,
-    ground: &Ground<'_>,
-    p: u16,
-    files: &mut FileSet,
-) -> Result<(), AllocError>
-    requires projection { p < length ground.now.catalog.now.projections }
+/// The files that are to be written, each made in a thread of its own: one thread makes the digest of a file, which is most
+/// of the work.
+fn made_files<R: Threads + Sync, G: Gate + Sync>(
+    crew: &Crew<'_, '_, R, G>,
+    ground: &Ground<'_, '_>,
+    files: Vec<Unwritten>,
+) -> Result<Vec<(FileName, Vec<u8>)>, AllocError>
+    requires files { All (IsToWrite ground.now) files.items }
     requires sound { IsSound ground.now }
-    requires part { IsPartOf (bases_on ground.now) files.old }
-    ensures part { OnOk result (IsPartOf (bases_on ground.now) files.new) }
-    ensures kept { OnOk result (KeepsWritten (bases_on ground.now) files.old files.new) }
-    ensures all { OnOk result (AreSegmentsWritten (bases_on ground.now) files.new p (segments ground.now.catalog.now p)) }
+    ensures names { IfOk result (λ made. map (λ file. file.0) made.items ≡ map name_of files.items) }
+    ensures texts { IfOk result (λ made. All (λ file. written_on ground.now file.0 ≡ Some file.1.items) made.items) }
 {
-    for s in 0..ground.catalog.segments(p) {
-        write_base(crew, ground, p, s, files)?;
-    }
-    Ok(())
+    let least = least_entries(crew.workers, files.as_slice());
+    files
+        .into_par_iter()
+        // a file is worth a thread
+        .with_min_len(1)
+        .map(
+            |file: Unwritten| -> Result<(FileName, Vec<u8>), AllocError>
+                requires file { IsToWrite ground.now file }
+                requires sound { IsSound ground.now }
+                ensures { IfOk result (λ made. IsFileOf ground.entry.now file made.0 made.1.items) }
+            { make_file(crew, ground, file, least) },
+        )
+        .collect::<Result<Vec<(FileName, Vec<u8>)>, AllocError>>(crew.rt, crew.alloc)?
 }
 
-/// The files of the lost segments, and those of their deltas.
-fn write_bases<R: Threads + Sync, G: Gate + Sync>(
-    crew: &Crew<'_, R, G>,
-    ground: &Ground<'_>,
+/// The files that are to be written, put together.
+fn write_files<R: Threads + Sync, G: Gate + Sync>(
+    crew: &Crew<'_, '_, R, G>,
+    ground: &Ground<'_, '_>,
 ) -> Result<FileSet, AllocError>
     requires sound { IsSound ground.now }
-    ensures { IfOk result (λ out. (n : NameData) → contents_of out n ≡ bases_on ground.now n) }
+    ensures { IfOk result (λ out. (n : NameData) → contents_of out n ≡ written_on ground.now n) }
 {
+    let unwritten = unwritten_files(crew, ground)?;
+    let mut made = made_files(crew, ground, unwritten)?;
     let mut files = FileSet::new(crew.alloc)?;
-    for p in 0..ground.catalog.projection_count() {
-        write_projection(crew, ground, p, &mut files)?;
+    while let Some((name, bytes)) = made.pop() {
+        files.put(name, bytes)?;
     }
     Ok(files)
 }
 
 /// The files of the lost segments, and the join indexes that the loss affects.
 pub fn write_lost<R: Threads + Sync, G: Gate + Sync>(
-    crew: &Crew<'_, R, G>,
-    ground: &Ground<'_>,
+    crew: &Crew<'_, '_, R, G>,
+    ground: &Ground<'_, '_>,
 ) -> Result<FileSet, Fault>
     requires sound { IsSound ground.now }
     ensures ok { IfOk result (λ out. (n : NameData) → contents_of out n ≡ written_on ground.now n) }
     ensures err { IfErr result (λ fault. fault ≡ FaultData.Memory) }
 {
-    let mut files = match write_bases(crew, ground) {
-        Ok(files) => files,
-        Err(_) => return Err(Fault::Memory),
-    };
-    match write_joins(crew, ground, &mut files) {
-        Ok(()) => Ok(files),
+    match write_files(crew, ground) {
+        Ok(files) => Ok(files),
         Err(_) => Err(Fault::Memory),
     }
 }

@@ -3,6 +3,7 @@ pub mod WalkByRows
 pub mod RangeByRows
 pub mod RowSteps
 pub mod WalkedView
+pub mod TableView
 pub mod Survivors
 pub mod PutLaws
 pub mod Routes

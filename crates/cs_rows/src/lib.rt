@@ -17,10 +17,12 @@ mod repeats;
 mod route;
 pub mod steps;
 pub mod survivors;
+pub mod table;
 #[cfg(test)]
 mod tests;
 pub mod walked;
 pub mod whole;
 
 pub use survivors::Survivors;
+pub use table::Table;
 pub use walked::Walked;

@@ -76,6 +76,15 @@ impl Walked {
         Walked { columns }
     }
 
+    /// The columns, of one length.
+    pub(crate) fn into_columns(self) -> Vec<Cells>
+        ensures columns { AreColumns result.items }
+        ensures rows { walked_data result.items ≡ self }
+    {
+        let Walked { columns } = self;
+        columns
+    }
+
     /// No rows, with the columns of a catalog.
     pub fn none(alloc: Global, catalog: &Catalog) -> Result<Self, AllocError>
         ensures kinds { IfOk result (λ walked. walked.kinds ≡ map (λ c. c.kind) catalog.now.columns) }

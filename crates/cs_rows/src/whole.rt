@@ -1,6 +1,6 @@
 //! The walk of a plan that reads each column at its anchor: rows are followed with no look at their cells, and a column
 //! is copied from whole images.
-ghost use Rattle.std.specs.Prelude.{◌≡◌, ◌<◌, ◌≤◌, ◌-◌, ◌↔◌, length, map, IfOk, IfErr, OnOk, IsTrue, None, slice_index};
+ghost use Rattle.std.specs.Prelude.{◌≡◌, ◌<◌, ◌≤◌, ◌-◌, ◌↔◌, length, map, IfOk, IfErr, IfSome, OnOk, IsTrue, None, slice_index};
 ghost use Rattle.std.specs.List.{find};
 ghost use Rattle.cs_schema.specs.Values.{values, kind_of};
 ghost use Rattle.cs_schema.specs.Rows.{cell};
@@ -65,6 +65,34 @@ fn copy_column(
     Ok(cells)
 }
 
+/// The image's column that has the cells of a column of the table, where the anchor has one segment.
+fn find_lone_column<'a>(
+    catalog: &Catalog,
+    plan: &Plan,
+    survivors: &'a Survivors,
+    c: usize,
+) -> Option<&'a Cells>
+    requires fits { PlanFits catalog.now plan.now }
+    requires room { HasRoom catalog.now survivors.now }
+    requires made { HoldsImages catalog.now survivors.now }
+    requires column { c < length catalog.now.columns }
+    requires read { slice_index plan.now.source c ≡ plan.now.anchor }
+    ensures kind { IfSome result (λ cells. kind_of cells.now ≡ (column catalog.now c).kind) }
+    ensures cells { IfSome result (λ cells. values cells.now ≡ map (λ at. walked_cell catalog.now (contents_of survivors.now) plan.now at c) (projection_rows catalog.now (contents_of survivors.now) plan.now.anchor)) }
+{
+    let anchor = anchor(plan);
+    if segments(catalog, anchor) != 1 {
+        return None;
+    }
+    match survivors.image(anchor, 0) {
+        Some(image) => {
+            let j = place_in(columns_of(catalog, anchor), c);
+            Some(image.column(j))
+        }
+        None => None,
+    }
+}
+
 /// The cells that the anchor's rows have in a column of the table, which the plan reads there.
 pub fn anchor_column(
     alloc: Global,
@@ -83,6 +111,25 @@ pub fn anchor_column(
     ensures cells { IfOk result (λ cells. values cells ≡ map (λ row. cell row c) (map (walked_row catalog.now (contents_of survivors.now) plan.now) (projection_rows catalog.now (contents_of survivors.now) plan.now.anchor))) }
 {
     copy_column(alloc, catalog, plan, survivors, c)
+}
+
+/// The same cells where they stand in one image, as the anchor has one segment.
+pub fn lone_column<'a>(
+    catalog: &Catalog,
+    plan: &Plan,
+    survivors: &'a Survivors,
+    c: usize,
+) -> Option<&'a Cells>
+    requires catalog { IsCatalog catalog.now }
+    requires plan { ∥ IsPlanOf catalog.now plan.now ∥₁ }
+    requires room { HasRoom catalog.now survivors.now }
+    requires made { HoldsImages catalog.now survivors.now }
+    requires column { c < length catalog.now.columns }
+    requires read { slice_index plan.now.source c ≡ plan.now.anchor }
+    ensures kind { IfSome result (λ cells. kind_of cells.now ≡ (column catalog.now c).kind) }
+    ensures cells { IfSome result (λ cells. values cells.now ≡ map (λ row. cell row c) (map (walked_row catalog.now (contents_of survivors.now) plan.now) (projection_rows catalog.now (contents_of survivors.now) plan.now.anchor))) }
+{
+    find_lone_column(catalog, plan, survivors, c)
 }
 
 /// Follows some rows of one of the anchor's segments, from the first number up to the second.

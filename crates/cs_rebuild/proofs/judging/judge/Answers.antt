@@ -1,50 +1,46 @@
 use Rattle.std.proofs.Common.{◌≡◌, ◌∙◌, subst, Some, None}
 use Rattle.cs_schema.specs.Lists.{IsIn}
-use Rattle.cs_store.specs.FileSet.{contents_of}
 use Rattle.cs_rows.specs.Survivors.{contents_of as held_by}
 use Rattle.cs_order.specs.Tables.{table_of}
 use Rattle.cs_recovery.specs.Verdicts.{misplaced, misled}
 use Rattle.cs_recovery.proofs.Exact.{survivors_survive}
-use Rattle.cs_rebuild.proofs.Verdicts.{memory_or, on_ground, bad_file, stray_row, faulty_rows, misplaced_rows, misled_rows}
+use Rattle.cs_rebuild.proofs.Verdicts.{memory_or, on_ground, stray_row, faulty_rows, misplaced_rows, misled_rows}
 use Rattle.cs_rebuild.proofs.judging.judge.Goals as goal
 
-pub returns-in-Err-read_survivors-clause-err : goal.returns-in-Err-read_survivors-clause-err
-returns-in-Err-read_survivors-clause-err g c = memory_or _ c.in-Err-read_survivors.ensures.err (bad_file c.args.catalog.now (contents_of c.args.files.now) c.args.loss _)
-
 pub returns-in-Err-walk_all-clause-err : goal.returns-in-Err-walk_all-clause-err
-returns-in-Err-walk_all-clause-err g c =
-    memory_or _ c.in-Err-walk_all.ensures.err (stray_row c.args.catalog.now (contents_of c.args.files.now) c.args.loss (held_by c.in-Ok-read_survivors.survivors) c.in-Ok-read_survivors.ensures.ok.reads _)
+returns-in-Err-walk_all-clause-err g c F read =
+    memory_or _ c.in-Err-walk_all.ensures.err (stray_row c.args.catalog.now F c.args.loss (held_by c.args.survivors.now) read.reads _)
 
 pub returns-in-Err-orders_of-clause-err : goal.returns-in-Err-orders_of-clause-err
-returns-in-Err-orders_of-clause-err g c =
-    let S = held_by c.in-Ok-read_survivors.survivors in
-    memory_or _ c.in-Err-orders_of.ensures.err (faulty_rows c.args.catalog.now (contents_of c.args.files.now) c.args.loss S c.in-Ok-read_survivors.ensures.ok.reads c.in-Ok-walk_all.walked.rows c.in-Ok-walk_all.ensures.ok.walk _)
+returns-in-Err-orders_of-clause-err g c F read =
+    let S = held_by c.args.survivors.now in
+    memory_or _ c.in-Err-orders_of.ensures.err (faulty_rows c.args.catalog.now F c.args.loss S read.reads c.in-Ok-walk_all.walked.rows c.in-Ok-walk_all.ensures.ok.walk _)
 
 pub returns-in-Err-verify_images-clause-err : goal.returns-in-Err-verify_images-clause-err
-returns-in-Err-verify_images-clause-err g c =
-    let S = held_by c.in-Ok-read_survivors.survivors in
+returns-in-Err-verify_images-clause-err g c F read =
+    let S = held_by c.args.survivors.now in
     let e = c.ground_of-ground.ensures in
     memory_or _ c.in-Err-verify_images.ensures.err (λ h.
-    misplaced_rows c.args.catalog.now (contents_of c.args.files.now) c.args.loss S c.in-Ok-read_survivors.ensures.ok.reads c.in-Ok-walk_all.walked.rows c.in-Ok-walk_all.ensures.ok.walk c.in-Ok-orders_of.ensures.sound _
+    misplaced_rows c.args.catalog.now F c.args.loss S read.reads c.in-Ok-walk_all.walked.rows c.in-Ok-walk_all.ensures.ok.walk c.in-Ok-orders_of.ensures.sound _
     (on_ground (λ C L v w. misplaced C L (held_by v) (table_of C w.rows) ≡ Some c.in-Err-verify_images.fault) e.catalog e.loss e.survivors e.walked h))
 
 pub joins_of-requires-clause-exist : goal.joins_of-requires-clause-exist
-joins_of-requires-clause-exist g c a i = (survivors_survive c.args.catalog.now c.args.loss a (subst (IsIn a) (c.as_slice-3.ensures.value ∙ c.in-Ok.ensures.all) i)).0
+joins_of-requires-clause-exist g c a i = (survivors_survive c.args.catalog.now c.args.loss a (subst (IsIn a) (c.as_slice-2.ensures.value ∙ c.in-Ok.ensures.all) i)).0
 
 pub returns-in-Err-verify_joins-clause-err : goal.returns-in-Err-verify_joins-clause-err
-returns-in-Err-verify_joins-clause-err g c =
-    let S = held_by c.in-Ok-read_survivors.survivors in
+returns-in-Err-verify_joins-clause-err g c F read =
+    let S = held_by c.args.survivors.now in
     let e = c.ground_of-ground.ensures in
     let placed = on_ground (λ C L v w. misplaced C L (held_by v) (table_of C w.rows) ≡ None) e.catalog e.loss e.survivors e.walked c.in-Ok-verify_images.ensures.ok in
     memory_or _ c.in-Err-verify_joins.ensures.err (λ h.
-    misled_rows c.args.catalog.now (contents_of c.args.files.now) c.args.loss S c.in-Ok-read_survivors.ensures.ok.reads c.in-Ok-walk_all.walked.rows c.in-Ok-walk_all.ensures.ok.walk c.in-Ok-orders_of.ensures.sound placed _
+    misled_rows c.args.catalog.now F c.args.loss S read.reads c.in-Ok-walk_all.walked.rows c.in-Ok-walk_all.ensures.ok.walk c.in-Ok-orders_of.ensures.sound placed _
     (on_ground (λ C L v w. misled C L (held_by v) (table_of C w.rows) ≡ Some c.in-Err-verify_joins.fault) e.catalog e.loss e.survivors e.walked h))
 
 pub returns-clause-ok : goal.returns-clause-ok
-returns-clause-ok g c =
+returns-clause-ok g c F read =
     let e = c.ground_of-ground.ensures in
     record {
-      read = c.in-Ok-read_survivors.ensures.ok;
+      read = read;
       walked = c.in-Ok-walk_all.ensures.ok;
       rows_sound = c.in-Ok-orders_of.ensures.sound;
       placed = on_ground (λ C L v w. misplaced C L (held_by v) (table_of C w.rows) ≡ None) e.catalog e.loss e.survivors e.walked c.in-Ok-verify_images.ensures.ok;

@@ -6,6 +6,7 @@ use Rattle.cs_board.specs.RunFault.{IfAt}
 use Rattle.cs_schema.specs.Rows.{Row}
 use Rattle.cs_rows.specs.Survivors.{contents_of}
 use Rattle.cs_rows.specs.Walk.{At, Stray, is_astray, projection_rows, walked_row}
+use Rattle.cs_rows.specs.WalkedView.{WalkedData}
 use Rattle.cs_rebuild.specs.Walking.{piece_of, WalkFaultAt}
 use Rattle.cs_rebuild.proofs.AppendedColumns.{walked_wide}
 use Rattle.cs_rebuild.proofs.WalkPieces.{all_walked, first_astray}
@@ -28,7 +29,7 @@ returns-in-Ok-append_all-clause-rows g c =
     let f : List At → List Row = map (walked_row C S P) in
     let cover = subst (λ n. n ≤ c.in-Some.pieces * c.args.crew.now.cut) c.anchor_rows-rows.ensures c.in-Some.ensures.some.0 in
     all_walked (is_astray C S P) e f (projection_rows C S P.anchor) c.args.crew.now.cut refl (map-append (walked_row C S P)) c.in-Some.pieces cover c.in-Ok.ensures.ok.sound c.in-Ok.all.items c.in-Ok.ensures.ok.len (λ i w at. (c.in-Ok.ensures.ok.each i w at).1)
-    ∙ ap (λ r. Ok r) (sym c.in-Ok-append_all.ensures.rows)
+    ∙ ap (λ r. Ok r) (sym (ap (λ (w : WalkedData). w.rows) c.of_walk.ensures ∙ c.in-Ok-append_all.ensures.rows))
 
 pub returns-in-Err-At-clause-err : goal.returns-in-Err-At-clause-err
 returns-in-Err-At-clause-err g c =

@@ -9,6 +9,7 @@ use Rattle.cs_rows.specs.Survivors.{contents_of}
 use Rattle.cs_rows.specs.Walk.{Stray}
 use Rattle.cs_rows.specs.WalkByRows.{Reached, surviving_rows}
 use Rattle.cs_rows.specs.RangeByRows.{is_stray_row, row_from}
+use Rattle.cs_rows.specs.WalkedView.{WalkedData}
 use Rattle.cs_rows.proofs.WalkParts.{walk_by_rows_found, walk_by_rows_stray}
 use Rattle.cs_rebuild.specs.Walking.{piece_of, RowsFaultAt}
 use Rattle.cs_rebuild.proofs.AppendedColumns.{found_wide}
@@ -32,7 +33,7 @@ returns-in-Ok-once-clause-rows g c =
     let f : List Reached → List Row = filter_map (row_from C L S) in
     let cover = subst (λ n. n ≤ c.in-Some.pieces * c.args.crew.now.cut) c.surviving_row_count-rows.ensures c.in-Some.ensures.some.0 in
     let whole = all_walked (is_stray_row C L S) e f (surviving_rows C L S) c.args.crew.now.cut refl (filter_map-append (row_from C L S)) c.in-Some.pieces cover c.in-Ok.ensures.ok.sound c.in-Ok.all.items c.in-Ok.ensures.ok.len (λ i w at. (c.in-Ok.ensures.ok.each i w at).1) in
-    walk_by_rows_found C L S c.in-Ok-append_all.walked.rows (sym (whole ∙ ap (λ r. Ok r) (sym c.in-Ok-append_all.ensures.rows))) ∙ ap (λ r. Ok r) (sym c.in-Ok-once.ensures.ok)
+    walk_by_rows_found C L S c.in-Ok-append_all.walked.rows (sym (whole ∙ ap (λ r. Ok r) (sym c.in-Ok-append_all.ensures.rows))) ∙ ap (λ r. Ok r) (sym (ap (λ (w : WalkedData). w.rows) c.of_walk.ensures ∙ c.in-Ok-once.ensures.ok))
 
 pub returns-in-Err-At-clause-err : goal.returns-in-Err-At-clause-err
 returns-in-Err-At-clause-err g c =

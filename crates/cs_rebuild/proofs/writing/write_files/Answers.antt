@@ -1,0 +1,41 @@
+use Rattle.std.proofs.Common.{◌≡◌, Some, map, arith}
+use Rattle.cs_rows.specs.Survivors.{contents_of as held_by}
+use Rattle.cs_order.specs.Tables.{table_of}
+use Rattle.cs_recovery.specs.Expected.{written}
+use Rattle.cs_rebuild.specs.Unwritten.{name_of}
+use Rattle.cs_rebuild.proofs.Keeping.{no_rest}
+use Rattle.cs_rebuild.proofs.WrittenFiles.{one_put}
+use Rattle.cs_rebuild.proofs.UnwrittenFiles.{all_left, last_taken, one_less_left, none_left}
+use Rattle.cs_rebuild.proofs.writing.write_files.Goals as goal
+
+pub loop-name-init : goal.loop-name-init
+loop-name-init g c =
+    let x = c.args.ground.now in
+    let C = x.catalog.now in
+    let all = written C x.loss (held_by x.survivors.now) (table_of C x.walked.now.rows) in
+    record {
+      texts = c.in_ok-made.ensures.texts;
+      left = all_left (λ file. file.0) all (map name_of c.in_ok-unwritten.unwritten.items) c.in_ok-made.made.items c.in_ok-files.files c.in_ok-files.ensures c.in_ok-made.ensures.names c.in_ok-unwritten.ensures.all;
+    }
+
+pub loop-name-preserved : goal.loop-name-preserved
+loop-name-preserved g c =
+    let x = c.args.ground.now in
+    let C = x.catalog.now in
+    let all = written C x.loss (held_by x.survivors.now) (table_of C x.walked.now.rows) in
+    let rest = c.loop-name.made.items in
+    let new = c.pop.new.self.items in
+    let split = c.in-Some.ensures.items in
+    let texts = last_taken (λ file. all file.0 ≡ Some file.1.items) rest new (c.in-Some.name, c.in-Some.bytes) split c.loop-name.invariant.texts in
+    let put = one_put all c.loop-name.files c.put.new.self c.in-Some.name c.in-Some.bytes.items texts.1 c.in_ok-put.ensures.ok in
+    record {
+      texts = texts.0;
+      left = one_less_left (λ file. file.0) all rest new (c.in-Some.name, c.in-Some.bytes) c.loop-name.files c.put.new.self split put.0 put.1 c.loop-name.invariant.left;
+    }
+
+pub returns : goal.returns
+returns g c =
+    let x = c.args.ground.now in
+    let C = x.catalog.now in
+    let none = (no_rest _ c.pop.result c.in_default.not-Some c.pop.ensures.cases).0 in
+    none_left (λ file. file.0) (written C x.loss (held_by x.survivors.now) (table_of C x.walked.now.rows)) c.loop-name.made.items c.loop-name.files (omega (arith, none)) c.loop-name.invariant.left

@@ -1,0 +1,128 @@
+//! What a loss leaves to be written: the files of the lost segments and their deltas, and the join indexes that it affects.
+ghost use Rattle.std.specs.Prelude.{◌≡◌, ◌<◌, ◌++◌, ◌⊎◌, All, None, map, length, IfOk, OnOk};
+ghost use Rattle.cs_schema.specs.declared.file_name.FileName.{FileName as NameData};
+ghost use Rattle.cs_schema.specs.CatalogData.{HasSegment, segments};
+ghost use Rattle.cs_schema.specs.Lists.{IsIn};
+ghost use Rattle.cs_recovery.specs.Expected.{is_affected};
+ghost use Rattle.cs_rebuild.specs.OnGround.{IsSound, written_on};
+ghost use Rattle.cs_rebuild.specs.Unwritten.{IsToWrite, name_of, base_names, join_names, names_in};
+
+use crate::crew::Crew;
+use crate::encoding::encode_columns;
+use crate::ground::Ground;
+use cs_board::Gate;
+use cs_piece::Piece;
+use cs_safety::alive;
+use std::alloc::AllocError;
+use std::marker::Sync;
+use std::thread::Threads;
+
+/// A file that is to be written, by what it is made from.
+#[derive(Drop)]
+pub enum Unwritten {
+    /// A lost segment, from its encoded columns.
+    Segment { p: u16, s: u16, columns: Vec<Piece> },
+    /// The delta of a lost segment.
+    Delta { p: u16, s: u16 },
+    /// A join index that the loss affects.
+    Join { p: u16, s: u16, q: u16 },
+}
+
+/// Encodes the columns of a segment that is lost, and puts it and its delta at the end of a list.
+fn push_base<R: Threads + Sync, G: Gate + Sync>(
+    files: &mut Vec<Unwritten>,
+    crew: &Crew<'_, '_, R, G>,
+    ground: &Ground<'_, '_>,
+    p: u16,
+    s: u16,
+) -> Result<(), AllocError>
+    requires segment { HasSegment ground.now.catalog.now p s }
+    requires sound { IsSound ground.now }
+    requires each { All (IsToWrite ground.now) files.old.items }
+    ensures each { OnOk result (All (IsToWrite ground.now) files.new.items) }
+    ensures names { OnOk result (map name_of files.new.items ≡ map name_of files.old.items ++ base_names ground.now.catalog.now ground.now.loss p s) }
+{
+    if !ground.catalog.lost(p, s, ground.loss) {
+        return Ok(());
+    }
+    let columns = match encode_columns(crew, ground, p, s) {
+        Ok(columns) => columns,
+        Err(_) => return Err(AllocError),
+    };
+    files.push(Unwritten::Segment { p, s, columns })?;
+    files.push(Unwritten::Delta { p, s })?;
+    Ok(())
+}
+
+/// Whether the loss affects a join index: its segment is lost, or a segment of its target.
+fn is_affected(ground: &Ground<'_, '_>, p: u16, s: u16, q: u16) -> bool
+    requires segment { HasSegment ground.now.catalog.now p s }
+    requires target { q < length ground.now.catalog.now.projections }
+    ensures { result ≡ is_affected ground.now.catalog.now ground.now.loss p s q }
+{
+    if !ground.catalog.has_join(p, q) {
+        return false;
+    }
+    if ground.catalog.lost(p, s, ground.loss) {
+        return true;
+    }
+    !alive(ground.catalog, ground.loss, q)
+}
+
+/// Puts the join indexes of a segment that the loss affects at the end of a list.
+fn push_joins(
+    files: &mut Vec<Unwritten>,
+    ground: &Ground<'_, '_>,
+    p: u16,
+    s: u16,
+) -> Result<(), AllocError>
+    requires segment { HasSegment ground.now.catalog.now p s }
+    requires each { All (IsToWrite ground.now) files.old.items }
+    ensures each { OnOk result (All (IsToWrite ground.now) files.new.items) }
+    ensures names { OnOk result (map name_of files.new.items ≡ map name_of files.old.items ++ join_names ground.now.catalog.now ground.now.loss p s (length ground.now.catalog.now.projections)) }
+{
+    for q in 0..ground.catalog.projection_count() {
+        if !is_affected(ground, p, s, q) {
+            continue;
+        }
+        files.push(Unwritten::Join { p, s, q })?;
+    }
+    Ok(())
+}
+
+/// Puts what is to be written of a projection at the end of a list.
+fn push_projection<R: Threads + Sync, G: Gate + Sync>(
+    files: &mut Vec<Unwritten>,
+    crew: &Crew<'_, '_, R, G>,
+    ground: &Ground<'_, '_>,
+    p: u16,
+) -> Result<(), AllocError>
+    requires projection { p < length ground.now.catalog.now.projections }
+    requires sound { IsSound ground.now }
+    requires each { All (IsToWrite ground.now) files.old.items }
+    ensures each { OnOk result (All (IsToWrite ground.now) files.new.items) }
+    ensures names { OnOk result (map name_of files.new.items ≡ map name_of files.old.items ++ names_in ground.now.catalog.now ground.now.loss p (segments ground.now.catalog.now p)) }
+{
+    for s in 0..ground.catalog.segments(p) {
+        push_base(files, crew, ground, p, s)?;
+        push_joins(files, ground, p, s)?;
+    }
+    Ok(())
+}
+
+/// All files that are to be written, segment by segment: so the segments, which are most of the work, are spread over the
+/// list, and over the threads to which its parts go.
+pub fn unwritten_files<R: Threads + Sync, G: Gate + Sync>(
+    crew: &Crew<'_, '_, R, G>,
+    ground: &Ground<'_, '_>,
+) -> Result<Vec<Unwritten>, AllocError>
+    requires sound { IsSound ground.now }
+    ensures each { IfOk result (λ files. All (IsToWrite ground.now) files.items) }
+    ensures all { IfOk result (λ files. (n : NameData) → IsIn n (map name_of files.items) ⊎ (written_on ground.now n ≡ None)) }
+{
+    let mut files = Vec::new(crew.alloc);
+    for p in 0..ground.catalog.projection_count() {
+        push_projection(&mut files, crew, ground, p)?;
+    }
+    Ok(files)
+}
