@@ -10,6 +10,7 @@ pub mod SortColumns
 pub mod AllOrders
 pub mod SampleColumns
 pub mod KeyLed
+pub mod KeyTurns
 pub mod Leads
 pub mod Ties
 pub mod PassLemmas
