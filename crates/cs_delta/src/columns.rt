@@ -17,6 +17,27 @@ pub fn empty_like(alloc: Global, cells: &Cells) -> Cells
     }
 }
 
+/// The same in the room of the first spent column, where that is of this kind.
+pub fn empty_in(alloc: Global, spent: &mut Vec<Cells>, cells: &Cells) -> Cells
+    ensures values { values result ≡ [] }
+    ensures kind { kind_of result ≡ kind_of cells.now }
+{
+    if spent.is_empty() {
+        return empty_like(alloc, cells);
+    }
+    match (spent.remove(0), cells) {
+        (Cells::Ints(mut ints), Cells::Ints(_)) => {
+            ints.clear();
+            Cells::Ints(ints)
+        }
+        (Cells::Texts(mut texts), Cells::Texts(_)) => {
+            texts.clear();
+            Cells::Texts(texts)
+        }
+        _ => empty_like(alloc, cells),
+    }
+}
+
 /// The number of cells.
 pub fn count(cells: &Cells) -> usize
     ensures { result ≡ length (values cells.now) }

@@ -120,7 +120,7 @@ pub fn merge_owned(alloc: Global, segment: Segment, delta: &Delta) -> Result<Ima
         });
     }
     let keys = first_keys(alloc, rows)?;
-    let made = apply_layers(alloc, &keys, &columns, &delta.layers)?;
+    let made = apply_layers(alloc, &keys, columns, &delta.layers)?;
     let keys = Keys::listed(alloc, made.keys)?;
     Ok(Image {
         keys,

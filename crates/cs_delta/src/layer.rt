@@ -12,6 +12,7 @@ use crate::merging::{merge_column, merge_keys};
 use cs_schema::Cells;
 use cs_segment::fault::FileFault;
 use std::alloc::Global;
+use std::mem::replace;
 
 /// The keys of rows, and their cells by columns.
 #[derive(Drop)]
@@ -23,9 +24,10 @@ pub struct Rows {
 /// The most rows of an image.
 const ROW_LIMIT: usize = 1_048_576;
 
-/// The rows with the items of a layer applied.
+/// The rows with the items of a layer applied, in the room of spent columns.
 pub fn apply_layer(
     alloc: Global,
+    spent: &mut Vec<Cells>,
     keys: &[u32],
     columns: &[Cells],
     items: &[Item],
@@ -42,9 +44,10 @@ pub fn apply_layer(
     if merged_keys.len() > ROW_LIMIT {
         return Err(FileFault::Damaged);
     }
+    let rows = merged_keys.len();
     let mut merged = Vec::new(alloc);
     for (j, column) in columns.iter().enumerate() {
-        merged.push(merge_column(alloc, column, items, j)?)?;
+        merged.push(merge_column(alloc, spent, rows, column, items, j)?)?;
     }
     Ok(Rows {
         keys: merged_keys,
@@ -53,31 +56,34 @@ pub fn apply_layer(
 }
 
 /// The rows with the items of layers applied, the lowest first. A layer above the lowest that has no items makes no
-/// columns anew.
+/// columns anew, and one that has some makes them in the room of those below the ones that it changes.
 pub fn apply_layers(
     alloc: Global,
     keys: &[u32],
-    columns: &[Cells],
+    columns: Vec<Cells>,
     layers: &[Vec<Item>],
 ) -> Result<Rows, FileFault>
     requires some { 1 ≤ length layers.now }
-    requires layers { AreLayers (map kind_of columns.now) keys.now (map changes_of layers.now) }
-    requires lengths { HaveLength (length keys.now) (map values columns.now) }
-    ensures made { IfOk result (λ made. IsMadeBy keys.now (map values columns.now) (map changes_of layers.now) made.keys.items (map values made.columns.items)) }
+    requires layers { AreLayers (map kind_of columns.items) keys.now (map changes_of layers.now) }
+    requires lengths { HaveLength (length keys.now) (map values columns.items) }
+    ensures made { IfOk result (λ made. IsMadeBy keys.now (map values columns.items) (map changes_of layers.now) made.keys.items (map values made.columns.items)) }
     ensures few { IfOk result (λ made. length made.keys.items ≤ 1048576) }
     ensures lengths { IfOk result (λ made. HaveLength (length made.keys.items) (map values made.columns.items)) }
-    ensures kinds { IfOk result (λ made. map kind_of made.columns.items ≡ map kind_of columns.now) }
+    ensures kinds { IfOk result (λ made. map kind_of made.columns.items ≡ map kind_of columns.items) }
     ensures many { result ≡ Err FileFault.Damaged → (xs : List Pair) → map key_of xs ≡ keys.now → AllFit (map changes_of layers.now) xs → ⊥ }
 {
     let Some((lowest, above)) = layers.split_first() else {
         unreachable!()
     };
-    let mut made = apply_layer(alloc, keys, columns, lowest)?;
+    let mut spent = Vec::new(alloc);
+    let mut made = apply_layer(alloc, &mut spent, keys, &columns, lowest)?;
+    spent = columns;
     for layer in above {
         if !layer.is_empty() {
             let keys_below = made.keys.as_slice();
             let columns_below = made.columns.as_slice();
-            made = apply_layer(alloc, keys_below, columns_below, layer)?;
+            let next = apply_layer(alloc, &mut spent, keys_below, columns_below, layer)?;
+            spent = replace(&mut made, next).columns;
         }
     }
     Ok(made)

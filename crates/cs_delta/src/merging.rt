@@ -7,7 +7,7 @@ ghost use Rattle.cs_delta.specs.Edits.{AreEdits, edited_from};
 ghost use Rattle.cs_delta.specs.ItemView.{change_of, cell_edits, key_edits, HasKind};
 ghost use Rattle.cs_delta.specs.MergeSteps.{Steps};
 
-use crate::columns::{count, empty_like, push};
+use crate::columns::{count, empty_in, push};
 use crate::item::Item;
 use cs_schema::Cells;
 use std::alloc::{AllocError, Global};
@@ -80,9 +80,11 @@ fn apply_to_keys(
     }
 }
 
-/// A column with the items of a layer applied.
+/// A column with the items of a layer applied, which leave so many rows, in the room of the first spent column.
 pub fn merge_column(
     alloc: Global,
+    spent: &mut Vec<Cells>,
+    rows: usize,
     base: &Cells,
     items: &[Item],
     j: usize,
@@ -92,8 +94,8 @@ pub fn merge_column(
     ensures merged { IfOk result (λ cells. values cells ≡ edited_from (cell_edits j (map change_of items.now)) 0 (values base.now)) }
     ensures kind { IfOk result (λ cells. kind_of cells ≡ kind_of base.now) }
 {
-    let mut out = empty_like(alloc, base);
-    out.reserve(base.len().saturating_add(items.len()))?;
+    let mut out = empty_in(alloc, spent, base);
+    out.reserve(rows)?;
     let mut done = 0;
     for item in items {
         done = apply_to_column(&mut out, base, item, j, done)?;

@@ -37,20 +37,20 @@ apply_layers-requires-clause-some c =
     let d = c.args.delta.now in
     let some = some_layers d.version (length d.layers) c.requires.delta.version in
     let layers = ap (λ (x : DeltaData). length x.layers) c.delta.view_is in
-    omega (arith, some, layers, length-map c.delta.inside.layers.items changes_of, ap length c.deref-4.ensures.value)
+    omega (arith, some, layers, length-map c.delta.inside.layers.items changes_of, ap length c.deref-3.ensures.value)
 
 pub apply_layers-requires-clause-layers : goal.apply_layers-requires-clause-layers
 apply_layers-requires-clause-layers c =
     let req = may (segment_data c.segment.inside) c.args.segment (delta_data c.delta.inside) c.args.delta.now c.segment.view_is c.delta.view_is (may_merge c.args.segment c.args.delta.now c.requires) in
     let same : c.segment.inside.rows ≡ c.delta.inside.rows = omega arith in
     let N : List ℕ → Type 0 = λ n. AreLayers (map kind_of c.segment.inside.columns.items) n (map changes_of c.delta.inside.layers.items) in
-    rw (c.deref-2.ensures.value, c.deref-3.ensures.value, c.deref-4.ensures.value) (subst N (sym (c.in_ok-keys.ensures ∙ ap base_keys same)) req.layers)
+    rw (c.deref-2.ensures.value, c.deref-3.ensures.value) (subst N (sym (c.in_ok-keys.ensures ∙ ap base_keys same)) req.layers)
 
 pub apply_layers-requires-clause-lengths : goal.apply_layers-requires-clause-lengths
 apply_layers-requires-clause-lengths c =
     let req = may (segment_data c.segment.inside) c.args.segment (delta_data c.delta.inside) c.args.delta.now c.segment.view_is c.delta.view_is (may_merge c.args.segment c.args.delta.now c.requires) in
     let N : ℕ → Type 0 = λ n. HaveLength n (map values c.segment.inside.columns.items) in
-    rw (c.deref-2.ensures.value, c.deref-3.ensures.value) (subst N (sym (ap length c.in_ok-keys.ensures ∙ length-base_keys c.segment.inside.rows)) req.lengths)
+    rw c.deref-2.ensures.value (subst N (sym (ap length c.in_ok-keys.ensures ∙ length-base_keys c.segment.inside.rows)) req.lengths)
 
 pub returns-in_err-made-clause-refused : goal.returns-in_err-made-clause-refused
 returns-in_err-made-clause-refused c = λ damaged h.
@@ -58,7 +58,7 @@ returns-in_err-made-clause-refused c = λ damaged h.
     let req = may (segment_data c.segment.inside) c.args.segment (delta_data c.delta.inside) c.args.delta.now c.segment.view_is c.delta.view_is (may_merge c.args.segment c.args.delta.now c.requires) in
     let fit = can (segment_data c.segment.inside) c.args.segment (delta_data c.delta.inside) c.args.delta.now c.segment.view_is c.delta.view_is h in
     let base = (segment_data c.segment.inside).base in
-    let many = rw (c.deref-2.ensures.value, c.deref-4.ensures.value) at c.in_err-made.ensures.many in
+    let many = rw (c.deref-2.ensures.value, c.deref-3.ensures.value) at c.in_err-made.ensures.many in
     many (let r1 = q.1 in let r2 = q.2 in cc) (base_pairs base) ((base_are base req.lengths).keys_are ∙ sym c.in_ok-keys.ensures) fit.few
 
 pub returns-clause-merged : goal.returns-clause-merged
@@ -66,8 +66,8 @@ returns-clause-merged c =
     let req = may (segment_data c.segment.inside) c.args.segment (delta_data c.delta.inside) c.args.delta.now c.segment.view_is c.delta.view_is (may_merge c.args.segment c.args.delta.now c.requires) in
     let x = segment_data c.segment.inside in
     let y = delta_data c.delta.inside in
-    let made = rw (c.deref-2.ensures.value, c.in_ok-keys.ensures, c.deref-3.ensures.value, c.deref-4.ensures.value) at c.in_ok-made.ensures.made in
-    let kinds = rw c.deref-3.ensures.value at c.in_ok-made.ensures.kinds in
+    let made = rw (c.deref-2.ensures.value, c.in_ok-keys.ensures, c.deref-3.ensures.value) at c.in_ok-made.ensures.made in
+    let kinds = c.in_ok-made.ensures.kinds in
     let columns = map values c.in_ok-made.made.columns.items in
     let M : List ℕ → Type 0 = λ keys. IsMadeBy (base_keys x.base.rows) x.base.columns y.layers keys columns in
     merged_is x.base y x.kinds (map kind_of c.in_ok-made.made.columns.items) c.in_ok-keys-2.keys columns c.delta.inside.top req.lengths (subst M (sym c.in_ok-keys-2.ensures) made) refl kinds
@@ -78,7 +78,7 @@ returns-clause-can c =
     let req = may (segment_data c.segment.inside) c.args.segment (delta_data c.delta.inside) c.args.delta.now c.segment.view_is c.delta.view_is (may_merge c.args.segment c.args.delta.now c.requires) in
     let x = segment_data c.segment.inside in
     let y = delta_data c.delta.inside in
-    let made = rw (c.deref-2.ensures.value, c.in_ok-keys.ensures, c.deref-3.ensures.value, c.deref-4.ensures.value) at c.in_ok-made.ensures.made in
+    let made = rw (c.deref-2.ensures.value, c.in_ok-keys.ensures, c.deref-3.ensures.value) at c.in_ok-made.ensures.made in
     can c.args.segment x c.args.delta.now y (sym c.segment.view_is) (sym c.delta.view_is) (can_merge x.base y c.in_ok-made.made.keys.items (map values c.in_ok-made.made.columns.items) req.lengths (omega arith) made)
 
 -- where the layers have no items, the base's keys and columns stand

@@ -9,28 +9,29 @@ use Rattle.cs_delta.specs.Layers.{AreLayers, IsMadeBy}
 use Rattle.cs_delta.proofs.MakeSteps.{drop_item}
 use Rattle.cs_delta.proofs.LayerSteps.{AreMade, made_first, made_next, made_none, split_at, too_many, same_keys, same_columns}
 use Rattle.cs_delta.proofs.layer.apply_layers.Goals as goal
-use Rattle.cs_delta.proofs.layer.apply_layers.Goals.{then-not-is_empty+in_ok-made-2, else-not-is_empty}
+use Rattle.cs_delta.proofs.layer.apply_layers.Goals.{then-not-is_empty+in_ok-next, else-not-is_empty}
 
 pub returns-in_err-made-clause-many : goal.returns-in_err-made-clause-many
 returns-in_err-made-clause-many c = λ damaged xs e fit.
     let q = err_from_is_err_and c.from_residual.result c.from_residual.ensures.1 in
     let keys = c.args.keys.now in
-    let columns = map values c.args.columns.now in
-    let many = rw c.deref.ensures.value at c.in_err-made.ensures.many in
+    let columns = map values c.args.columns.items in
+    let many = rw c.deref-2.ensures.value at c.in_err-made.ensures.many in
     too_many keys keys columns columns (map changes_of c.args.layers.now) [] (map changes_of c.in-Some.above.now) (changes_of c.in-Some.lowest.now) xs
     (ap (map changes_of) c.in-Some.ensures.cases.0) (made_none keys columns) e (many (let r1 = q.1 in let r2 = q.2 in cc)) fit
 
 pub loop-layer-init : goal.loop-layer-init
 loop-layer-init c =
-    let columns = c.args.columns.now in
+    let columns = c.args.columns.items in
     let lowest = c.in-Some.lowest.now in
     let above = c.in-Some.above.now in
     let new = c.in_ok-made.made in
-    let keys = rw c.deref.ensures.value at c.in_ok-made.ensures.keys in
-    let cells = rw c.deref.ensures.value at c.in_ok-made.ensures.columns in
+    let keys = rw c.deref-2.ensures.value at c.in_ok-made.ensures.keys in
+    let cells = rw (c.deref.ensures.value, c.deref-2.ensures.value) at c.in_ok-made.ensures.columns in
+    let kinds = rw c.deref.ensures.value at c.in_ok-made.ensures.kinds in
     let A : List (Vec Item Global) → Type 0 = λ x. AreLayers (map kind_of columns) c.args.keys.now (map changes_of x) in
     let first = made_first c.args.keys.now (map values columns) (map kind_of columns) (map changes_of (lowest ∷ above)) (subst A c.in-Some.ensures.cases.0 c.requires.layers) c.requires.lengths (length-map columns kind_of ∙ sym (length-map columns values)) in
-    let made = made_next c.args.keys.now c.args.keys.now new.keys.items (map values columns) (map values columns) (map values new.columns.items) (map kind_of columns) (map kind_of columns) (map kind_of new.columns.items) [] (changes_of lowest) (map changes_of above) first keys cells c.in_ok-made.ensures.kinds c.in_ok-made.ensures.few in
+    let made = made_next c.args.keys.now c.args.keys.now new.keys.items (map values columns) (map values columns) (map values new.columns.items) (map kind_of columns) (map kind_of columns) (map kind_of new.columns.items) [] (changes_of lowest) (map changes_of above) first keys cells kinds c.in_ok-made.ensures.few in
     record {
       made_are = λ other e.
           let both : lowest ∷ above ≡ other ∷ above = sym c.in-Some.ensures.cases.0 ∙ e in
@@ -55,17 +56,17 @@ apply_layer-requires-then-not-is_empty-clause-lengths c =
     let i = c.loop-layer.invariant.made_are c.in-Some.lowest.now c.in-Some.ensures.cases.0 in
     rw (c.as_slice-columns_below.ensures.value, c.as_slice-keys_below.ensures.value) i.lengths
 
-pub returns-in_err-made-2-clause-many : goal.returns-in_err-made-2-clause-many
-returns-in_err-made-2-clause-many c = λ damaged xs e fit.
+pub returns-in_err-next-clause-many : goal.returns-in_err-next-clause-many
+returns-in_err-next-clause-many c = λ damaged xs e fit.
     let i = c.loop-layer.invariant.made_are c.in-Some.lowest.now c.in-Some.ensures.cases.0 in
     let above = c.in-Some.above.now in
     let lowest = changes_of c.in-Some.lowest.now in
     let n = c.loop-layer.layer-index in
     let layer = c.layer-item.result in
     let old = c.loop-layer.made in
-    let q = err_from_is_err_and c.from_residual-in_err-made-2.result c.from_residual-in_err-made-2.ensures.1 in
-    let many = rw (c.as_slice-keys_below.ensures.value, c.deref-then-not-is_empty.ensures.value) at c.in_err-made-2.ensures.many in
-    too_many c.args.keys.now old.keys.items (map values c.args.columns.now) (map values old.columns.items)
+    let q = err_from_is_err_and c.from_residual-in_err-next.result c.from_residual-in_err-next.ensures.1 in
+    let many = rw (c.as_slice-keys_below.ensures.value, c.deref-then-not-is_empty.ensures.value) at c.in_err-next.ensures.many in
+    too_many c.args.keys.now old.keys.items (map values c.args.columns.items) (map values old.columns.items)
     (map changes_of c.args.layers.now) (lowest ∷ map changes_of (take n above)) (map changes_of (drop (n + 1) above)) (changes_of layer) xs
     (ap (map changes_of) c.in-Some.ensures.cases.0 ∙ ap (λ (ls : List (List Change)). lowest ∷ ls) (split_at changes_of above n layer c.loop-layer-test.true c.layer-item.is))
     i.made_is e (many (let r1 = q.1 in let r2 = q.2 in cc)) fit
@@ -77,21 +78,21 @@ loop-layer-preserved c =
     let layer = c.layer-item.result in
     let old = c.loop-layer.made in
     let l : List Change = changes_of layer in
-    let columns = c.args.columns.now in
+    let columns = c.args.columns.items in
     let more : map changes_of (take (n + 1) above) ≡ map changes_of (take n above) ++ l ∷ [] = map_more changes_of above n layer c.loop-layer-test.true ∙ ap (λ (y : Vec Item Global). map changes_of (take n above) ++ changes_of y ∷ []) (sym c.layer-item.is) in
     let A : (lowest : Vec Item Global) → List (Vec Item Global) → Type 0 = λ lowest x. AreMade c.args.keys.now (map values columns) (map kind_of columns) (changes_of lowest ∷ map changes_of (take n above)) (map changes_of x) old.keys.items (map values old.columns.items) (map kind_of old.columns.items) in
     let before : (lowest : Vec Item Global) → c.args.layers.now ≡ lowest ∷ above → A lowest (layer ∷ drop (n + 1) above) = λ lowest e. subst (A lowest) (drop_item above n layer c.loop-layer-test.true c.layer-item.is) (c.loop-layer.invariant.made_are lowest e) in
     elim c.if-not-is_empty.branch [
-      | then-not-is_empty+in_ok-made-2 w ↦
-          let new = w.in_ok-made-2.made in
-          let keys = rw (w.as_slice-keys_below.ensures.value, w.deref-then-not-is_empty.ensures.value) at w.in_ok-made-2.ensures.keys in
-          let cells = rw (w.as_slice-columns_below.ensures.value, w.deref-then-not-is_empty.ensures.value) at w.in_ok-made-2.ensures.columns in
-          let kinds = rw w.as_slice-columns_below.ensures.value at w.in_ok-made-2.ensures.kinds in
-          rw w.made-is (record {
+      | then-not-is_empty+in_ok-next w ↦
+          let new = w.in_ok-next.next in
+          let keys = rw (w.as_slice-keys_below.ensures.value, w.deref-then-not-is_empty.ensures.value) at w.in_ok-next.ensures.keys in
+          let cells = rw (w.as_slice-columns_below.ensures.value, w.deref-then-not-is_empty.ensures.value) at w.in_ok-next.ensures.columns in
+          let kinds = rw w.as_slice-columns_below.ensures.value at w.in_ok-next.ensures.kinds in
+          rw (w.made-is, w.replace.ensures.after) (record {
             made_are = λ lowest e.
                 let M : List (List Change) → Type 0 = λ x. AreMade c.args.keys.now (map values columns) (map kind_of columns) (changes_of lowest ∷ x) (map changes_of (drop (n + 1) above)) new.keys.items (map values new.columns.items) (map kind_of new.columns.items) in
-                subst M (sym more) (made_next c.args.keys.now old.keys.items new.keys.items (map values columns) (map values old.columns.items) (map values new.columns.items) (map kind_of columns) (map kind_of old.columns.items) (map kind_of new.columns.items) (changes_of lowest ∷ map changes_of (take n above)) l (map changes_of (drop (n + 1) above)) (before lowest e) keys cells kinds w.in_ok-made-2.ensures.few);
-            few = w.in_ok-made-2.ensures.few;
+                subst M (sym more) (made_next c.args.keys.now old.keys.items new.keys.items (map values columns) (map values old.columns.items) (map values new.columns.items) (map kind_of columns) (map kind_of old.columns.items) (map kind_of new.columns.items) (changes_of lowest ∷ map changes_of (take n above)) l (map changes_of (drop (n + 1) above)) (before lowest e) keys cells kinds w.in_ok-next.ensures.few);
+            few = w.in_ok-next.ensures.few;
           })
       | else-not-is_empty w ↦
           let none : length layer.items ≡ 0 = grind (arith, c.is_empty.ensures, w.if-not-is_empty.ensures) in
@@ -109,7 +110,7 @@ returns-clause-made c =
     let i = c.loop-layer.invariant.made_are c.in-Some.lowest.now c.in-Some.ensures.cases.0 in
     let above = c.in-Some.above.now in
     let all : changes_of c.in-Some.lowest.now ∷ map changes_of (take c.loop-layer.layer-index above) ≡ map changes_of c.args.layers.now = ap (λ (x : List (Vec Item Global)). map changes_of (c.in-Some.lowest.now ∷ x)) (take_all c.loop-layer.layer-index above (omega arith)) ∙ ap (map changes_of) (sym c.in-Some.ensures.cases.0) in
-    let M : List (List Change) → Type 0 = λ x. IsMadeBy c.args.keys.now (map values c.args.columns.now) x c.loop-layer.made.keys.items (map values c.loop-layer.made.columns.items) in
+    let M : List (List Change) → Type 0 = λ x. IsMadeBy c.args.keys.now (map values c.args.columns.items) x c.loop-layer.made.keys.items (map values c.loop-layer.made.columns.items) in
     subst M all i.made_is
 
 pub returns-clause-lengths : goal.returns-clause-lengths
