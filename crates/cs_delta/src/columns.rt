@@ -17,7 +17,7 @@ pub fn empty_like(alloc: Global, cells: &Cells) -> Cells
     }
 }
 
-/// The same in the room of the first spent column, where that is of this kind.
+/// The same in the room of the first spent column, where that is of this kind. It is taken off the list in any case.
 pub fn empty_in(alloc: Global, spent: &mut Vec<Cells>, cells: &Cells) -> Cells
     ensures values { values result ≡ [] }
     ensures kind { kind_of result ≡ kind_of cells.now }
@@ -25,6 +25,7 @@ pub fn empty_in(alloc: Global, spent: &mut Vec<Cells>, cells: &Cells) -> Cells
     if spent.is_empty() {
         return empty_like(alloc, cells);
     }
+    // they are few: so it takes no time that those behind move up
     match (spent.remove(0), cells) {
         (Cells::Ints(mut ints), Cells::Ints(_)) => {
             ints.clear();
