@@ -1,9 +1,10 @@
 -- Rows from the columns that were joined, and the width of rows that were walked.
 use Rattle.std.proofs.Common.{◌≡◌, ℕ, zero, suc, ◌+◌, ◌-◌, ◌<◌, List, [], ◌∷◌, length, map, get_or, refl, sym, ap, ◌∙◌, subst, arith, Bool, true, false, cond, Option, Some, None, Result, Ok, Err}
-use Rattle.std.specs.Prelude.{All, Contains, IfOk, MatchResult, pos}
+use Rattle.std.specs.Prelude.{All, Contains, IfOk, IfSome, MatchResult, pos}
 use Rattle.std.specs.List.{AllZip, range_with_len, flat_map, filter_map, cons_option}
-use Rattle.std.specs.Option.{option_and_then, option_map_or}
+use Rattle.std.specs.Option.{is_some, unwrap_or, option_and_then, option_map_or}
 use Rattle.std.specs.declared.alloc.AllocError.{AllocError}
+use Rattle.std.proofs.lemmas.Bool.{both_ways}
 use Rattle.std.proofs.lemmas.List.Elements.{All-nil, All-cons, All-append}
 use Rattle.std.proofs.lemmas.List.FromFn.{length-map-range_with_len}
 use Rattle.cs_schema.specs.declared.cells.Cells.{Cells}
@@ -15,9 +16,11 @@ use Rattle.cs_safety.specs.PlanData.{PlanData}
 use Rattle.cs_rows.specs.Columns.{ColumnsFit}
 use Rattle.cs_rows.specs.RangeByRows.{row_from}
 use Rattle.cs_rows.specs.RowSteps.{AreRows}
+use Rattle.cs_rows.specs.TableView.{over}
 use Rattle.cs_rows.specs.Walk.{At, Contents, walked_row, walked_cell, image_cell}
 use Rattle.cs_rows.specs.WalkByRows.{Reached, Found, found_from, found_row, full_row, is_full, source_in}
 use Rattle.cs_rows.specs.WalkedView.{WalkedData}
+use Rattle.cs_rows.proofs.TableLemmas as table
 use Rattle.cs_rebuild.specs.Walking.{HasTableWidth, IsColumnOf}
 
 -- ---- columns, one by one
@@ -31,33 +34,58 @@ all_there R items n numbers results (Ok v) e zipped there =
     subst (λ ns. AllZip R ns (map Ok (items v))) (e ∙ ap (range_with_len 0) whole) (subst (AllZip R numbers) (there.1 ∙ ap (map Ok) (sym there.2)) zipped)
 all_there R items n numbers results (Err x) e zipped there = tt
 
-module _ (C : CatalogData) (rows : List Row) where
+-- results place by place, by what is known of each
+pub zipped_as : {X Y : Type 0} {R : X → Y → Type 0} (S : X → Y → Type 0) (xs : List X) (ys : List Y) → AllZip R xs ys → ((x : X) (y : Y) → R x y → S x y) → AllZip S xs ys
+zipped_as S [] [] h turn = tt
+zipped_as S [] (y ∷ ys) h turn = h
+zipped_as S (x ∷ xs) [] h turn = h
+zipped_as S (x ∷ xs) (y ∷ ys) h turn = (turn x y h.0, zipped_as S xs ys h.1 turn)
+
+module _ (C : CatalogData) (rows : List Row) (lent : List (Option Cells)) where
+  -- a column, or what is lent in its place, has the cells of the rows
+  abbrev pub IsColumn : ℕ → Cells → Type 0
+  IsColumn c cells = IsColumnOf C rows c (unwrap_or (get_or lent c None) cells)
+
   abbrev pub IsJoined : ℕ → Result Cells AllocError → Type 0
-  IsJoined c r = IfOk r (IsColumnOf C rows c)
+  IsJoined c r = IfOk r (IsColumn c)
 
   columns_from : (a n : ℕ) (columns : List Cells) → AllZip IsJoined (range_with_len a n) (map Ok columns)
-      → (length columns ≡ n) × ((k : ℕ) (d : Cells) → k < n → IsColumnOf C rows (a + k) (get_or columns k d))
+      → (length columns ≡ n) × ((k : ℕ) (d : Cells) → k < n → IsColumn (a + k) (get_or columns k d))
   columns_from a zero [] h = (refl, λ k d l. absurd (omega arith))
   columns_from a zero (x ∷ xs) h = absurd h
   columns_from a (suc n) [] h = absurd h
   columns_from a (suc n) (x ∷ xs) h = go (columns_from (a + 1) n xs h.1)
     where
-      go : (length xs ≡ n) × ((k : ℕ) (d : Cells) → k < n → IsColumnOf C rows (a + 1 + k) (get_or xs k d)) → (length (x ∷ xs) ≡ suc n) × ((k : ℕ) (d : Cells) → k < suc n → IsColumnOf C rows (a + k) (get_or (x ∷ xs) k d))
+      go : (length xs ≡ n) × ((k : ℕ) (d : Cells) → k < n → IsColumn (a + 1 + k) (get_or xs k d)) → (length (x ∷ xs) ≡ suc n) × ((k : ℕ) (d : Cells) → k < suc n → IsColumn (a + k) (get_or (x ∷ xs) k d))
       go rest = (ap suc rest.0, each)
         where
-          each : (k : ℕ) (d : Cells) → k < suc n → IsColumnOf C rows (a + k) (get_or (x ∷ xs) k d)
-          each zero d l = subst (λ c. IsColumnOf C rows c x) (let e : a ≡ a + 0 = omega arith in e) h.0
-          each (suc k) d l = subst (λ c. IsColumnOf C rows c (get_or xs k d)) (let e : a + 1 + k ≡ a + suc k = omega arith in e) (rest.1 k d (omega arith))
+          each : (k : ℕ) (d : Cells) → k < suc n → IsColumn (a + k) (get_or (x ∷ xs) k d)
+          each zero d l = subst (λ c. IsColumn c x) (let e : a ≡ a + 0 = omega arith in e) h.0
+          each (suc k) d l = subst (λ c. IsColumn c (get_or xs k d)) (let e : a + 1 + k ≡ a + suc k = omega arith in e) (rest.1 k d (omega arith))
 
   module _ (columns : List Cells) (joined : AllZip IsJoined (range_with_len 0 (length C.columns)) (map Ok columns)) where
-    each : (k : ℕ) (d : Cells) → k < length C.columns → IsColumnOf C rows k (get_or columns k d)
-    each k d l = subst (λ c. IsColumnOf C rows c (get_or columns k d)) (let e : 0 + k ≡ k = omega arith in e) ((columns_from 0 (length C.columns) columns joined).1 k d l)
+    long : length columns ≡ length C.columns
+    long = (columns_from 0 (length C.columns) columns joined).0
 
-    pub joined_fit : ColumnsFit C columns
-    joined_fit = record { count = (columns_from 0 (length C.columns) columns joined).0; kinds = λ c d l. (each c d l).0 }
+    each : (k : ℕ) (d : Cells) → k < length C.columns → IsColumnOf C rows k (get_or (over columns lent) k d)
+    each k d l =
+        subst (IsColumnOf C rows k) (sym (table.each columns lent k d (omega (arith, l, long))))
+        (subst (λ c. IsColumn c (get_or columns k d)) (let e : 0 + k ≡ k = omega arith in e) ((columns_from 0 (length C.columns) columns joined).1 k d l))
 
-    pub joined_rows : AreRows C rows columns
+    pub joined_fit : ColumnsFit C (over columns lent)
+    joined_fit = record { count = table.count columns lent ∙ long; kinds = λ c d l. (each c d l).0 }
+
+    pub joined_rows : AreRows C rows (over columns lent)
     joined_rows c d l = (each c d l).1
+
+  -- a column that is lent, and one that is not
+  pub lent_there : (c : ℕ) (x : Cells) (o : Option Cells) → is_some o ≡ true → IfSome o (IsColumnOf C rows c) → IsColumnOf C rows c (unwrap_or o x)
+  lent_there c x None e h = absurd (both_ways true (sym e) refl)
+  lent_there c x (Some b) e h = h
+
+  pub made_there : (c : ℕ) (x : Cells) (o : Option Cells) → is_some o ≡ false → IsColumnOf C rows c x → IsColumnOf C rows c (unwrap_or o x)
+  made_there c x None e h = h
+  made_there c x (Some b) e h = absurd (both_ways true e refl)
 
 -- ---- the width of rows
 

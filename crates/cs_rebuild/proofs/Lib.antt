@@ -1,6 +1,5 @@
 pub mod AnchoredRows
 pub mod AppendedColumns
-pub mod LentColumns
 pub mod CellsAlike
 pub mod Compared
 pub mod Counts

@@ -1,9 +1,11 @@
 -- What the reading of one segment's files finds.
-use Rattle.std.specs.Prelude.{◌≡◌, ℕ, ◌<◌, ◌≤◌, true, List, map, Option, Some, None, length, slice_get}
+use Rattle.std.specs.Prelude.{◌≡◌, ℕ, ◌<◌, ◌≤◌, true, List, map, Option, Some, None, Vec, Result, IfOk, IfErr, length, slice_get}
+use Rattle.std.specs.Global.{Global}
 use Rattle.std.specs.List.{filter}
 use Rattle.std.specs.declared.cmp.Ordering.TheVariants.{Less}
 use Rattle.cs_schema.specs.declared.file_name.FileName.{FileName}
 use Rattle.cs_store.specs.declared.fault.Fault.{Fault}
+use Rattle.cs_store.specs.Fault.{MemoryOr}
 use Rattle.cs_schema.specs.CatalogData.{CatalogData, has_join}
 use Rattle.cs_schema.specs.FileNames.{FileContents, HasName, name_cmp, projection_of, segment_of}
 use Rattle.cs_schema.specs.Lists.{IsIn, numbers_below}
@@ -84,6 +86,18 @@ pub record IsFirstBadJoin (C : CatalogData) (F : FileContents) (p s : ℕ) (f : 
   pub declared : has_join C p target ≡ true
   pub refused : IsRefused C F (FileName.Jix p s target) f
   pub before : (r : ℕ) → r < target → has_join C p r ≡ true → IsSound C F (FileName.Jix p s r)
+
+-- what the reading of a segment's file finds
+abbrev pub IsBaseRead : CatalogData → FileContents → ℕ → ℕ → Result SegmentData Fault → Type 0
+IsBaseRead C F p s r = IfOk r (HoldsBase C F p s) × IfErr r (λ f. MemoryOr f (IsRefused C F (FileName.Seg p s) f))
+
+-- what the reading of a segment's delta and join indexes finds, each for itself
+pub record AreOthersRead (C : CatalogData) (F : FileContents) (p s : ℕ) (r : Result DeltaData Fault × Result (Vec (ℕ × List Place) Global) Fault) : Type 0 where
+  pub changes : IfOk r.0 (HoldsChanges C F p s)
+  pub refused : IfErr r.0 (λ f. MemoryOr f (IsRefused C F (FileName.Del p s) f))
+  pub targets : IfOk r.1 (λ joins. map (λ j. j.0) joins.items ≡ joins_of C p)
+  pub joins : IfOk r.1 (λ joins. (j : ℕ × List Place) → IsIn j joins.items → IsJoinOf F p s j.0 j.1)
+  pub bad : IfErr r.1 (λ f. MemoryOr f (IsFirstBadJoin C F p s f))
 
 -- what the fault of the i-th of some segments is, and what an answer there meets
 abbrev pub FilesFaultAt : CatalogData → FileContents → List (ℕ × ℕ) → ℕ → Option Fault → Type 0

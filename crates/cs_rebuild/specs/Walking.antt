@@ -1,6 +1,6 @@
 -- What the walks of pieces of rows find, by the rule of whole projections and by rows.
-use Rattle.std.specs.Prelude.{◌≡◌, ℕ, ◌*◌, List, map, length, take, drop, Option, All}
-use Rattle.std.specs.Option.{option_map}
+use Rattle.std.specs.Prelude.{◌≡◌, ℕ, ◌<◌, ◌*◌, List, map, length, take, drop, slice_index_or, Option, None, All, IfSome}
+use Rattle.std.specs.Option.{option_map, unwrap_or}
 use Rattle.std.specs.List.{find, filter_map}
 use Rattle.cs_store.specs.declared.fault.Fault.{Fault}
 use Rattle.cs_schema.specs.CatalogData.{CatalogData, column}
@@ -30,6 +30,10 @@ HasTableWidth C w = All (λ row. length row ≡ length C.columns) w.rows
 abbrev pub IsColumnOf : CatalogData → List Row → ℕ → Cells → Type 0
 IsColumnOf C rows c cells = (kind_of cells ≡ (column C c).kind) × (values cells ≡ map (λ row. cell row c) rows)
 
+-- what is lent in place of the table's columns has the cells of the rows
+abbrev pub AreLent : CatalogData → List Row → List (Option Cells) → Type 0
+AreLent C rows lent = (c : ℕ) → c < length C.columns → IfSome (slice_index_or lent c None) (IsColumnOf C rows c)
+
 -- ---- by whole projections
 
 abbrev pub stray_fault : PlanData → At → Fault
@@ -42,6 +46,14 @@ WalkFaultAt C S P cut i fault = fault ≡ option_map (stray_fault P) (find (is_a
 -- an answer at the i-th piece: the rows to which its rows lead
 abbrev pub WalkAnswerAt : CatalogData → Contents → PlanData → ℕ → ℕ → WalkedData → Type 0
 WalkAnswerAt C S P cut i w = HasTableKinds C w × (w.rows ≡ map (walked_row C S P) (piece_of cut (projection_rows C S P.anchor) i))
+
+-- what is lent in place of the table's columns has the cells of the anchor's rows
+pub record AreAnchorColumns (C : CatalogData) (S : Contents) (P : PlanData) (lent : List (Option Cells)) : Type 0 where
+  pub are : AreLent C (map (walked_row C S P) (projection_rows C S P.anchor)) lent
+
+-- what was copied for a column of the table, or is lent in its place, has the cells of the anchor's rows
+pub record IsAnchorColumn (C : CatalogData) (S : Contents) (P : PlanData) (lent : List (Option Cells)) (c : ℕ) (cells : Cells) : Type 0 where
+  pub is : IsColumnOf C (map (walked_row C S P) (projection_rows C S P.anchor)) c (unwrap_or (slice_index_or lent c None) cells)
 
 -- ---- by rows
 

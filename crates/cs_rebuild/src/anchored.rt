@@ -1,6 +1,6 @@
-//! The walk of a plan that reads each column at its anchor: its rows are followed in pieces, and then the columns are lent
-//! by the anchor's image, or each is copied once from its images in a thread of its own.
-ghost use Rattle.std.specs.Prelude.{◌≡◌, ◌<◌, ◌≤◌, ◌*◌, length, map, Ok, Err, IfOk, IfErr, IfSome};
+//! The walk of a plan that reads each column at its anchor: its rows are followed in pieces, and then each column
+//! is lent by the anchor's image, or copied once from its images in a thread of its own.
+ghost use Rattle.std.specs.Prelude.{◌≡◌, ◌<◌, ◌≤◌, ◌*◌, length, map, Ok, Err, IfOk, IfErr};
 ghost use Rattle.cs_schema.specs.CatalogRules.{IsCatalog};
 ghost use Rattle.cs_store.specs.Fault.{MemoryOr};
 ghost use Rattle.cs_store.specs.declared.fault.Fault.{Fault as FaultData};
@@ -8,17 +8,18 @@ ghost use Rattle.cs_rows.specs.Survivors.{HasRoom, HoldsImages, contents_of};
 ghost use Rattle.cs_rows.specs.Columns.{ColumnsFit};
 ghost use Rattle.cs_rows.specs.Range.{IsPlanOf, ReadsAnchorAlone};
 ghost use Rattle.cs_rows.specs.RowSteps.{AreRows};
+ghost use Rattle.cs_rows.specs.TableView.{over};
 ghost use Rattle.cs_rows.specs.Walk.{Stray, projection_rows, walked, walked_row};
 ghost use Rattle.cs_rebuild.specs.Steps.{is_memory};
-ghost use Rattle.cs_rebuild.specs.Walking.{HasTableKinds, IsColumnOf, WalkFaultAt};
+ghost use Rattle.cs_rebuild.specs.Walking.{AreAnchorColumns, HasTableKinds, IsAnchorColumn, WalkFaultAt};
 ghost use Rattle.cs_rebuild.specs.WorkLaws.{stray_is_no_memory, one_value};
 
-use crate::appending::column_count;
 use crate::crew::Crew;
+use crate::lending::{column_count, lent_columns};
 use cs_board::{Gate, RunFault, Work, run};
 use cs_rows::range::WalkFault;
-use cs_rows::whole::{anchor_column, follow_range, lone_column};
-use cs_rows::{Survivors, Table, Walked};
+use cs_rows::whole::{anchor_column, follow_range};
+use cs_rows::{Lent, Survivors, Table};
 use cs_safety::Plan;
 use cs_schema::{Catalog, Cells};
 use cs_store::Fault;
@@ -90,20 +91,46 @@ impl Work for FollowWork<'_> {
     ghost one_fault = { λ work i f g below a b. one_value _ f g a b };
 }
 
-/// The columns of the anchor's rows, each copied in a thread of its own.
+/// A copy of the anchor's cells in a column, or none where the column is lent.
+fn copy_unless_lent(
+    alloc: Global,
+    catalog: &Catalog,
+    plan: &Plan,
+    survivors: &Survivors,
+    lent: &Lent<'_>,
+    c: usize,
+) -> Result<Cells, AllocError>
+    requires catalog { IsCatalog catalog.now }
+    requires plan { ∥ IsPlanOf catalog.now plan.now ∥₁ }
+    requires room { HasRoom catalog.now survivors.now }
+    requires made { HoldsImages catalog.now survivors.now }
+    requires read { ReadsAnchorAlone catalog.now plan.now }
+    requires column { c < length catalog.now.columns }
+    requires lent { AreAnchorColumns catalog.now (contents_of survivors.now) plan.now lent.now }
+    ensures { IfOk result (IsAnchorColumn catalog.now (contents_of survivors.now) plan.now lent.now c) }
+{
+    if lent.has(c) {
+        return Ok(Cells::new(alloc, catalog.columns[c].kind));
+    }
+    anchor_column(alloc, catalog, plan, survivors, c)
+}
+
+/// The columns of the anchor's rows that are not lent, each copied in a thread of its own.
 fn copy_columns<R: Threads + Sync>(
     rt: &R,
     alloc: Global,
     catalog: &Catalog,
     plan: &Plan,
     survivors: &Survivors,
+    lent: &Lent<'_>,
 ) -> Result<Vec<Cells>, AllocError>
     requires plan { ∥ IsPlanOf catalog.now plan.now ∥₁ }
     requires room { HasRoom catalog.now survivors.now }
     requires made { HoldsImages catalog.now survivors.now }
     requires read { ReadsAnchorAlone catalog.now plan.now }
-    ensures fit { IfOk result (λ columns. ColumnsFit catalog.now columns.items) }
-    ensures rows { IfOk result (λ columns. AreRows catalog.now (map (walked_row catalog.now (contents_of survivors.now) plan.now) (projection_rows catalog.now (contents_of survivors.now) plan.now.anchor)) columns.items) }
+    requires lent { AreAnchorColumns catalog.now (contents_of survivors.now) plan.now lent.now }
+    ensures fit { IfOk result (λ columns. ColumnsFit catalog.now (over columns.items lent.now)) }
+    ensures rows { IfOk result (λ columns. AreRows catalog.now (map (walked_row catalog.now (contents_of survivors.now) plan.now) (projection_rows catalog.now (contents_of survivors.now) plan.now.anchor)) (over columns.items lent.now)) }
     ensures rules { IsCatalog catalog.now }
 {
     (0..column_count(catalog))
@@ -118,34 +145,11 @@ fn copy_columns<R: Threads + Sync>(
                 requires room { HasRoom catalog.now survivors.now }
                 requires made { HoldsImages catalog.now survivors.now }
                 requires read { ReadsAnchorAlone catalog.now plan.now }
-                ensures { IfOk result (IsColumnOf catalog.entry.now (map (walked_row catalog.entry.now (contents_of survivors.entry.now) plan.entry.now) (projection_rows catalog.entry.now (contents_of survivors.entry.now) plan.entry.now.anchor)) c) }
-            { anchor_column(alloc, catalog, plan, survivors, c) },
+                requires lent { AreAnchorColumns catalog.now (contents_of survivors.now) plan.now lent.now }
+                ensures { IfOk result (IsAnchorColumn catalog.entry.now (contents_of survivors.entry.now) plan.entry.now lent.entry.now c) }
+            { copy_unless_lent(alloc, catalog, plan, survivors, lent, c) },
         )
         .collect::<Result<Vec<Cells>, AllocError>>(rt, alloc)?
-}
-
-/// The columns of the anchor's rows, where its image has all of them.
-fn lent_columns<'a>(
-    alloc: Global,
-    catalog: &Catalog,
-    plan: &Plan,
-    survivors: &'a Survivors,
-) -> Result<Option<Vec<&'a Cells>>, AllocError>
-    requires plan { ∥ IsPlanOf catalog.now plan.now ∥₁ }
-    requires room { HasRoom catalog.now survivors.now }
-    requires made { HoldsImages catalog.now survivors.now }
-    requires read { ReadsAnchorAlone catalog.now plan.now }
-    ensures fit { IfOk result (λ lent. IfSome lent (λ columns. ColumnsFit catalog.now (map (λ column. column.now) columns.items))) }
-    ensures rows { IfOk result (λ lent. IfSome lent (λ columns. AreRows catalog.now (map (walked_row catalog.now (contents_of survivors.now) plan.now) (projection_rows catalog.now (contents_of survivors.now) plan.now.anchor)) (map (λ column. column.now) columns.items))) }
-{
-    let mut columns = Vec::new(alloc);
-    for c in 0..column_count(catalog) {
-        match lone_column(catalog, plan, survivors, c) {
-            Some(column) => columns.push(column)?,
-            None => return Ok(None),
-        }
-    }
-    Ok(Some(columns))
 }
 
 /// The table of the anchor's rows.
@@ -163,14 +167,9 @@ fn anchor_table<'a, R: Threads + Sync>(
     ensures kinds { IfOk result (HasTableKinds catalog.now) }
     ensures rows { IfOk result (λ table. table.rows ≡ map (walked_row catalog.now (contents_of survivors.now) plan.now) (projection_rows catalog.now (contents_of survivors.now) plan.now.anchor)) }
 {
-    let _rules = catalog.projection_count();
-    match lent_columns(alloc, catalog, plan, survivors)? {
-        Some(columns) => Ok(Table::of_lent(alloc, columns)),
-        None => {
-            let columns = copy_columns(rt, alloc, catalog, plan, survivors)?;
-            Ok(Table::of_walk(alloc, Walked::from_columns(columns)))
-        }
-    }
+    let lent = lent_columns(alloc, catalog, plan, survivors)?;
+    let columns = copy_columns(rt, alloc, catalog, plan, survivors, &lent)?;
+    Ok(Table::of_columns(columns, lent))
 }
 
 /// The anchor's rows in the table's columns, where the plan reads each at the anchor. The gate is entered for each of the

@@ -1,13 +1,16 @@
 //! Joining the rows of walked pieces, a column in each thread: most of the time goes to memory that is touched for the
 //! first time.
-ghost use Rattle.std.specs.Prelude.{◌≡◌, ◌<◌, All, length, IfOk};
+ghost use Rattle.std.specs.Prelude.{◌≡◌, ◌<◌, All, length, slice_index_or, IfOk, None};
 ghost use Rattle.std.specs.List.{flat_map};
+ghost use Rattle.std.specs.Option.{unwrap_or};
 ghost use Rattle.cs_schema.specs.CatalogRules.{IsCatalog};
 ghost use Rattle.cs_rows.specs.Columns.{ColumnsFit};
 ghost use Rattle.cs_rows.specs.RowSteps.{AreRows};
-ghost use Rattle.cs_rebuild.specs.Walking.{HasTableKinds, HasTableWidth, IsColumnOf};
+ghost use Rattle.cs_rows.specs.TableView.{over};
+ghost use Rattle.cs_rebuild.specs.Walking.{AreLent, HasTableKinds, HasTableWidth, IsColumnOf};
 
-use cs_rows::Walked;
+use crate::lending::column_count;
+use cs_rows::{Lent, Table, Walked};
 use cs_schema::{Catalog, Cells};
 use rayon::prelude::*;
 use std::alloc::{AllocError, Global};
@@ -21,15 +24,6 @@ fn rows_in(all: &[Walked]) -> usize {
         rows = rows.saturating_add(piece.rows());
     }
     rows
-}
-
-/// How many columns the table has.
-pub fn column_count(catalog: &Catalog) -> usize
-    ensures count { result ≡ length catalog.now.columns }
-    ensures rules { IsCatalog catalog.now }
-{
-    let _rules = catalog.projection_count();
-    catalog.columns.len()
 }
 
 /// The cells that all pieces have in a column, one piece after the other.
@@ -51,16 +45,37 @@ fn join_column(
     Ok(joined)
 }
 
-/// The columns of all pieces, each joined in a thread of its own.
+/// The cells that all pieces have in a column, or none where the column is lent.
+fn join_unless_lent(
+    alloc: Global,
+    catalog: &Catalog,
+    all: &[Walked],
+    lent: &Lent<'_>,
+    c: usize,
+) -> Result<Cells, AllocError>
+    requires column { c < length catalog.now.columns }
+    requires kinds { All (HasTableKinds catalog.now) all.now }
+    requires lent { AreLent catalog.now (flat_map (λ piece. piece.rows) all.now) lent.now }
+    ensures { IfOk result (λ cells. IsColumnOf catalog.now (flat_map (λ piece. piece.rows) all.now) c (unwrap_or (slice_index_or lent.now c None) cells)) }
+{
+    if lent.has(c) {
+        return Ok(Cells::new(alloc, catalog.columns[c].kind));
+    }
+    join_column(alloc, catalog, all, c)
+}
+
+/// The columns of all pieces that are not lent, each joined in a thread of its own.
 fn join_columns<R: Threads + Sync>(
     rt: &R,
     alloc: Global,
     catalog: &Catalog,
     all: &[Walked],
+    lent: &Lent<'_>,
 ) -> Result<Vec<Cells>, AllocError>
-    requires { All (HasTableKinds catalog.now) all.now }
-    ensures fit { IfOk result (λ columns. ColumnsFit catalog.now columns.items) }
-    ensures rows { IfOk result (λ columns. AreRows catalog.now (flat_map (λ piece. piece.rows) all.now) columns.items) }
+    requires kinds { All (HasTableKinds catalog.now) all.now }
+    requires lent { AreLent catalog.now (flat_map (λ piece. piece.rows) all.now) lent.now }
+    ensures fit { IfOk result (λ columns. ColumnsFit catalog.now (over columns.items lent.now)) }
+    ensures rows { IfOk result (λ columns. AreRows catalog.now (flat_map (λ piece. piece.rows) all.now) (over columns.items lent.now)) }
     ensures rules { IsCatalog catalog.now }
 {
     (0..column_count(catalog))
@@ -71,8 +86,9 @@ fn join_columns<R: Threads + Sync>(
             |c: usize| -> Result<Cells, AllocError>
                 requires column { c < length catalog.now.columns }
                 requires kinds { All (HasTableKinds catalog.now) all.now }
-                ensures { IfOk result (IsColumnOf catalog.entry.now (flat_map (λ piece. piece.rows) all.entry.now) c) }
-            { join_column(alloc, catalog, all, c) },
+                requires lent { AreLent catalog.now (flat_map (λ piece. piece.rows) all.now) lent.now }
+                ensures { IfOk result (λ cells. IsColumnOf catalog.entry.now (flat_map (λ piece. piece.rows) all.entry.now) c (unwrap_or (slice_index_or lent.entry.now c None) cells)) }
+            { join_unless_lent(alloc, catalog, all, lent, c) },
         )
         .collect::<Result<Vec<Cells>, AllocError>>(rt, alloc)?
 }
@@ -93,6 +109,28 @@ pub fn append_all<R: Threads + Sync>(
     if all.len() == 1 {
         return Ok(all.swap_remove(0));
     }
-    let columns = join_columns(rt, alloc, catalog, &all)?;
+    let columns = join_columns(rt, alloc, catalog, &all, &Lent::nothing(alloc))?;
     Ok(Walked::from_columns(columns))
+}
+
+/// The table of the rows of all pieces, one after the other. Columns that are lent are not joined.
+pub fn join_table<'a, R: Threads + Sync>(
+    rt: &R,
+    alloc: Global,
+    catalog: &Catalog,
+    all: Vec<Walked>,
+    lent: Lent<'a>,
+) -> Result<Table<'a>, AllocError>
+    requires kinds { All (HasTableKinds catalog.now) all.items }
+    requires width { All (HasTableWidth catalog.now) all.items }
+    requires lent { AreLent catalog.now (flat_map (λ piece. piece.rows) all.items) lent }
+    ensures kinds { IfOk result (HasTableKinds catalog.now) }
+    ensures rows { IfOk result (λ table. table.rows ≡ flat_map (λ piece. piece.rows) all.items) }
+{
+    let mut all = all;
+    if all.len() == 1 {
+        return Ok(Table::of_walk(alloc, all.swap_remove(0)));
+    }
+    let columns = join_columns(rt, alloc, catalog, &all, &lent)?;
+    Ok(Table::of_columns(columns, lent))
 }

@@ -8,7 +8,7 @@ ghost use Rattle.cs_store.specs.FileSet.{contents_of};
 ghost use Rattle.cs_store.specs.Fault.{MemoryOr};
 ghost use Rattle.cs_jix.specs.JoinIndex.{Place};
 ghost use Rattle.cs_recovery.specs.Contents.{IsJoinOf};
-ghost use Rattle.cs_rebuild.specs.Reading.{file_refusal, IsRefused, HoldsBase, HoldsChanges, IsKindedImageOf, IsFirstBadOf, IsFirstBadJoin, AreSoundFiles, AreFilesOf, joins_of};
+ghost use Rattle.cs_rebuild.specs.Reading.{file_refusal, IsRefused, HoldsBase, HoldsChanges, IsKindedImageOf, IsFirstBadOf, IsFirstBadJoin, IsBaseRead, AreOthersRead, AreSoundFiles, AreFilesOf, joins_of};
 
 use crate::reading::SegmentFiles;
 use cs_delta::{Delta, Image, merge_owned, read_delta};
@@ -18,7 +18,10 @@ use cs_segment::fault::FileFault;
 use cs_segment::{Segment, par_read_segment};
 use cs_store::{Fault, FileSet};
 use std::alloc::Global;
-use std::thread::Threads;
+use std::thread::{Threads, join};
+
+/// How many bytes of a segment's file are worth the start of a thread.
+const WORTH_THREADS: usize = 65_536;
 
 /// The bytes under a name, which has to be there.
 fn bytes_of(files: &FileSet, name: FileName) -> Result<&[u8], Fault>
@@ -164,6 +167,65 @@ fn read_joins(
     Ok(joins)
 }
 
+/// What the delta and the join indexes of a segment hold, each whether or not the other can be read.
+fn read_others(
+    alloc: Global,
+    catalog: &Catalog,
+    files: &FileSet,
+    p: u16,
+    s: u16,
+) -> (Result<Delta, Fault>, Result<Vec<(u16, JoinIndex)>, Fault>)
+    requires { HasSegment catalog.now p s }
+    ensures { AreOthersRead catalog.now (contents_of files.now) p s result }
+{
+    (
+        read_changes(alloc, catalog, files, p, s),
+        read_joins(alloc, catalog, files, p, s),
+    )
+}
+
+/// Whether the segment's file is worth a thread of its own.
+fn is_large(files: &FileSet, p: u16, s: u16) -> bool {
+    match files.get(FileName::Seg { p, s }) {
+        Some(bytes) => bytes.len() >= WORTH_THREADS,
+        None => false,
+    }
+}
+
+/// What the files of a segment hold, each whether or not another can be read. Those beside a large segment file are read by
+/// a thread of their own.
+fn read_each<R: Threads>(
+    rt: &R,
+    alloc: Global,
+    catalog: &Catalog,
+    files: &FileSet,
+    p: u16,
+    s: u16,
+) -> (
+    (Result<Delta, Fault>, Result<Vec<(u16, JoinIndex)>, Fault>),
+    Result<Segment, Fault>,
+)
+    requires { HasSegment catalog.now p s }
+    ensures others { AreOthersRead catalog.now (contents_of files.now) p s result.0 }
+    ensures base { IsBaseRead catalog.now (contents_of files.now) p s result.1 }
+{
+    if !is_large(files, p, s) {
+        let base = read_base(rt, alloc, catalog, files, p, s);
+        return (read_others(alloc, catalog, files, p, s), base);
+    }
+    join(
+        rt,
+        || -> (Result<Delta, Fault>, Result<Vec<(u16, JoinIndex)>, Fault>)
+            requires { HasSegment catalog.now p s }
+            ensures { AreOthersRead catalog.entry.now (contents_of files.entry.now) p s result }
+        { read_others(alloc, catalog, files, p, s) },
+        || -> Result<Segment, Fault>
+            requires { HasSegment catalog.now p s }
+            ensures { IsBaseRead catalog.entry.now (contents_of files.entry.now) p s result }
+        { read_base(rt, alloc, catalog, files, p, s) },
+    )
+}
+
 /// What the files of a segment hold, or the refusal of the least bad one.
 pub fn read_files<R: Threads>(
     rt: &R,
@@ -179,11 +241,12 @@ pub fn read_files<R: Threads>(
     ensures err { IfErr result (λ fault. MemoryOr fault (IsFirstBadOf catalog.now (contents_of files.now) (p, s) fault)) }
 {
     let _count = catalog.projection_count();
-    let segment = match read_base(rt, alloc, catalog, files, p, s) {
+    let ((delta, joins), segment) = read_each(rt, alloc, catalog, files, p, s);
+    let segment = match segment {
         Ok(segment) => segment,
         Err(fault) => return Err(fault),
     };
-    let delta = match read_changes(alloc, catalog, files, p, s) {
+    let delta = match delta {
         Ok(delta) => delta,
         Err(fault) => return Err(fault),
     };
@@ -191,7 +254,7 @@ pub fn read_files<R: Threads>(
         Ok(image) => image,
         Err(fault) => return Err(fault),
     };
-    match read_joins(alloc, catalog, files, p, s) {
+    match joins {
         Ok(joins) => Ok(SegmentFiles { image, joins }),
         Err(fault) => Err(fault),
     }

@@ -16,6 +16,7 @@ mod ground;
 mod joined;
 mod joining;
 mod judging;
+mod lending;
 mod ordering;
 mod placed;
 mod places;

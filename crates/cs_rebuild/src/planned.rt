@@ -10,8 +10,9 @@ ghost use Rattle.cs_rebuild.specs.Walking.{HasTableKinds, WalkFaultAt, WalkAnswe
 ghost use Rattle.cs_rebuild.specs.WorkLaws.{stray_is_no_memory, one_value};
 
 use crate::anchored::walk_anchored;
-use crate::appending::append_all;
+use crate::appending::join_table;
 use crate::crew::Crew;
+use crate::lending::lent_columns;
 use crate::walking::count_pieces;
 use cs_board::{Gate, RunFault, Work, run};
 use cs_rows::counts::anchor_rows;
@@ -120,10 +121,16 @@ pub fn walk_planned<'a, R: Threads + Sync, G: Gate + Sync>(
         pieces,
     };
     match run(crew.rt, crew.alloc, crew.workers, &work, crew.gate) {
-        Ok(all) => match append_all(crew.rt, crew.alloc, catalog, all) {
-            Ok(walked) => Ok(Table::of_walk(crew.alloc, walked)),
-            Err(_) => Err(Fault::Memory),
-        },
+        Ok(all) => {
+            let lent = match lent_columns(crew.alloc, catalog, plan, survivors) {
+                Ok(lent) => lent,
+                Err(_) => return Err(Fault::Memory),
+            };
+            match join_table(crew.rt, crew.alloc, catalog, all, lent) {
+                Ok(table) => Ok(table),
+                Err(_) => Err(Fault::Memory),
+            }
+        }
         Err(RunFault::Memory) => Err(Fault::Memory),
         Err(RunFault::At(_, fault)) => Err(fault),
     }

@@ -1,21 +1,40 @@
--- The columns of a table: those that were made, and then those that are lent.
-use Rattle.std.proofs.Common.{◌≡◌, ℕ, ◌+◌, ◌-◌, ◌<◌, ◌≤◌, List, ◌++◌, length, map, refl, sym, ap, ◌∙◌, get_or, arith, length-append, Bor}
-use Rattle.std.proofs.lemmas.List.{get_or_append_left, get_or-append_right, length-map}
-use Rattle.std.proofs.Math.ListN.{get_or-map}
+-- The columns of a table: those that were made, and those that are lent in their place.
+use Rattle.std.proofs.Common.{◌≡◌, ℕ, zero, suc, ◌<◌, List, [], ◌∷◌, length, refl, ap, get_or, arith, inl, inr, Option, None}
+use Rattle.std.specs.Option.{unwrap_or}
 use Rattle.cs_schema.specs.declared.cells.Cells.{Cells}
+use Rattle.cs_schema.specs.Lists.{IsIn}
+use Rattle.cs_schema.specs.Values.{values}
+use Rattle.cs_rows.specs.TableView.{over}
+use Rattle.cs_rows.specs.WalkedView.{count_of, AreColumns}
 
-module _ (made : List Cells) (lent : List (Bor Cells)) where
-  abbrev all : List Cells
-  all = made ++ map (λ column. column.now) lent
+pub none_lent : (made : List Cells) → over made [] ≡ made
+unfolding over
+none_lent [] = refl
+none_lent (x ∷ xs) = refl
 
-  pub count : length all ≡ length made + length lent
-  count = length-append made (map (λ column. column.now) lent) ∙ ap (λ n. length made + n) (length-map lent (λ column. column.now))
+pub count : (made : List Cells) (lent : List (Option Cells)) → length (over made lent) ≡ length made
+unfolding over
+count [] lent = refl
+count (x ∷ xs) [] = refl
+count (x ∷ xs) (l ∷ ls) = ap suc (count xs ls)
 
-  pub made_at : (c : ℕ) (x : Cells) → c < length made → x ≡ get_or made c x → x ≡ get_or all c x
-  made_at c x h e = e ∙ sym (get_or_append_left made (map (λ column. column.now) lent) x c h)
+-- each column is the one that was made, or what is lent in its place
+pub each : (made : List Cells) (lent : List (Option Cells)) (c : ℕ) (d : Cells) → c < length made → get_or (over made lent) c d ≡ unwrap_or (get_or lent c None) (get_or made c d)
+unfolding over
+each [] lent c d h = absurd (omega arith)
+each (x ∷ xs) [] c d h = refl
+each (x ∷ xs) (l ∷ ls) zero d h = refl
+each (x ∷ xs) (l ∷ ls) (suc c) d h = each xs ls c d (omega arith)
 
-  pub lent_at : (c : ℕ) (b : Bor Cells) → length made ≤ c → b ≡ get_or lent (c - length made) b → b.now ≡ get_or all c b.now
-  lent_at c b h e =
-      ap (λ (column : Bor Cells). column.now) e
-      ∙ sym (get_or-map (λ (column : Bor Cells). column.now) lent (c - length made) b)
-      ∙ sym (get_or-append_right made (map (λ column. column.now) lent) (length made) c b.now refl h)
+alone : (y : Cells) → AreColumns (y ∷ [])
+alone y = record { some = omega arith; lengths = there }
+  where
+    there : (cells : Cells) → IsIn cells (y ∷ []) → length (values cells) ≡ count_of (y ∷ [])
+    there cells (inl e) = ap (λ x. length (values x)) e
+    there cells (inr h) = absurd h
+
+-- one column is of one length
+pub one_column : (x : Cells) (lent : List (Option Cells)) → AreColumns (over (x ∷ []) lent)
+unfolding over
+one_column x [] = alone x
+one_column x (l ∷ ls) = alone (unwrap_or l x)

@@ -1,7 +1,14 @@
 -- The columns of a table, made or lent.
-use Rattle.std.specs.Prelude.{List, ◌++◌, map}
+use Rattle.std.specs.Prelude.{List, [], ◌∷◌, Option}
+use Rattle.std.specs.Option.{unwrap_or}
 use Rattle.cs_schema.specs.declared.cells.Cells.{Cells}
 use Rattle.cs_rows.specs.declared.table.Table.TheInside.{Inside}
 
+-- columns, and in their place what is lent, from the first on
+unfoldable pub over : List Cells → List (Option Cells) → List Cells
+over [] lent = []
+over (column ∷ columns) [] = column ∷ columns
+over (column ∷ columns) (other ∷ lent) = unwrap_or other column ∷ over columns lent
+
 abbrev pub all_columns : Inside → List Cells
-all_columns t = t.made.items ++ map (λ column. column.now) t.lent.items
+all_columns t = over t.made.items t.lent

@@ -10,6 +10,7 @@ mod block;
 pub mod by_rows;
 pub mod counts;
 pub mod laws;
+pub mod lent;
 mod levels;
 mod numbers;
 pub mod range;
@@ -23,6 +24,7 @@ mod tests;
 pub mod walked;
 pub mod whole;
 
+pub use lent::Lent;
 pub use survivors::Survivors;
 pub use table::Table;
 pub use walked::Walked;

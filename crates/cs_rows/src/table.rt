@@ -1,19 +1,32 @@
 //! The rows of the whole table, in columns that were made or that images lend.
-ghost use Rattle.std.specs.Prelude.{◌≡◌, ◌<◌, ℕ, length, map, slice_get, Some};
+ghost use Rattle.std.specs.Prelude.{◌≡◌, ◌<◌, ℕ, length, map, slice_get, slice_index_or, None, Some};
 ghost use Rattle.cs_schema.specs.Values.{values, kind_of};
 ghost use Rattle.cs_schema.specs.Rows.{cell};
 ghost use Rattle.cs_rows.specs.WalkedView.{walked_data, AreColumns};
+ghost use Rattle.cs_rows.specs.TableView.{over};
 
+use crate::lent::Lent;
 use crate::walked::Walked;
 use cs_schema::Cells;
 use std::alloc::Global;
 use std::marker::Model;
 
-/// Rows of the whole table, in the order of the walk. A column that stands whole in one image needn't be copied.
+/// Rows of the whole table, in the order of the walk. A column that stands whole in one image needn't be made: it is lent.
 #[derive(Drop)]
 pub struct Table<'a> {
     made: Vec<Cells>,
-    lent: Vec<&'a Cells>,
+    lent: Lent<'a>,
+}
+
+/// A column: what is lent in its place, or what was made.
+fn column_at<'a>(made: &'a [Cells], lent: &'a Lent<'a>, c: usize) -> &'a Cells
+    requires { c < length made.now }
+    ensures { result.now ≡ slice_index_or (over made.now lent.now) c result.now }
+{
+    match lent.column(c) {
+        Some(column) => column,
+        None => &made[c],
+    }
 }
 
 impl<'a> Model for Table<'a> {
@@ -34,30 +47,24 @@ impl<'a> Table<'a> {
     {
         Table {
             made: walked.into_columns(),
-            lent: Vec::new(alloc),
+            lent: Lent::nothing(alloc),
         }
     }
 
-    /// The rows that stand across columns of one length, of which there is one at least.
-    pub fn of_lent(alloc: Global, columns: Vec<&'a Cells>) -> Self
-        requires { AreColumns (map (λ column. column.now) columns.items) }
-        ensures { result ≡ walked_data (map (λ column. column.now) columns.entry.items) }
+    /// The rows that stand across columns of one length, of which there is one at least: those that were made, and those
+    /// that are lent in their place.
+    pub fn of_columns(made: Vec<Cells>, lent: Lent<'a>) -> Self
+        requires { AreColumns (over made.items lent) }
+        ensures { result ≡ walked_data (over made.items lent.entry) }
     {
-        Table {
-            made: Vec::new(alloc),
-            lent: columns,
-        }
+        Table { made, lent }
     }
 
     /// How many rows there are.
     pub fn rows(&self) -> usize
         ensures { result ≡ length self.now.rows }
     {
-        if self.made.is_empty() {
-            self.lent[0].len()
-        } else {
-            self.made[0].len()
-        }
+        column_at(&self.made, &self.lent, 0).len()
     }
 
     /// The cells of one column, from row to row.
@@ -66,10 +73,6 @@ impl<'a> Table<'a> {
         ensures kind { slice_get self.now.kinds c ≡ Some (kind_of result.now) }
         ensures cells { values result.now ≡ map (λ row. cell row c) self.now.rows }
     {
-        if c < self.made.len() {
-            &self.made[c]
-        } else {
-            self.lent[c - self.made.len()]
-        }
+        column_at(&self.made, &self.lent, c)
     }
 }

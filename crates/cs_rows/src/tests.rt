@@ -5,6 +5,7 @@ ghost use Rattle.cs_rows.specs.Survivors.{HasRoom, HoldsImages};
 
 use crate::by_rows::walk_rows;
 use crate::counts::{anchor_rows, surviving_row_count};
+use crate::lent::Lent;
 use crate::range::{WalkFault, walk_range};
 use crate::whole::{anchor_column, follow_range, lone_column, reads_anchor_alone};
 use crate::{Survivors, Table, Walked};
@@ -319,10 +320,11 @@ fn keys_of_an_anchor(rt: HostRuntime) -> Result<(), Fail> {
     assert!(rt; reads_anchor_alone(&store.catalog, &plan));
     let keys = anchor_column(alloc, &store.catalog, &plan, &store.survivors, 0)?;
     assert!(rt; keys.len() == 2 && keys.cell(1) == Value::Int(2));
-    let lent = lone_column(&store.catalog, &plan, &store.survivors, 0).ok_or("no lone column")?;
-    let mut columns = Vec::new(alloc);
-    columns.push(lent)?;
-    let table = Table::of_lent(alloc, columns);
+    let mut made = Vec::new(alloc);
+    made.push(Cells::new(alloc, Kind::Int))?;
+    let mut lent = Lent::nothing(alloc);
+    lent.push(lone_column(&store.catalog, &plan, &store.survivors, 0))?;
+    let table = Table::of_columns(made, lent);
     assert!(rt; table.rows() == 2 && table.column(0).same(1, &keys, 1));
     follow_range(alloc, &store.catalog, &plan, &store.survivors, 0, 1)?;
     let both = follow_range(alloc, &store.catalog, &plan, &store.survivors, 0, 2);

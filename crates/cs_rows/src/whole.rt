@@ -65,7 +65,8 @@ fn copy_column(
     Ok(cells)
 }
 
-/// The image's column that has the cells of a column of the table, where the anchor has one segment.
+/// The image's column that has the cells of a column of the table, where the plan reads it at the anchor and the anchor has
+/// one segment.
 fn find_lone_column<'a>(
     catalog: &Catalog,
     plan: &Plan,
@@ -76,12 +77,11 @@ fn find_lone_column<'a>(
     requires room { HasRoom catalog.now survivors.now }
     requires made { HoldsImages catalog.now survivors.now }
     requires column { c < length catalog.now.columns }
-    requires read { slice_index plan.now.source c ≡ plan.now.anchor }
     ensures kind { IfSome result (λ cells. kind_of cells.now ≡ (column catalog.now c).kind) }
     ensures cells { IfSome result (λ cells. values cells.now ≡ map (λ at. walked_cell catalog.now (contents_of survivors.now) plan.now at c) (projection_rows catalog.now (contents_of survivors.now) plan.now.anchor)) }
 {
     let anchor = anchor(plan);
-    if segments(catalog, anchor) != 1 {
+    if source(plan, c) != plan.anchor || segments(catalog, anchor) != 1 {
         return None;
     }
     match survivors.image(anchor, 0) {
@@ -113,7 +113,8 @@ pub fn anchor_column(
     copy_column(alloc, catalog, plan, survivors, c)
 }
 
-/// The same cells where they stand in one image, as the anchor has one segment.
+/// The cells to which the anchor's rows lead in a column of the table, where they stand in one image: the plan reads the
+/// column at the anchor, which has one segment.
 pub fn lone_column<'a>(
     catalog: &Catalog,
     plan: &Plan,
@@ -125,7 +126,6 @@ pub fn lone_column<'a>(
     requires room { HasRoom catalog.now survivors.now }
     requires made { HoldsImages catalog.now survivors.now }
     requires column { c < length catalog.now.columns }
-    requires read { slice_index plan.now.source c ≡ plan.now.anchor }
     ensures kind { IfSome result (λ cells. kind_of cells.now ≡ (column catalog.now c).kind) }
     ensures cells { IfSome result (λ cells. values cells.now ≡ map (λ row. cell row c) (map (walked_row catalog.now (contents_of survivors.now) plan.now) (projection_rows catalog.now (contents_of survivors.now) plan.now.anchor))) }
 {

@@ -4,11 +4,8 @@ use Rattle.cs_board.specs.RunFault.{IfAt}
 use Rattle.cs_schema.specs.Rows.{Row}
 use Rattle.cs_rows.specs.Survivors.{contents_of}
 use Rattle.cs_rows.specs.Walk.{At, Stray, is_astray, projection_rows, walked_row}
-use Rattle.cs_rows.specs.WalkedView.{WalkedData}
-use Rattle.cs_rows.proofs.FoundRows.{columns_of_rows, rows_in, kinds_fit}
 use Rattle.cs_rebuild.specs.Walking.{WalkFaultAt}
 use Rattle.cs_rebuild.proofs.AnchoredRows.{all_followed}
-use Rattle.cs_rebuild.proofs.AppendedColumns.{walked_wide}
 use Rattle.cs_rebuild.proofs.WalkPieces.{first_astray}
 use Rattle.cs_rebuild.proofs.anchored.walk_anchored.Goals as goal
 

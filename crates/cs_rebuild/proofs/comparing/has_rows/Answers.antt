@@ -1,4 +1,4 @@
-use Rattle.std.proofs.Common.{◌≡◌, ℕ, ◌<◌, length, refl, subst, sym, ◌∙◌, arith}
+use Rattle.std.proofs.Common.{ℕ, ◌<◌, length, refl, subst, sym, ◌∙◌, arith}
 use Rattle.cs_schema.specs.CatalogData.{projection}
 use Rattle.cs_schema.proofs.Ascending.{false≢true}
 use Rattle.cs_rebuild.specs.Comparing.{AreComparable, IsCellThere, IsColumnThere}

@@ -1,29 +1,48 @@
 use Rattle.std.proofs.Common.{length}
 use Rattle.cs_store.specs.FileSet.{contents_of}
+use Rattle.cs_rebuild.specs.Reading.{HoldsBase}
 use Rattle.cs_rebuild.proofs.Verdicts.{memory_or}
 use Rattle.cs_rebuild.proofs.Names.{base_sound, bad_base, bad_changes, bad_join, join_sound, all_sound}
 use Rattle.cs_rebuild.proofs.files_of.read_files.Goals as goal
 
 pub returns-in-Err-clause-err : goal.returns-in-Err-clause-err
-returns-in-Err-clause-err g c = memory_or _ c.in-Err.ensures.err (bad_base c.args.catalog.now (contents_of c.args.files.now) c.args.p c.args.s c.requires _)
+returns-in-Err-clause-err g c =
+    memory_or _ (rw c.in-Err.is at c.read_each-delta.ensures.base.1) (bad_base c.args.catalog.now (contents_of c.args.files.now) c.args.p c.args.s c.requires _)
 
-pub returns-in-Err-read_changes-clause-err : goal.returns-in-Err-read_changes-clause-err
-returns-in-Err-read_changes-clause-err g c =
-    memory_or _ c.in-Err-read_changes.ensures.err (bad_changes c.args.catalog.now (contents_of c.args.files.now) c.args.p c.args.s c.requires _ (base_sound c.args.catalog.now (contents_of c.args.files.now) c.args.p c.args.s c.requires _ c.in-Ok.ensures.ok))
+pub returns-in-Err-delta-clause-err : goal.returns-in-Err-delta-clause-err
+returns-in-Err-delta-clause-err g c =
+    let base : HoldsBase c.args.catalog.now (contents_of c.args.files.now) c.args.p c.args.s c.in-Ok.segment = rw c.in-Ok.is at c.read_each-delta.ensures.base.0 in
+    memory_or _ (rw c.in-Err-delta.is at c.read_each-delta.ensures.others.refused) (bad_changes c.args.catalog.now (contents_of c.args.files.now) c.args.p c.args.s c.requires _ (base_sound c.args.catalog.now (contents_of c.args.files.now) c.args.p c.args.s c.requires _ base))
+
+pub merge_image-requires-clause-base : goal.merge_image-requires-clause-base
+merge_image-requires-clause-base g c = rw c.in-Ok.is at c.read_each-delta.ensures.base.0
+
+pub merge_image-requires-clause-changes : goal.merge_image-requires-clause-changes
+merge_image-requires-clause-changes g c = rw c.in-Ok-delta.is at c.read_each-delta.ensures.others.changes
 
 pub returns-in-Err-merge_image-clause-err : goal.returns-in-Err-merge_image-clause-err
 returns-in-Err-merge_image-clause-err g c =
-    memory_or _ c.in-Err-merge_image.ensures.err (bad_changes c.args.catalog.now (contents_of c.args.files.now) c.args.p c.args.s c.requires _ (base_sound c.args.catalog.now (contents_of c.args.files.now) c.args.p c.args.s c.requires _ c.in-Ok.ensures.ok))
+    let base : HoldsBase c.args.catalog.now (contents_of c.args.files.now) c.args.p c.args.s c.in-Ok.segment = rw c.in-Ok.is at c.read_each-delta.ensures.base.0 in
+    memory_or _ c.in-Err-merge_image.ensures.err (bad_changes c.args.catalog.now (contents_of c.args.files.now) c.args.p c.args.s c.requires _ (base_sound c.args.catalog.now (contents_of c.args.files.now) c.args.p c.args.s c.requires _ base))
 
-pub returns-in-Ok-read_joins-clause-sound : goal.returns-in-Ok-read_joins-clause-sound
-returns-in-Ok-read_joins-clause-sound g c =
+pub returns-in-Ok-joins-clause-sound : goal.returns-in-Ok-joins-clause-sound
+returns-in-Ok-joins-clause-sound g c =
+    let base : HoldsBase c.args.catalog.now (contents_of c.args.files.now) c.args.p c.args.s c.in-Ok.segment = rw c.in-Ok.is at c.read_each-delta.ensures.base.0 in
     all_sound c.args.catalog.now (contents_of c.args.files.now) c.args.p c.args.s c.requires c.projection_count-count.ensures.rules
-    (base_sound c.args.catalog.now (contents_of c.args.files.now) c.args.p c.args.s c.requires _ c.in-Ok.ensures.ok)
+    (base_sound c.args.catalog.now (contents_of c.args.files.now) c.args.p c.args.s c.requires _ base)
     (c.in-Ok-merge_image.image.image, c.in-Ok-merge_image.ensures.ok.0)
-    (join_sound c.args.catalog.now (contents_of c.args.files.now) c.args.p c.args.s c.requires c.in-Ok-read_joins.joins.items (length c.args.catalog.now.projections) c.in-Ok-read_joins.ensures.targets c.in-Ok-read_joins.ensures.joins)
+    (join_sound c.args.catalog.now (contents_of c.args.files.now) c.args.p c.args.s c.requires c.in-Ok-joins.joins.items (length c.args.catalog.now.projections) (rw c.in-Ok-joins.is at c.read_each-delta.ensures.others.targets) (rw c.in-Ok-joins.is at c.read_each-delta.ensures.others.joins))
+
+pub returns-in-Ok-joins-clause-ok : goal.returns-in-Ok-joins-clause-ok
+returns-in-Ok-joins-clause-ok g c = record {
+  image = c.in-Ok-merge_image.ensures.ok;
+  targets = rw c.in-Ok-joins.is at c.read_each-delta.ensures.others.targets;
+  joins = rw c.in-Ok-joins.is at c.read_each-delta.ensures.others.joins;
+}
 
 pub returns-clause-err : goal.returns-clause-err
 returns-clause-err g c =
-    memory_or _ c.in-Err-read_joins.ensures.err (bad_join c.args.catalog.now (contents_of c.args.files.now) c.args.p c.args.s c.requires _
-    (base_sound c.args.catalog.now (contents_of c.args.files.now) c.args.p c.args.s c.requires _ c.in-Ok.ensures.ok)
+    let base : HoldsBase c.args.catalog.now (contents_of c.args.files.now) c.args.p c.args.s c.in-Ok.segment = rw c.in-Ok.is at c.read_each-delta.ensures.base.0 in
+    memory_or _ (rw c.in-Err-joins.is at c.read_each-delta.ensures.others.bad) (bad_join c.args.catalog.now (contents_of c.args.files.now) c.args.p c.args.s c.requires _
+    (base_sound c.args.catalog.now (contents_of c.args.files.now) c.args.p c.args.s c.requires _ base)
     (c.in-Ok-merge_image.image.image, c.in-Ok-merge_image.ensures.ok.0))

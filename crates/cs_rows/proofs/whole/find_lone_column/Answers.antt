@@ -1,6 +1,8 @@
 use Rattle.std.proofs.Common.{◌≡◌, ◌==◌, ℕ, [], map, refl, ap, ◌∙◌, sym, arith}
 use Rattle.std.specs.List.{position_or_len}
+use Rattle.std.specs.Prelude.{slice_index}
 use Rattle.cs_schema.specs.CatalogData.{projection, segments}
+use Rattle.cs_safety.specs.PlanData.{PlanData}
 use Rattle.cs_rows.specs.Survivors.{contents_of}
 use Rattle.cs_rows.specs.Walk.{walked_cell}
 use Rattle.cs_rows.proofs.RangeLemmas.{done}
@@ -12,18 +14,20 @@ column-requires c =
     let C = c.args.catalog.now in
     let P = c.args.plan.now in
     let a = c.anchor-anchor.ensures in
-    let one : segments C P.anchor ≡ 1 = sym (c.segments.ensures ∙ ap (segments C) a) ∙ c.if-segments-ne1.false in
+    let read : slice_index P.source c.args.c ≡ P.anchor = sym c.source.ensures ∙ c.if-source-plan.false ∙ ap (λ (p : PlanData). p.anchor) c.plan.view_is in
+    let one : segments C P.anchor ≡ 1 = sym (c.segments.ensures ∙ ap (segments C) a) ∙ (c.if-segments-ne1.false) in
     let j : c.place_in-j.result ≡ place C P c.args.c = c.place_in-j.ensures ∙ ap (position_or_len (λ d. d == c.args.c)) (c.columns_of.ensures ∙ ap (λ (q : ℕ). (projection C q).columns) a) in
-    (column_of_image C c.args.survivors.now P c.requires.fits c.requires.made c.args.c c.requires.column c.requires.read c.anchor-anchor.result c.place_in-j.result 0 c.in-Some.image.now a j (omega (arith, one)) c.in-Some.ensures).0
+    (column_of_image C c.args.survivors.now P c.requires.fits c.requires.made c.args.c c.requires.column read c.anchor-anchor.result c.place_in-j.result 0 c.in-Some.image.now a j (omega (arith, one)) c.in-Some.ensures).0
 
 pub returns-in-Some-clause-kind : goal.returns-in-Some-clause-kind
 returns-in-Some-clause-kind c =
     let C = c.args.catalog.now in
     let P = c.args.plan.now in
     let a = c.anchor-anchor.ensures in
-    let one : segments C P.anchor ≡ 1 = sym (c.segments.ensures ∙ ap (segments C) a) ∙ c.if-segments-ne1.false in
+    let read : slice_index P.source c.args.c ≡ P.anchor = sym c.source.ensures ∙ c.if-source-plan.false ∙ ap (λ (p : PlanData). p.anchor) c.plan.view_is in
+    let one : segments C P.anchor ≡ 1 = sym (c.segments.ensures ∙ ap (segments C) a) ∙ (c.if-segments-ne1.false) in
     let j : c.place_in-j.result ≡ place C P c.args.c = c.place_in-j.ensures ∙ ap (position_or_len (λ d. d == c.args.c)) (c.columns_of.ensures ∙ ap (λ (q : ℕ). (projection C q).columns) a) in
-    c.column.ensures.kind ∙ (column_of_image C c.args.survivors.now P c.requires.fits c.requires.made c.args.c c.requires.column c.requires.read c.anchor-anchor.result c.place_in-j.result 0 c.in-Some.image.now a j (omega (arith, one)) c.in-Some.ensures).1
+    c.column.ensures.kind ∙ (column_of_image C c.args.survivors.now P c.requires.fits c.requires.made c.args.c c.requires.column read c.anchor-anchor.result c.place_in-j.result 0 c.in-Some.image.now a j (omega (arith, one)) c.in-Some.ensures).1
 
 pub returns-in-Some-clause-cells : goal.returns-in-Some-clause-cells
 returns-in-Some-clause-cells c =
@@ -31,7 +35,8 @@ returns-in-Some-clause-cells c =
     let S = contents_of c.args.survivors.now in
     let P = c.args.plan.now in
     let a = c.anchor-anchor.ensures in
-    let one : segments C P.anchor ≡ 1 = sym (c.segments.ensures ∙ ap (segments C) a) ∙ c.if-segments-ne1.false in
+    let read : slice_index P.source c.args.c ≡ P.anchor = sym c.source.ensures ∙ c.if-source-plan.false ∙ ap (λ (p : PlanData). p.anchor) c.plan.view_is in
+    let one : segments C P.anchor ≡ 1 = sym (c.segments.ensures ∙ ap (segments C) a) ∙ (c.if-segments-ne1.false) in
     let j : c.place_in-j.result ≡ place C P c.args.c = c.place_in-j.ensures ∙ ap (position_or_len (λ d. d == c.args.c)) (c.columns_of.ensures ∙ ap (λ (q : ℕ). (projection C q).columns) a) in
-    let there = column_of_image C c.args.survivors.now P c.requires.fits c.requires.made c.args.c c.requires.column c.requires.read c.anchor-anchor.result c.place_in-j.result 0 c.in-Some.image.now a j (omega (arith, one)) c.in-Some.ensures in
-    c.column.ensures.values ∙ there.2 ∙ more_cells C S P c.args.c c.requires.read 0 [] refl ∙ ap (λ n. map (λ at. walked_cell C S P at c.args.c) (done S P.anchor n)) (sym one)
+    let there = column_of_image C c.args.survivors.now P c.requires.fits c.requires.made c.args.c c.requires.column read c.anchor-anchor.result c.place_in-j.result 0 c.in-Some.image.now a j (omega (arith, one)) c.in-Some.ensures in
+    c.column.ensures.values ∙ there.2 ∙ more_cells C S P c.args.c read 0 [] refl ∙ ap (λ n. map (λ at. walked_cell C S P at c.args.c) (done S P.anchor n)) (sym one)

@@ -1,0 +1,13 @@
+use Rattle.std.proofs.Common.{◌≡◌, ◌<◌, ℕ, map, length, get_or, None}
+use Rattle.std.specs.Prelude.{IfSome}
+use Rattle.cs_rows.specs.Survivors.{contents_of}
+use Rattle.cs_rows.specs.Walk.{projection_rows, walked_row}
+use Rattle.cs_rebuild.specs.Walking.{IsColumnOf}
+use Rattle.cs_rebuild.proofs.lending.lent_columns.Given as goal
+
+-- what is lent so far has the cells of the anchor's rows
+abbrev pub invariant-loop-c : goal.invariant-loop-c
+invariant-loop-c l = record {
+  count : length l.lent ≡ l.c;
+  each : (k : ℕ) → k < l.c → IfSome (get_or l.lent k None) (IsColumnOf l.catalog (map (walked_row l.catalog (contents_of l.survivors) l.plan) (projection_rows l.catalog (contents_of l.survivors) l.plan.anchor)) k);
+}
