@@ -1,6 +1,7 @@
 pub mod Image
 pub mod DeltaFile
 pub mod Edits
+pub mod ItemCellView
 pub mod ItemView
 pub mod MergeSteps
 pub mod Layers

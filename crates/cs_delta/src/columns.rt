@@ -1,9 +1,9 @@
 //! Columns that grow by cells of other columns.
 ghost use Rattle.std.specs.Prelude.{◌≡◌, ◌++◌, ◌∷◌, [], length, OnOk};
 ghost use Rattle.cs_schema.specs.Values.{values, kind_of, value_kind};
-ghost use Rattle.cs_schema.specs.declared.cells.Value.{Value as ValueData};
 
-use cs_schema::{Cells, Value};
+use crate::item_cell::{CellPlace, ItemCell};
+use cs_schema::Cells;
 use std::alloc::{AllocError, Global};
 
 /// A column of no cells, of the kind of another one.
@@ -50,14 +50,14 @@ pub fn count(cells: &Cells) -> usize
 }
 
 /// Appends a cell.
-pub fn push(out: &mut Cells, value: &Value) -> Result<(), AllocError>
-    requires { value_kind value.now ≡ kind_of out.old }
-    ensures values { OnOk result (values out.new ≡ values out.old ++ value.now ∷ []) }
+pub fn push(out: &mut Cells, cell: &ItemCell) -> Result<(), AllocError>
+    requires { value_kind cell.now ≡ kind_of out.old }
+    ensures values { OnOk result (values out.new ≡ values out.old ++ cell.now ∷ []) }
     ensures kind { kind_of out.new ≡ kind_of out.old }
 {
-    match (out, value) {
-        (Cells::Ints(out), Value::Int(int)) => out.push(*int)?,
-        (Cells::Texts(out), Value::Text(text)) => out.push(text.copy())?,
+    match (out, &cell.place) {
+        (Cells::Ints(out), CellPlace::Int(int)) => out.push(*int)?,
+        (Cells::Texts(out), CellPlace::Text(text)) => out.push(text.copy())?,
         _ => unreachable!(),
     }
     Ok(())

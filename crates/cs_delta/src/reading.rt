@@ -8,8 +8,9 @@ ghost use Rattle.cs_delta.specs.Reading.{BeginsWithCell, NoCell, BeginsWithRow, 
 
 use crate::delta::Delta;
 use crate::item::Item;
+use crate::item_cell::ItemCell;
 use cs_codec::Cell;
-use cs_schema::{Catalog, Kind, Value, Word};
+use cs_schema::{Catalog, Kind, Word};
 use cs_segment::bytes::{after, number};
 use cs_segment::fault::FileFault;
 use cs_segment::seal::unseal;
@@ -22,18 +23,22 @@ const ROW_LIMIT: u32 = 1_048_576;
 const KEY_LIMIT: u32 = 4_194_304;
 
 /// The cell at the front of some bytes, and what follows.
-fn read_cell(kind: Kind, bytes: &[u8]) -> Option<(Value, &[u8])>
-    ensures found { IfSome result (λ r. BeginsWithCell kind bytes.now r.0 r.1.now) }
-    ensures none { IfNone result (NoCell kind bytes.now) }
+fn read_cell(alloc: Global, kind: Kind, bytes: &[u8]) -> Result<(ItemCell, &[u8]), FileFault>
+    ensures found { IfOk result (λ r. BeginsWithCell kind bytes.now r.0 r.1.now) }
+    ensures refused { result ≡ Err FileFault.Damaged → NoCell kind bytes.now }
 {
     match kind {
         Kind::Int => {
-            let (int, end) = <i64 as Cell>::read(bytes, 0)?;
-            Some((Value::Int(int), &bytes[end..]))
+            let Some((int, end)) = <i64 as Cell>::read(bytes, 0) else {
+                return Err(FileFault::Damaged);
+            };
+            Ok((ItemCell::int(int), &bytes[end..]))
         }
         Kind::Text => {
-            let (text, end) = <Word as Cell>::read(bytes, 0)?;
-            Some((Value::Text(text), &bytes[end..]))
+            let Some((text, end)) = <Word as Cell>::read(bytes, 0) else {
+                return Err(FileFault::Damaged);
+            };
+            Ok((ItemCell::text(alloc, text)?, &bytes[end..]))
         }
     }
 }
@@ -44,17 +49,16 @@ fn read_row<'a>(
     catalog: &Catalog,
     p: u16,
     bytes: &'a [u8],
-) -> Result<(Vec<Value>, &'a [u8]), FileFault>
+) -> Result<(Vec<ItemCell>, &'a [u8]), FileFault>
     requires { p < length catalog.now.projections }
     ensures found { IfOk result (λ r. BeginsWithRow catalog.now p bytes.now r.0.items r.1.now) }
     ensures refused { result ≡ Err FileFault.Damaged → NoRow catalog.now p bytes.now }
 {
-    let mut row = Vec::new(alloc);
+    let width = catalog.width(p);
+    let mut row = Vec::with_capacity(alloc, width)?;
     let mut rest = bytes;
-    for j in 0..catalog.width(p) {
-        let Some((value, behind)) = read_cell(catalog.column_kind(p, j), rest) else {
-            return Err(FileFault::Damaged);
-        };
+    for j in 0..width {
+        let (value, behind) = read_cell(alloc, catalog.column_kind(p, j), rest)?;
         row.push(value)?;
         rest = behind;
     }
@@ -90,6 +94,7 @@ fn read_insertion<'a>(
 
 /// The changed cell whose tag stands before the bytes, and what follows.
 fn read_modification<'a>(
+    alloc: Global,
     catalog: &Catalog,
     p: u16,
     rows: u32,
@@ -110,9 +115,7 @@ fn read_modification<'a>(
     if at >= below || column as usize >= catalog.width(p) {
         return Err(FileFault::Damaged);
     }
-    let Some((value, rest)) = read_cell(catalog.column_kind(p, column as usize), cell) else {
-        return Err(FileFault::Damaged);
-    };
+    let (value, rest) = read_cell(alloc, catalog.column_kind(p, column as usize), cell)?;
     Ok((Item::Modify { at, column, value }, rest))
 }
 
@@ -151,7 +154,7 @@ fn read_item<'a>(
         return read_deletion(below, deletion);
     }
     if let Some(modification) = after(bytes, &[3]) {
-        return read_modification(catalog, p, rows, top, below, modification);
+        return read_modification(alloc, catalog, p, rows, top, below, modification);
     }
     Err(FileFault::Damaged)
 }

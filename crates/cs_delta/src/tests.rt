@@ -1,8 +1,8 @@
 ghost use Rattle.std.specs.Prelude.{◌<◌, length, IfOk};
 
-use crate::{Delta, Image, Item, merge, read_delta, write_empty_delta};
+use crate::{CellPlace, Delta, Image, Item, ItemCell, merge, read_delta, write_empty_delta};
 use cs_codec::Cell;
-use cs_schema::{Catalog, Cells, Value, read_catalog};
+use cs_schema::{Catalog, Cells, read_catalog};
 use cs_segment::fault::FileFault;
 use cs_segment::seal::seal;
 use cs_segment::segment::read_segment;
@@ -86,10 +86,10 @@ fn changed(alloc: Global, bytes: &[u8], at: usize) -> Result<Vec<u8>, AllocError
     Ok(bytes)
 }
 
-fn write_value(out: &mut Vec<u8>, value: &Value) -> Result<(), AllocError> {
-    match value {
-        Value::Int(int) => int.write(out),
-        Value::Text(text) => text.write(out),
+fn write_cell(out: &mut Vec<u8>, cell: &ItemCell) -> Result<(), AllocError> {
+    match &cell.place {
+        CellPlace::Int(int) => int.write(out),
+        CellPlace::Text(text) => text.write(out),
     }
 }
 
@@ -100,7 +100,7 @@ fn write_item(out: &mut Vec<u8>, item: &Item) -> Result<(), AllocError> {
             out.extend_from_slice(&at.to_be_bytes())?;
             out.extend_from_slice(&key.to_be_bytes())?;
             for value in row {
-                write_value(out, value)?;
+                write_cell(out, value)?;
             }
         }
         Item::Delete { at } => {
@@ -111,7 +111,7 @@ fn write_item(out: &mut Vec<u8>, item: &Item) -> Result<(), AllocError> {
             out.push(3)?;
             out.extend_from_slice(&at.to_be_bytes())?;
             out.push(*column)?;
-            write_value(out, value)?;
+            write_cell(out, value)?;
         }
     }
     Ok(())
