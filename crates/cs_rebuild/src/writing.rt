@@ -33,10 +33,10 @@ fn segment_bytes(
     ground: &Ground<'_, '_>,
     p: u16,
     s: u16,
-    columns: &[Piece],
+    columns: Vec<Piece>,
 ) -> Result<Vec<u8>, AllocError>
     requires segment { HasSegment ground.now.catalog.now p s }
-    requires columns { ArePiecesOf ground.now.catalog.now p (length (rows_of ground.now.catalog.now (table_on ground.now) p s)) columns.now (base_of ground.now.catalog.now p (map (project ground.now.catalog.now p) (rows_of ground.now.catalog.now (table_on ground.now) p s))) }
+    requires columns { ArePiecesOf ground.now.catalog.now p (length (rows_of ground.now.catalog.now (table_on ground.now) p s)) columns.items (base_of ground.now.catalog.now p (map (project ground.now.catalog.now p) (rows_of ground.now.catalog.now (table_on ground.now) p s))) }
     ensures { IfOk result (λ bytes. bytes.items ≡ segment_text ground.now.catalog.now p s (base_of ground.now.catalog.now p (map (project ground.now.catalog.now p) (rows_of ground.now.catalog.now (table_on ground.now) p s)))) }
 {
     let rows = ground.orders.segment(p, s).len() as u32;
@@ -70,7 +70,7 @@ fn make_file<R: Threads + Sync, G: Gate + Sync>(
 {
     match file {
         Unwritten::Segment { p, s, columns } => {
-            let bytes = segment_bytes(crew.alloc, ground, p, s, columns.as_slice())?;
+            let bytes = segment_bytes(crew.alloc, ground, p, s, columns)?;
             Ok((FileName::Seg { p, s }, bytes))
         }
         Unwritten::Delta { p, s } => {

@@ -1,5 +1,6 @@
 -- Pieces and the columns of a base.
-use Rattle.std.proofs.Common.{◌≡◌, ℕ, ◌+◌, ◌<◌, ◌≤◌, List, [], ◌++◌, length, get_or, take, sym, ap, subst, ◌∙◌, arith, append_assoc}
+use Rattle.std.proofs.Common.{◌≡◌, ℕ, zero, suc, ◌+◌, ◌<◌, ◌≤◌, List, [], ◌∷◌, ◌++◌, length, get_or, take, drop, refl, sym, ap, subst, ◌∙◌, arith, append_assoc}
+use Rattle.std.specs.List.{remove}
 use Rattle.std.proofs.lemmas.List.{take_more, take_all, length-take}
 use Rattle.cs_schema.specs.declared.cells.Value.{Value}
 use Rattle.cs_schema.specs.CatalogData.{CatalogData, projection, code_at, kind_at}
@@ -42,3 +43,13 @@ body_made C p s rows pieces b j out h l e =
     e ∙ ap (λ (cs : List (List Value)). head_text p s rows (length (projection C p).columns) ++ parts_text C p 0 cs) (take_all j b.columns (omega arith))
     ∙ ap (λ n. head_text p s n (length (projection C p).columns) ++ parts_text C p 0 b.columns) (sym h.rows_are)
     ∙ sym (head_of C p s b h.base).text
+
+-- the first of what is left of a list, taken off
+first_off : {X : Type 0} (j : ℕ) (xs : List X) → remove (drop j xs) 0 ≡ drop (suc j) xs
+first_off zero [] = refl
+first_off zero (x ∷ xs) = refl
+first_off (suc j) [] = refl
+first_off (suc j) (x ∷ xs) = first_off j xs
+
+pub one_less : {X : Type 0} (j : ℕ) (left xs : List X) → left ≡ drop j xs → remove left 0 ≡ drop (j + 1) xs
+one_less j left xs e = ap (λ l. remove l 0) e ∙ first_off j xs ∙ ap (λ n. drop n xs) (let z : suc j ≡ j + 1 = omega arith in z)

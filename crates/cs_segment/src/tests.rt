@@ -157,7 +157,7 @@ fn again(
 {
     let segment = read_segment(alloc, catalog, p, s, bytes)?;
     let pieces = pieces_of(alloc, catalog, p, &segment)?;
-    Ok(write_segment(alloc, catalog, p, s, segment.rows, &pieces)?)
+    Ok(write_segment(alloc, catalog, p, s, segment.rows, pieces)?)
 }
 
 /// Whether each proper prefix of the file, and the file with any byte changed, is damaged.

@@ -34,18 +34,32 @@ fn write_part(
     Ok(())
 }
 
-/// The file of the segment whose columns, of so many rows, the pieces are.
+/// Appends the part of a column, and lets the piece go.
+fn put_part(
+    alloc: Global,
+    out: &mut Vec<u8>,
+    code: Code,
+    kind: Kind,
+    piece: Piece,
+) -> Result<(), AllocError>
+    requires { (v : List Value) × IsPieceOf piece code kind v × FitsColumn code kind v }
+    ensures { OnOk result ((v : List Value) → IsPieceOf piece code kind v → FitsColumn code kind v → out.new.items ≡ out.old.items ++ part_text code kind v) }
+{
+    write_part(alloc, out, code, kind, &piece)
+}
+
+/// The file of the segment whose columns, of so many rows, the pieces are. Each piece is let go once it stands there.
 pub fn write_segment(
     alloc: Global,
     catalog: &Catalog,
     p: u16,
     s: u16,
     rows: u32,
-    pieces: &[Piece],
+    pieces: Vec<Piece>,
 ) -> Result<Vec<u8>, AllocError>
     requires projection { p < length catalog.now.projections }
-    requires pieces { AreOfSomeBase catalog.now p rows pieces.now }
-    ensures { IfOk result (λ out. (b : Base) → ArePiecesOf catalog.now p rows pieces.now b → out.items ≡ segment_text catalog.now p s b) }
+    requires pieces { AreOfSomeBase catalog.now p rows pieces.items }
+    ensures { IfOk result (λ out. (b : Base) → ArePiecesOf catalog.now p rows pieces.items b → out.items ≡ segment_text catalog.now p s b) }
 {
     let width = catalog.width(p);
     let mut out = Vec::new(alloc);
@@ -54,8 +68,11 @@ pub fn write_segment(
     out.extend_from_slice(&s.to_be_bytes())?;
     out.extend_from_slice(&rows.to_be_bytes())?;
     out.extend_from_slice(&(width as u16).to_be_bytes())?;
-    for (j, piece) in pieces.iter().enumerate() {
-        write_part(
+    let mut pieces = pieces;
+    for j in 0..pieces.len() {
+        // they are few: so it takes no time that those behind move up
+        let piece = pieces.remove(0);
+        put_part(
             alloc,
             &mut out,
             catalog.code(p, j),
