@@ -1,5 +1,5 @@
 //! Columns that grow by cells of other columns.
-ghost use Rattle.std.specs.Prelude.{◌≡◌, ◌++◌, ◌∷◌, [], length, OnOk};
+ghost use Rattle.std.specs.Prelude.{◌≡◌, ◌++◌, ◌∷◌, [], length, IsTrue, OnOk};
 ghost use Rattle.cs_schema.specs.Values.{values, kind_of, value_kind};
 
 use crate::item_cell::{CellPlace, ItemCell};
@@ -17,26 +17,38 @@ pub fn empty_like(alloc: Global, cells: &Cells) -> Cells
     }
 }
 
-/// The same in the room of the first spent column, where that is of this kind. It is taken off the list in any case.
+/// Whether cells are of one kind.
+fn are_alike(cells: &Cells, others: &Cells) -> bool
+    ensures { IsTrue result → kind_of cells.now ≡ kind_of others.now }
+{
+    match (cells, others) {
+        (Cells::Ints(_), Cells::Ints(_)) => true,
+        (Cells::Texts(_), Cells::Texts(_)) => true,
+        _ => false,
+    }
+}
+
+/// No cells, in the room of these.
+fn emptied(cells: Cells) -> Cells
+    ensures values { values result ≡ [] }
+    ensures kind { kind_of result ≡ kind_of cells }
+{
+    let mut cells = cells;
+    cells.truncate(0);
+    cells
+}
+
+/// A column of no cells, of the kind of another one, in the room of a spent column where one is of this kind.
 pub fn empty_in(alloc: Global, spent: &mut Vec<Cells>, cells: &Cells) -> Cells
     ensures values { values result ≡ [] }
     ensures kind { kind_of result ≡ kind_of cells.now }
 {
-    if spent.is_empty() {
-        return empty_like(alloc, cells);
-    }
-    // they are few: so it takes no time that those behind move up
-    match (spent.remove(0), cells) {
-        (Cells::Ints(mut ints), Cells::Ints(_)) => {
-            ints.clear();
-            Cells::Ints(ints)
+    for at in 0..spent.len() {
+        if are_alike(&spent[at], cells) {
+            return emptied(spent.swap_remove(at));
         }
-        (Cells::Texts(mut texts), Cells::Texts(_)) => {
-            texts.clear();
-            Cells::Texts(texts)
-        }
-        _ => empty_like(alloc, cells),
     }
+    empty_like(alloc, cells)
 }
 
 /// The number of cells.

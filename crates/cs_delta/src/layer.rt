@@ -24,19 +24,20 @@ pub struct Rows {
 /// The most rows of an image.
 const ROW_LIMIT: usize = 1_048_576;
 
-/// The rows with the items of a layer applied, in the room of spent columns.
+/// The rows with the items of a layer applied, in the room of spent columns. A column is spent as soon as it is merged: so
+/// the next one of its kind is made in its room.
 pub fn apply_layer(
     alloc: Global,
     spent: &mut Vec<Cells>,
     keys: &[u32],
-    columns: &[Cells],
+    columns: Vec<Cells>,
     items: &[Item],
 ) -> Result<Rows, FileFault>
-    requires layer { IsLayerOf (map kind_of columns.now) (length keys.now) (map change_of items.now) }
-    requires lengths { HaveLength (length keys.now) (map values columns.now) }
+    requires layer { IsLayerOf (map kind_of columns.items) (length keys.now) (map change_of items.now) }
+    requires lengths { HaveLength (length keys.now) (map values columns.items) }
     ensures keys { IfOk result (λ rows. rows.keys.items ≡ edited_from (key_edits (map change_of items.now)) 0 keys.now) }
-    ensures columns { IfOk result (λ rows. map values rows.columns.items ≡ edited_columns (map change_of items.now) 0 (map values columns.now)) }
-    ensures kinds { IfOk result (λ rows. map kind_of rows.columns.items ≡ map kind_of columns.now) }
+    ensures columns { IfOk result (λ rows. map values rows.columns.items ≡ edited_columns (map change_of items.now) 0 (map values columns.items)) }
+    ensures kinds { IfOk result (λ rows. map kind_of rows.columns.items ≡ map kind_of columns.items) }
     ensures few { IfOk result (λ rows. length rows.keys.items ≤ 1048576) }
     ensures many { result ≡ Err FileFault.Damaged → 1048576 < length (edited_from (key_edits (map change_of items.now)) 0 keys.now) }
 {
@@ -46,8 +47,12 @@ pub fn apply_layer(
     }
     let rows = merged_keys.len();
     let mut merged = Vec::new(alloc);
-    for (j, column) in columns.iter().enumerate() {
-        merged.push(merge_column(alloc, spent, rows, column, items, j)?)?;
+    let mut columns = columns;
+    for j in 0..columns.len() {
+        // they are few: so it takes no time that those behind move up
+        let column = columns.remove(0);
+        merged.push(merge_column(alloc, spent, rows, &column, items, j)?)?;
+        spent.push(column)?;
     }
     Ok(Rows {
         keys: merged_keys,
@@ -56,7 +61,7 @@ pub fn apply_layer(
 }
 
 /// The rows with the items of layers applied, the lowest first. A layer above the lowest that has no items makes no
-/// columns anew, and one that has some makes them in the room of those below the ones that it changes.
+/// columns anew.
 pub fn apply_layers(
     alloc: Global,
     keys: &[u32],
@@ -76,14 +81,13 @@ pub fn apply_layers(
         unreachable!()
     };
     let mut spent = Vec::new(alloc);
-    let mut made = apply_layer(alloc, &mut spent, keys, &columns, lowest)?;
-    spent = columns;
+    let mut made = apply_layer(alloc, &mut spent, keys, columns, lowest)?;
     for layer in above {
         if !layer.is_empty() {
             let keys_below = made.keys.as_slice();
-            let columns_below = made.columns.as_slice();
+            let columns_below = replace(&mut made.columns, Vec::new(alloc));
             let next = apply_layer(alloc, &mut spent, keys_below, columns_below, layer)?;
-            spent = replace(&mut made, next).columns;
+            made = next;
         }
     }
     Ok(made)

@@ -1,7 +1,7 @@
 -- Pieces and the columns of a base.
 use Rattle.std.proofs.Common.{◌≡◌, ℕ, zero, suc, ◌+◌, ◌<◌, ◌≤◌, List, [], ◌∷◌, ◌++◌, length, get_or, take, drop, refl, sym, ap, subst, ◌∙◌, arith, append_assoc}
 use Rattle.std.specs.List.{remove}
-use Rattle.std.proofs.lemmas.List.{take_more, take_all, length-take}
+use Rattle.std.proofs.lemmas.List.{get_or-drop, take_more, take_all, length-take}
 use Rattle.cs_schema.specs.declared.cells.Value.{Value}
 use Rattle.cs_schema.specs.CatalogData.{CatalogData, projection, code_at, kind_at}
 use Rattle.cs_codec.specs.ColumnText.{FitsColumn}
@@ -53,3 +53,9 @@ first_off (suc j) (x ∷ xs) = first_off j xs
 
 pub one_less : {X : Type 0} (j : ℕ) (left xs : List X) → left ≡ drop j xs → remove left 0 ≡ drop (j + 1) xs
 one_less j left xs e = ap (λ l. remove l 0) e ∙ first_off j xs ∙ ap (λ n. drop n xs) (let z : suc j ≡ j + 1 = omega arith in z)
+
+-- the first of what is left of a list is the one of its number
+pub one_there : {X : Type 0} (xs left : List X) (j : ℕ) (x : X) → left ≡ drop j xs → x ≡ get_or left 0 x → x ≡ get_or xs j x
+one_there xs left j x e h =
+    let same : j + 0 ≡ j = omega arith in
+    h ∙ ap (λ l. get_or l 0 x) e ∙ get_or-drop j xs 0 x ∙ ap (λ n. get_or xs n x) same

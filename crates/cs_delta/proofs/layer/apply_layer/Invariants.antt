@@ -1,4 +1,4 @@
-use Rattle.std.proofs.Common.{◌≡◌, map, take}
+use Rattle.std.proofs.Common.{◌≡◌, map, take, drop}
 use Rattle.cs_schema.specs.Values.{values, kind_of}
 use Rattle.cs_delta.specs.ItemView.{change_of}
 use Rattle.cs_delta.specs.Layers.{edited_columns}
@@ -6,6 +6,7 @@ use Rattle.cs_delta.proofs.layer.apply_layer.Given as goal
 
 abbrev pub invariant-loop-j : goal.invariant-loop-j
 invariant-loop-j l = record {
-  columns_are : map values l.merged.items ≡ edited_columns (map change_of l.items) 0 (map values (take l.j l.columns));
-  kinds : map kind_of l.merged.items ≡ map kind_of (take l.j l.columns);
+  left : l.columns.items ≡ drop l.j l.fn.columns.items;
+  columns_are : map values l.merged.items ≡ edited_columns (map change_of l.items) 0 (map values (take l.j l.fn.columns.items));
+  kinds : map kind_of l.merged.items ≡ map kind_of (take l.j l.fn.columns.items);
 }

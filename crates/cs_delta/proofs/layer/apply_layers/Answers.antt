@@ -16,7 +16,7 @@ returns-in_err-made-clause-many c = λ damaged xs e fit.
     let q = err_from_is_err_and c.from_residual.result c.from_residual.ensures.1 in
     let keys = c.args.keys.now in
     let columns = map values c.args.columns.items in
-    let many = rw c.deref-2.ensures.value at c.in_err-made.ensures.many in
+    let many = rw c.deref.ensures.value at c.in_err-made.ensures.many in
     too_many keys keys columns columns (map changes_of c.args.layers.now) [] (map changes_of c.in-Some.above.now) (changes_of c.in-Some.lowest.now) xs
     (ap (map changes_of) c.in-Some.ensures.cases.0) (made_none keys columns) e (many (let r1 = q.1 in let r2 = q.2 in cc)) fit
 
@@ -26,9 +26,9 @@ loop-layer-init c =
     let lowest = c.in-Some.lowest.now in
     let above = c.in-Some.above.now in
     let new = c.in_ok-made.made in
-    let keys = rw c.deref-2.ensures.value at c.in_ok-made.ensures.keys in
-    let cells = rw (c.deref.ensures.value, c.deref-2.ensures.value) at c.in_ok-made.ensures.columns in
-    let kinds = rw c.deref.ensures.value at c.in_ok-made.ensures.kinds in
+    let keys = rw c.deref.ensures.value at c.in_ok-made.ensures.keys in
+    let cells = rw c.deref.ensures.value at c.in_ok-made.ensures.columns in
+    let kinds = c.in_ok-made.ensures.kinds in
     let A : List (Vec Item Global) → Type 0 = λ x. AreLayers (map kind_of columns) c.args.keys.now (map changes_of x) in
     let first = made_first c.args.keys.now (map values columns) (map kind_of columns) (map changes_of (lowest ∷ above)) (subst A c.in-Some.ensures.cases.0 c.requires.layers) c.requires.lengths (length-map columns kind_of ∙ sym (length-map columns values)) in
     let made = made_next c.args.keys.now c.args.keys.now new.keys.items (map values columns) (map values columns) (map values new.columns.items) (map kind_of columns) (map kind_of columns) (map kind_of new.columns.items) [] (changes_of lowest) (map changes_of above) first keys cells kinds c.in_ok-made.ensures.few in
@@ -49,12 +49,12 @@ apply_layer-requires-then-not-is_empty-clause-layer c =
     let old = c.loop-layer.made in
     let A : List (Vec Item Global) → Type 0 = λ x. AreLayers (map kind_of old.columns.items) old.keys.items (map changes_of x) in
     let left = subst A (drop_item above n c.layer-item.result c.loop-layer-test.true c.layer-item.is) i.layers_left in
-    rw (c.as_slice-columns_below.ensures.value, c.as_slice-keys_below.ensures.value, c.deref-then-not-is_empty.ensures.value) left.0
+    rw (c.replace-columns_below.ensures.value, c.as_slice-keys_below.ensures.value, c.deref-then-not-is_empty.ensures.value) left.0
 
 pub apply_layer-requires-then-not-is_empty-clause-lengths : goal.apply_layer-requires-then-not-is_empty-clause-lengths
 apply_layer-requires-then-not-is_empty-clause-lengths c =
     let i = c.loop-layer.invariant.made_are c.in-Some.lowest.now c.in-Some.ensures.cases.0 in
-    rw (c.as_slice-columns_below.ensures.value, c.as_slice-keys_below.ensures.value) i.lengths
+    rw (c.replace-columns_below.ensures.value, c.as_slice-keys_below.ensures.value) i.lengths
 
 pub returns-in_err-next-clause-many : goal.returns-in_err-next-clause-many
 returns-in_err-next-clause-many c = λ damaged xs e fit.
@@ -86,9 +86,9 @@ loop-layer-preserved c =
       | then-not-is_empty+in_ok-next w ↦
           let new = w.in_ok-next.next in
           let keys = rw (w.as_slice-keys_below.ensures.value, w.deref-then-not-is_empty.ensures.value) at w.in_ok-next.ensures.keys in
-          let cells = rw (w.as_slice-columns_below.ensures.value, w.deref-then-not-is_empty.ensures.value) at w.in_ok-next.ensures.columns in
-          let kinds = rw w.as_slice-columns_below.ensures.value at w.in_ok-next.ensures.kinds in
-          rw (w.made-is, w.replace.ensures.after) (record {
+          let cells = rw (w.replace-columns_below.ensures.value, w.deref-then-not-is_empty.ensures.value) at w.in_ok-next.ensures.columns in
+          let kinds = rw w.replace-columns_below.ensures.value at w.in_ok-next.ensures.kinds in
+          rw w.made-is (record {
             made_are = λ lowest e.
                 let M : List (List Change) → Type 0 = λ x. AreMade c.args.keys.now (map values columns) (map kind_of columns) (changes_of lowest ∷ x) (map changes_of (drop (n + 1) above)) new.keys.items (map values new.columns.items) (map kind_of new.columns.items) in
                 subst M (sym more) (made_next c.args.keys.now old.keys.items new.keys.items (map values columns) (map values old.columns.items) (map values new.columns.items) (map kind_of columns) (map kind_of old.columns.items) (map kind_of new.columns.items) (changes_of lowest ∷ map changes_of (take n above)) l (map changes_of (drop (n + 1) above)) (before lowest e) keys cells kinds w.in_ok-next.ensures.few);

@@ -1,18 +1,12 @@
 use Rattle.std.proofs.Common.{◌≡◌, ◌+◌, ◌-◌, ℕ, List, drop, ap, ◌∙◌, arith, length, get_or}
-use Rattle.std.proofs.lemmas.List.{get_or-drop, length-drop}
+use Rattle.std.proofs.lemmas.List.{length-drop}
 use Rattle.cs_piece.specs.declared.pieces.Piece.{Piece}
 use Rattle.cs_segment.specs.SegmentFile.{sealed, base_column}
-use Rattle.cs_segment.proofs.PieceColumns.{column_at, text_more, body_made, one_less}
+use Rattle.cs_segment.proofs.PieceColumns.{column_at, text_more, body_made, one_less, one_there}
 use Rattle.cs_segment.proofs.writing.write_segment.Goals as goal
 
 pub remove-piece-requires : goal.remove-piece-requires
 remove-piece-requires c = omega (arith, ap length c.loop-j.invariant.left, length-drop c.loop-j.j c.args.pieces.items, c.loop-j-test.true, c.len-j-end.ensures)
-
--- the first piece that is left is the one of its number
-one_there : (pieces left : List Piece) (j : ℕ) (x : Piece) → left ≡ drop j pieces → x ≡ get_or left 0 x → x ≡ get_or pieces j x
-one_there pieces left j x e h =
-    let same : j + 0 ≡ j = omega arith in
-    h ∙ ap (λ l. get_or l 0 x) e ∙ get_or-drop j pieces 0 x ∙ ap (λ n. get_or pieces n x) same
 
 pub put_part-requires : goal.put_part-requires
 put_part-requires c =
