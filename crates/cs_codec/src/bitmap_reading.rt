@@ -1,5 +1,5 @@
 //! The column that bytes may be the bitmaps of.
-ghost use Rattle.std.specs.Prelude.{◌≡◌, ◌≤◌, ◌<◌, false, IsTrue, IfOk, IfSome, IfNone, length};
+ghost use Rattle.std.specs.Prelude.{◌≡◌, ◌≤◌, ◌<◌, false, IsTrue, IfOk, IfSome, IfNone, OnOk, length};
 ghost use Rattle.std.specs.List.{AllByRecursion};
 ghost use Rattle.cs_codec.specs.Bitmaps.{bits_from};
 ghost use Rattle.cs_codec.specs.Bitmaps.{total, ones_of};
@@ -33,41 +33,48 @@ fn read_numbers(
 }
 
 /// Gives the positions from `start` up to `stop` the value.
-fn paint_run<C: Cell>(cells: &mut Vec<C>, value: &C, start: usize, stop: usize)
+fn paint_run<C: Cell>(
+    cells: &mut Vec<C>,
+    value: &C,
+    start: usize,
+    stop: usize,
+) -> Result<(), AllocError>
     requires order { start ≤ stop }
     requires within { stop ≤ length cells.old.items }
-    ensures painted { PaintsRun value.now start stop cells.old.items cells.new.items }
-    ensures hold { C.is_cell value.now → AllByRecursion C.is_cell cells.old.items
-        → AllByRecursion C.is_cell cells.new.items }
+    ensures painted { OnOk result (PaintsRun value.now start stop cells.old.items cells.new.items) }
+    ensures hold { OnOk result (C.is_cell value.now → AllByRecursion C.is_cell cells.old.items
+        → AllByRecursion C.is_cell cells.new.items) }
 {
     for k in start..stop {
-        cells[k] = value.copy();
+        cells[k] = value.copy(*cells.allocator())?;
     }
+    Ok(())
 }
 
 /// Gives the positions that the lengths of a bitmap name the value; not where they go past the last one.
-fn paint<C: Cell>(cells: &mut Vec<C>, value: &C, lengths: &[u32]) -> bool
-    ensures painted { IsTrue result → Painted value.now (bits_from false lengths.now) cells.old.items cells.new.items }
-    ensures too_long { result ≡ false → length cells.old.items < total lengths.now }
-    ensures size { length cells.new.items ≡ length cells.old.items }
-    ensures hold { C.is_cell value.now → AllByRecursion C.is_cell cells.old.items
-        → AllByRecursion C.is_cell cells.new.items }
+fn paint<C: Cell>(cells: &mut Vec<C>, value: &C, lengths: &[u32]) -> Result<bool, AllocError>
+    ensures painted { IfOk result (λ all. IsTrue all
+        → Painted value.now (bits_from false lengths.now) cells.old.items cells.new.items) }
+    ensures too_long { IfOk result (λ all. all ≡ false → length cells.old.items < total lengths.now) }
+    ensures size { OnOk result (length cells.new.items ≡ length cells.old.items) }
+    ensures hold { OnOk result (C.is_cell value.now → AllByRecursion C.is_cell cells.old.items
+        → AllByRecursion C.is_cell cells.new.items) }
 {
     let mut position = 0;
     let mut ones = false;
     for length in lengths {
         let count = *length as usize;
         if count > cells.len() - position {
-            return false;
+            return Ok(false);
         }
         let stop = position + count;
         if ones {
-            paint_run(cells, value, position, stop);
+            paint_run(cells, value, position, stop)?;
         }
         position = stop;
         ones = !ones;
     }
-    true
+    Ok(true)
 }
 
 /// How many ones the lengths count, if these are at most `limit`.
@@ -98,7 +105,7 @@ fn read_entry<C: Cell>(
 ) -> Result<Option<(C, usize)>, AllocError>
     ensures { IfOk result (λ found. ReadsEntry C.bytes C.is_cell bytes.now at lengths.new.items found) }
 {
-    let Some((value, end)) = C::read(bytes, at) else {
+    let Some((value, end)) = C::read(*lengths.allocator(), bytes, at)? else {
         return Ok(None);
     };
     let Some(count) = read_number(bytes, end) else {
@@ -154,7 +161,8 @@ pub(crate) fn candidate<C: Cell>(
         let Some((value, next)) = read_entry(&mut lengths, bytes, at)? else {
             return Ok(None);
         };
-        if !paint(&mut cells, &value, &lengths) {
+        let all = paint(&mut cells, &value, &lengths)?;
+        if !all {
             return Ok(None);
         }
         at = next;
@@ -175,12 +183,12 @@ fn first_cells<C: Cell>(
     if rows == 0 {
         return Ok(Some(Vec::new(alloc)));
     }
-    let Some((first, _)) = C::read(bytes, 0) else {
+    let Some((first, _)) = C::read(alloc, bytes, 0)? else {
         return Ok(None);
     };
     let mut cells = Vec::with_capacity(alloc, rows as usize)?;
     for _ in 0..rows {
-        cells.push(first.copy())?;
+        cells.push(first.copy(alloc)?)?;
     }
     Ok(Some(cells))
 }

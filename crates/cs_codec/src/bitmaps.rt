@@ -52,7 +52,7 @@ fn add_one<C: Cell>(
     }
     let mut bitmap = Bitmap::new(alloc);
     bitmap.add(position)?;
-    bitmaps.insert(value.copy(), bitmap)?;
+    bitmaps.insert(value.copy(alloc)?, bitmap)?;
     Ok(())
 }
 

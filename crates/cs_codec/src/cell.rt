@@ -6,8 +6,8 @@ ghost use Rattle.cs_codec.specs.Texts.{plain_text};
 ghost use Rattle.cs_codec.specs.CellLaws.{int_exact, int_begins_one, text_exact, text_begins_one, int_some_bytes, text_some_bytes};
 
 use crate::numbers::u64_at;
-use cs_schema::Word;
-use std::alloc::AllocError;
+use cs_schema::Text;
+use std::alloc::{AllocError, Global};
 use std::str;
 
 /// What a column holds: values with an order, each with bytes of its own.
@@ -27,13 +27,13 @@ pub trait Cell: Ord + Drop {
         ensures err { OnErr result (out.new.items ≡ out.old.items) };
 
     /// The cell that stands at `at`, and its end.
-    fn read(text: &[u8], at: usize) -> Option<(Self, usize)>
-        ensures found { IfSome result (λ found. StandsAt bytes is_cell text.now at found.0 found.1) }
-        ensures none { IfNone result (NoneStandsAt bytes is_cell text.now at) };
+    fn read(alloc: Global, text: &[u8], at: usize) -> Result<Option<(Self, usize)>, AllocError>
+        ensures found { IfOk result (λ read. IfSome read (λ found. StandsAt bytes is_cell text.now at found.0 found.1)) }
+        ensures none { IfOk result (λ read. IfNone read (NoneStandsAt bytes is_cell text.now at)) };
 
     /// The same cell once more.
-    fn copy(&self) -> Self
-        ensures { result ≡ self.now };
+    fn copy(&self, alloc: Global) -> Result<Self, AllocError>
+        ensures { IfOk result (λ copy. copy ≡ self.now) };
 
     /// The number in the cell's bytes, where the cells are numbers of eight bytes: a part of one such cell keeps it, and
     /// takes no memory.
@@ -67,6 +67,16 @@ pub(crate) fn lone_bits<C: Cell>(cells: &[C]) -> Option<u64>
     cells[0].as_bits()
 }
 
+/// The int that stands at `at`, and its end.
+#[inline]
+pub(crate) fn read_int(text: &[u8], at: usize) -> Option<(i64, usize)>
+    ensures found { IfSome result (λ found. StandsAt int_cell IsInt text.now at found.0 found.1) }
+    ensures none { IfNone result (NoneStandsAt int_cell IsInt text.now at) }
+{
+    let bits = u64_at(text, at)?;
+    Some((bits.cast_signed(), at + 8))
+}
+
 impl Cell for i64 {
     ghost bytes = { int_cell };
 
@@ -81,14 +91,13 @@ impl Cell for i64 {
     }
 
     #[inline]
-    fn read(text: &[u8], at: usize) -> Option<(i64, usize)> {
-        let bits = u64_at(text, at)?;
-        Some((bits.cast_signed(), at + 8))
+    fn read(_alloc: Global, text: &[u8], at: usize) -> Result<Option<(i64, usize)>, AllocError> {
+        Ok(read_int(text, at))
     }
 
     #[inline]
-    fn copy(&self) -> i64 {
-        *self
+    fn copy(&self, _alloc: Global) -> Result<i64, AllocError> {
+        Ok(*self)
     }
 
     #[inline]
@@ -108,7 +117,7 @@ impl Cell for i64 {
     ghost begins_one = { int_begins_one };
 }
 
-impl Cell for Word {
+impl Cell for Text {
     ghost bytes = { text_cell };
 
     ghost is_cell = { IsText };
@@ -127,28 +136,28 @@ impl Cell for Word {
     }
 
     #[inline]
-    fn read(text: &[u8], at: usize) -> Option<(Word, usize)> {
+    fn read(alloc: Global, text: &[u8], at: usize) -> Result<Option<(Text, usize)>, AllocError> {
         if at >= text.len() {
-            return None;
+            return Ok(None);
         }
         let start = at + 1;
         let len = text[at] as usize;
         if text.len() - start < len {
-            return None;
+            return Ok(None);
         }
         let end = start + len;
         let Ok(valid) = str::from_utf8(&text[start..end]) else {
-            return None;
+            return Ok(None);
         };
-        let Ok(word) = Word::new(valid) else {
-            return None;
+        let Some(cell) = Text::new(alloc, valid)? else {
+            return Ok(None);
         };
-        Some((word, end))
+        Ok(Some((cell, end)))
     }
 
     #[inline]
-    fn copy(&self) -> Word {
-        self.copy()
+    fn copy(&self, alloc: Global) -> Result<Text, AllocError> {
+        self.copy(alloc)
     }
 
     #[inline]
@@ -157,8 +166,8 @@ impl Cell for Word {
     }
 
     #[inline]
-    fn from_bits(_bits: u64) -> Word {
-        Word::empty()
+    fn from_bits(_bits: u64) -> Text {
+        Text::empty()
     }
 
     ghost exact = { text_exact };

@@ -6,7 +6,7 @@ ghost use Rattle.cs_codec.specs.Texts.{groups, short, differences_text};
 ghost use Rattle.cs_codec.specs.Differences.{item, NeverFallsShort, GroupsStandAt, NoGroupsStandAt, ValueStandsAt, NoValueStandsAt};
 ghost use Rattle.cs_codec.specs.DifferenceLaws.{differences_one_list};
 
-use crate::cell::Cell;
+use crate::cell::{Cell, read_int};
 use crate::encoding::{CodecFault, Encoding};
 use crate::numbers::{read_number, write_number};
 use cs_schema::Code;
@@ -229,7 +229,7 @@ fn read_value(bytes: &[u8], at: usize, position: u32, before: i64) -> Option<(i6
         if number != position {
             return None;
         }
-        let (value, end) = i64::read(bytes, at + 4)?;
+        let (value, end) = read_int(bytes, at + 4)?;
         if value < before {
             return None;
         }

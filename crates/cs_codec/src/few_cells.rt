@@ -21,7 +21,7 @@ pub(crate) fn copies<C: Cell>(alloc: Global, cells: &[C]) -> Result<FewCells<C>,
 {
     let mut few = Vec::with_capacity(alloc, cells.len())?;
     for cell in cells {
-        few.push(cell.copy())?;
+        few.push(cell.copy(alloc)?)?;
     }
     Ok(FewCells { cells: few })
 }

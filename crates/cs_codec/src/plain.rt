@@ -113,7 +113,7 @@ impl<C: Cell> Encoding<C> for Plain {
         let mut cells = Vec::with_capacity(alloc, bytes.len().min(rows as usize))?;
         let mut at = 0;
         for _ in 0..rows {
-            let Some((cell, end)) = C::read(bytes, at) else {
+            let Some((cell, end)) = C::read(alloc, bytes, at)? else {
                 return Err(CodecFault::NotAText);
             };
             cells.push(cell)?;

@@ -164,7 +164,7 @@ fn push_run<C: Cell>(runs: &mut Vec<Run<C>>, value: &C, count: u32) -> Result<()
         return Ok(());
     }
     let run = Run {
-        value: value.copy(),
+        value: value.copy(*runs.allocator())?,
         count,
     };
     runs.push(run)?;
@@ -173,14 +173,25 @@ fn push_run<C: Cell>(runs: &mut Vec<Run<C>>, value: &C, count: u32) -> Result<()
 
 /// The run that stands at `at`, its position and its end.
 #[inline]
-fn read_run<C: Cell>(bytes: &[u8], at: usize) -> Option<(Run<C>, u32, usize)>
-    ensures found { IfSome result (λ found. RunStandsAt C.bytes C.is_cell bytes.now at found.0 found.1 found.2) }
-    ensures none { IfNone result (NoRunStandsAt C.bytes C.is_cell bytes.now at) }
+fn read_run<C: Cell>(
+    alloc: Global,
+    bytes: &[u8],
+    at: usize,
+) -> Result<Option<(Run<C>, u32, usize)>, AllocError>
+    ensures found { IfOk result (λ read. IfSome read (λ found.
+        RunStandsAt C.bytes C.is_cell bytes.now at found.0 found.1 found.2)) }
+    ensures none { IfOk result (λ read. IfNone read (NoRunStandsAt C.bytes C.is_cell bytes.now at)) }
 {
-    let (value, end) = C::read(bytes, at)?;
-    let position = read_number(bytes, end)?;
-    let count = read_number(bytes, end + 4)?;
-    Some((Run { value, count }, position, end + 8))
+    let Some((value, end)) = C::read(alloc, bytes, at)? else {
+        return Ok(None);
+    };
+    let Some(position) = read_number(bytes, end) else {
+        return Ok(None);
+    };
+    let Some(count) = read_number(bytes, end + 4) else {
+        return Ok(None);
+    };
+    Ok(Some((Run { value, count }, position, end + 8)))
 }
 
 /// Whether a run may come after the others.
@@ -209,7 +220,7 @@ fn read_runs<C: Cell>(alloc: Global, bytes: &[u8], rows: u32) -> Result<Vec<Run<
     let mut count = 0;
     let mut at = 0;
     while at < bytes.len() {
-        let Some((run, position, end)) = read_run(bytes, at) else {
+        let Some((run, position, end)) = read_run(alloc, bytes, at)? else {
             return Err(CodecFault::NotAText);
         };
         if position != count + 1 {
@@ -238,7 +249,7 @@ fn spread<C: Cell>(alloc: Global, runs: &[Run<C>], rows: u32) -> Result<Vec<C>, 
     let mut cells = Vec::with_capacity(alloc, rows as usize)?;
     for run in runs {
         for _ in 0..run.count {
-            cells.push(run.value.copy())?;
+            cells.push(run.value.copy(alloc)?)?;
         }
     }
     Ok(cells)

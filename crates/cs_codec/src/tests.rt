@@ -5,7 +5,7 @@ use crate::differences::{Differences, DifferencesPart};
 use crate::encoding::Encoding;
 use crate::plain::Plain;
 use crate::runs::Runs;
-use cs_schema::Word;
+use cs_schema::Text;
 use std::alloc::{AllocError, Global};
 use std::test::Fail;
 
@@ -186,14 +186,14 @@ fn plain_cells_are_written_and_read(rt: HostRuntime) -> Result<(), Fail> {
         0, 0, 0, 0, 0, 0, 0, 1, 0xff, 0xff, 0xff, 0xff, 0xff, 0xff, 0xff, 0xff,
     ];
     assert_eq!(rt; text.as_slice(), expected.as_slice());
-    let words = <Plain as Encoding<Word>>::read(alloc, &[0, 2, 0xc3, 0xa9], 2)?;
+    let words = <Plain as Encoding<Text>>::read(alloc, &[0, 2, 0xc3, 0xa9], 2)?;
     assert_eq!(rt; words.len(), 2);
     assert_eq!(rt; words[0].as_str(), "");
     assert_eq!(rt; words[1].as_str(), "é");
-    let part = <Plain as Encoding<Word>>::encode(alloc, &words)?;
-    let back = <Plain as Encoding<Word>>::write(alloc, &part)?;
+    let part = <Plain as Encoding<Text>>::encode(alloc, &words)?;
+    let back = <Plain as Encoding<Text>>::write(alloc, &part)?;
     assert_eq!(rt; back.as_slice(), [0, 2, 0xc3, 0xa9].as_slice());
-    assert!(rt; <Plain as Encoding<Word>>::read(alloc, &[1, 0xff], 1).is_err());
-    assert!(rt; <Plain as Encoding<Word>>::read(alloc, &[0, 0], 1).is_err());
+    assert!(rt; <Plain as Encoding<Text>>::read(alloc, &[1, 0xff], 1).is_err());
+    assert!(rt; <Plain as Encoding<Text>>::read(alloc, &[0, 0], 1).is_err());
     Ok(())
 }

@@ -69,7 +69,10 @@ pub fn push(out: &mut Cells, cell: &ItemCell) -> Result<(), AllocError>
 {
     match (out, &cell.place) {
         (Cells::Ints(out), CellPlace::Int(int)) => out.push(*int)?,
-        (Cells::Texts(out), CellPlace::Text(text)) => out.push(text.copy())?,
+        (Cells::Texts(out), CellPlace::Text(text)) => {
+            let text = text.copy(*out.allocator())?;
+            out.push(text)?
+        }
         _ => unreachable!(),
     }
     Ok(())

@@ -10,7 +10,7 @@ use crate::delta::Delta;
 use crate::item::Item;
 use crate::item_cell::ItemCell;
 use cs_codec::Cell;
-use cs_schema::{Catalog, Kind, Word};
+use cs_schema::{Catalog, Kind, Text};
 use cs_segment::bytes::{after, number};
 use cs_segment::fault::FileFault;
 use cs_segment::seal::unseal;
@@ -29,13 +29,13 @@ fn read_cell(alloc: Global, kind: Kind, bytes: &[u8]) -> Result<(ItemCell, &[u8]
 {
     match kind {
         Kind::Int => {
-            let Some((int, end)) = <i64 as Cell>::read(bytes, 0) else {
+            let Some((int, end)) = <i64 as Cell>::read(alloc, bytes, 0)? else {
                 return Err(FileFault::Damaged);
             };
             Ok((ItemCell::int(int), &bytes[end..]))
         }
         Kind::Text => {
-            let Some((text, end)) = <Word as Cell>::read(bytes, 0) else {
+            let Some((text, end)) = <Text as Cell>::read(alloc, bytes, 0)? else {
                 return Err(FileFault::Damaged);
             };
             Ok((ItemCell::text(alloc, text)?, &bytes[end..]))

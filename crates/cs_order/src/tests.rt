@@ -5,7 +5,7 @@ use crate::samples::walked_rows;
 use crate::{OrderFault, orders};
 use cs_rows::Table;
 use cs_schema::samples::{CITIES, THREE_PROJECTIONS, TWO_ORDERS};
-use cs_schema::{Catalog, Cells, Value, Word, read_catalog};
+use cs_schema::{Catalog, Cells, Text, Value, read_catalog};
 use std::alloc::{AllocGlobal, Global};
 use std::test::Fail;
 use std::thread::Threads;
@@ -115,7 +115,7 @@ fn cities(rt: &HostRuntime, rows: &[(i64, &str)]) -> Result<Vec<Cells>, Fail> {
     let mut values = Vec::new(rt.alloc());
     for (id, name) in rows {
         ids.push(*id)?;
-        names.push(Word::new(name)?)?;
+        names.push(Text::new(rt.alloc(), name)?.ok_or("text")?)?;
         values.push(0)?;
     }
     Ok(vec![in rt.alloc(); Cells::Ints(ids), Cells::Texts(names), Cells::Ints(values)]?)

@@ -12,16 +12,16 @@ use cs_codec::bitmaps::{Bitmaps, BitmapsPart};
 use cs_codec::differences::{Differences, DifferencesPart};
 use cs_codec::plain::{Plain, PlainPart};
 use cs_codec::runs::{Runs, RunsPart};
-use cs_schema::{Cells, Code, Word};
+use cs_schema::{Cells, Code, Text};
 use std::alloc::{AllocError, Global};
 
 /// A part of a column of some code and kind, which can be joined with the part that comes next.
 #[derive(Drop)]
 pub enum Piece {
     IntRuns(RunsPart<i64>),
-    TextRuns(RunsPart<Word>),
+    TextRuns(RunsPart<Text>),
     IntBitmaps(BitmapsPart<i64>),
-    TextBitmaps(BitmapsPart<Word>),
+    TextBitmaps(BitmapsPart<Text>),
     RisingInts(DifferencesPart),
     /// The empty column of texts under `Code::Differences`.
     NoTexts,
@@ -39,13 +39,13 @@ impl Piece {
                 <Runs as Encoding<i64>>::can_join(left, right)
             }
             (Piece::TextRuns(left), Piece::TextRuns(right)) => {
-                <Runs as Encoding<Word>>::can_join(left, right)
+                <Runs as Encoding<Text>>::can_join(left, right)
             }
             (Piece::IntBitmaps(left), Piece::IntBitmaps(right)) => {
                 <Bitmaps as Encoding<i64>>::can_join(left, right)
             }
             (Piece::TextBitmaps(left), Piece::TextBitmaps(right)) => {
-                <Bitmaps as Encoding<Word>>::can_join(left, right)
+                <Bitmaps as Encoding<Text>>::can_join(left, right)
             }
             (Piece::RisingInts(left), Piece::RisingInts(right)) => {
                 Differences::can_join(left, right)
@@ -54,7 +54,7 @@ impl Piece {
                 <Plain as Encoding<i64>>::can_join(left, right)
             }
             (Piece::PlainTexts(left), Piece::PlainTexts(right)) => {
-                <Plain as Encoding<Word>>::can_join(left, right)
+                <Plain as Encoding<Text>>::can_join(left, right)
             }
             (Piece::NoTexts, Piece::NoTexts) => true,
             _ => false,
@@ -85,13 +85,13 @@ pub fn encode_piece(alloc: Global, code: Code, cells: &Cells) -> Result<Piece, A
             Piece::IntRuns(<Runs as Encoding<i64>>::encode(alloc, cells)?)
         }
         (Code::Runs, Cells::Texts(cells)) => {
-            Piece::TextRuns(<Runs as Encoding<Word>>::encode(alloc, cells)?)
+            Piece::TextRuns(<Runs as Encoding<Text>>::encode(alloc, cells)?)
         }
         (Code::Bitmaps, Cells::Ints(cells)) => {
             Piece::IntBitmaps(<Bitmaps as Encoding<i64>>::encode(alloc, cells)?)
         }
         (Code::Bitmaps, Cells::Texts(cells)) => {
-            Piece::TextBitmaps(<Bitmaps as Encoding<Word>>::encode(alloc, cells)?)
+            Piece::TextBitmaps(<Bitmaps as Encoding<Text>>::encode(alloc, cells)?)
         }
         (Code::Differences, Cells::Ints(cells)) => {
             Piece::RisingInts(Differences::encode(alloc, cells)?)
@@ -100,7 +100,7 @@ pub fn encode_piece(alloc: Global, code: Code, cells: &Cells) -> Result<Piece, A
             Piece::PlainInts(<Plain as Encoding<i64>>::encode(alloc, cells)?)
         }
         (Code::Plain, Cells::Texts(cells)) => {
-            Piece::PlainTexts(<Plain as Encoding<Word>>::encode(alloc, cells)?)
+            Piece::PlainTexts(<Plain as Encoding<Text>>::encode(alloc, cells)?)
         }
         (Code::Differences, Cells::Texts(_)) => Piece::NoTexts,
     })
@@ -116,13 +116,13 @@ pub fn join_pieces(left: Piece, right: Piece) -> Result<Piece, AllocError>
             Piece::IntRuns(<Runs as Encoding<i64>>::join(left, right)?)
         }
         (Piece::TextRuns(left), Piece::TextRuns(right)) => {
-            Piece::TextRuns(<Runs as Encoding<Word>>::join(left, right)?)
+            Piece::TextRuns(<Runs as Encoding<Text>>::join(left, right)?)
         }
         (Piece::IntBitmaps(left), Piece::IntBitmaps(right)) => {
             Piece::IntBitmaps(<Bitmaps as Encoding<i64>>::join(left, right)?)
         }
         (Piece::TextBitmaps(left), Piece::TextBitmaps(right)) => {
-            Piece::TextBitmaps(<Bitmaps as Encoding<Word>>::join(left, right)?)
+            Piece::TextBitmaps(<Bitmaps as Encoding<Text>>::join(left, right)?)
         }
         (Piece::RisingInts(left), Piece::RisingInts(right)) => {
             Piece::RisingInts(Differences::join(left, right)?)
@@ -131,7 +131,7 @@ pub fn join_pieces(left: Piece, right: Piece) -> Result<Piece, AllocError>
             Piece::PlainInts(<Plain as Encoding<i64>>::join(left, right)?)
         }
         (Piece::PlainTexts(left), Piece::PlainTexts(right)) => {
-            Piece::PlainTexts(<Plain as Encoding<Word>>::join(left, right)?)
+            Piece::PlainTexts(<Plain as Encoding<Text>>::join(left, right)?)
         }
         (Piece::NoTexts, Piece::NoTexts) => Piece::NoTexts,
         _ => unreachable!(),
@@ -145,12 +145,12 @@ pub fn write_piece(alloc: Global, piece: &Piece) -> Result<Vec<u8>, AllocError>
 {
     match piece {
         Piece::IntRuns(part) => <Runs as Encoding<i64>>::write(alloc, part),
-        Piece::TextRuns(part) => <Runs as Encoding<Word>>::write(alloc, part),
+        Piece::TextRuns(part) => <Runs as Encoding<Text>>::write(alloc, part),
         Piece::IntBitmaps(part) => <Bitmaps as Encoding<i64>>::write(alloc, part),
-        Piece::TextBitmaps(part) => <Bitmaps as Encoding<Word>>::write(alloc, part),
+        Piece::TextBitmaps(part) => <Bitmaps as Encoding<Text>>::write(alloc, part),
         Piece::RisingInts(part) => <Differences as Encoding<i64>>::write(alloc, part),
         Piece::PlainInts(part) => <Plain as Encoding<i64>>::write(alloc, part),
-        Piece::PlainTexts(part) => <Plain as Encoding<Word>>::write(alloc, part),
+        Piece::PlainTexts(part) => <Plain as Encoding<Text>>::write(alloc, part),
         Piece::NoTexts => Ok(Vec::new(alloc)),
     }
 }

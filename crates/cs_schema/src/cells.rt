@@ -7,7 +7,7 @@ ghost use Rattle.cs_schema.specs.Values.{value_cmp, value_eq, value_kind, values
 ghost use Rattle.cs_schema.specs.ValueOrder.{value_cmp_total};
 ghost use Rattle.cs_schema.specs.Rows.{cell};
 
-use crate::{Kind, Word};
+use crate::{Kind, Text, Word};
 use std::alloc::{AllocError, Global};
 use std::cmp::Ordering;
 
@@ -79,7 +79,7 @@ impl Ord for Value {
             (Value::Int(int), Value::Int(other)) => int.cmp(other),
             (Value::Int(_), Value::Text(_)) => Ordering::Less,
             (Value::Text(_), Value::Int(_)) => Ordering::Greater,
-            (Value::Text(text), Value::Text(other)) => text.cmp(other),
+            (Value::Text(text), Value::Text(other)) => text.as_str().cmp(other.as_str()),
         }
     }
 }
@@ -88,7 +88,7 @@ impl Ord for Value {
 #[derive(Drop)]
 pub enum Cells {
     Ints(Vec<i64>),
-    Texts(Vec<Word>),
+    Texts(Vec<Text>),
 }
 
 impl Cells {
@@ -138,7 +138,7 @@ impl Cells {
     {
         match self {
             Cells::Ints(ints) => Value::Int(ints[at]),
-            Cells::Texts(texts) => Value::Text(texts[at].copy()),
+            Cells::Texts(texts) => Value::Text(texts[at].word()),
         }
     }
 
@@ -151,7 +151,7 @@ impl Cells {
             (Cells::Ints(ints), Value::Int(int)) => ints[at].cmp(int),
             (Cells::Ints(_), Value::Text(_)) => Ordering::Less,
             (Cells::Texts(_), Value::Int(_)) => Ordering::Greater,
-            (Cells::Texts(texts), Value::Text(text)) => texts[at].cmp(text),
+            (Cells::Texts(texts), Value::Text(text)) => texts[at].as_str().cmp(text.as_str()),
         }
     }
 
@@ -188,7 +188,10 @@ impl Cells {
     {
         match (self, other) {
             (Cells::Ints(ints), Cells::Ints(others)) => ints.push(others[at])?,
-            (Cells::Texts(texts), Cells::Texts(others)) => texts.push(others[at].copy())?,
+            (Cells::Texts(texts), Cells::Texts(others)) => {
+                let text = others[at].copy(*texts.allocator())?;
+                texts.push(text)?
+            }
             (Cells::Ints(_), Cells::Texts(_)) => {}
             (Cells::Texts(_), Cells::Ints(_)) => {}
         }
@@ -204,7 +207,10 @@ impl Cells {
     {
         match (self, value) {
             (Cells::Ints(ints), Value::Int(int)) => ints.push(int)?,
-            (Cells::Texts(texts), Value::Text(text)) => texts.push(text)?,
+            (Cells::Texts(texts), Value::Text(text)) => {
+                let text = Text::of_word(*texts.allocator(), &text)?;
+                texts.push(text)?
+            }
             (Cells::Ints(_), Value::Text(_)) => {}
             (Cells::Texts(_), Value::Int(_)) => {}
         }
@@ -268,12 +274,13 @@ impl Cells {
 }
 
 /// Adds copies of texts at the end.
-fn extend_texts(texts: &mut Vec<Word>, others: &[Word]) -> Result<(), AllocError>
+fn extend_texts(texts: &mut Vec<Text>, others: &[Text]) -> Result<(), AllocError>
     ensures { OnOk result (texts.new.items ≡ texts.old.items ++ others.now) }
 {
+    let alloc = *texts.allocator();
     texts.reserve(others.len())?;
     for text in others {
-        texts.push(text.copy())?;
+        texts.push(text.copy(alloc)?)?;
     }
     Ok(())
 }

@@ -21,6 +21,7 @@ mod rules;
 pub mod samples;
 #[cfg(test)]
 mod tests;
+mod text;
 mod word;
 
 pub use catalog::{Catalog, Column, Projection};
@@ -30,4 +31,5 @@ pub use file_name::FileName;
 pub use kinds::{Code, Kind, Safety};
 pub use loss::Loss;
 pub use read::read_catalog;
+pub use text::{Text, TextPlace};
 pub use word::{Word, WordFault};

@@ -1,6 +1,7 @@
 use crate::samples::{CITIES, SPLIT_COLUMNS, THREE_PROJECTIONS, TWO_ORDERS};
 use crate::{
-    CatalogFault, Cells, Code, FileName, Kind, Loss, Safety, Value, Word, WordFault, read_catalog,
+    CatalogFault, Cells, Code, FileName, Kind, Loss, Safety, Text, Value, Word, WordFault,
+    read_catalog,
 };
 use std::test::Fail;
 
@@ -282,6 +283,22 @@ fn keeps_words(rt: HostRuntime) -> Result<(), Fail> {
 }
 
 #[test]
+fn keeps_texts(rt: HostRuntime) -> Result<(), Fail> {
+    let alloc = rt.alloc();
+    let bytes = [97u8; 256];
+    for len in [0usize, 24, 25, 255] {
+        let text = std::str::from_utf8(&bytes[..len]).ok().ok_or("text")?;
+        let cell = Text::new(alloc, text)?.ok_or("cell")?;
+        let copy = cell.copy(alloc)?;
+        assert!(rt; copy == cell && copy >= Text::empty());
+        assert_eq!(rt; copy.as_bytes().len(), len);
+    }
+    let text = std::str::from_utf8(&bytes).ok().ok_or("text")?;
+    assert!(rt; Text::new(alloc, text)?.is_none());
+    Ok(())
+}
+
+#[test]
 fn grows_cells(rt: HostRuntime) -> Result<(), Fail> {
     let mut cells = Cells::new(rt.alloc(), Kind::Int);
     cells.push(Value::Int(5))?;
@@ -294,7 +311,7 @@ fn grows_cells(rt: HostRuntime) -> Result<(), Fail> {
     assert!(rt; cells.cell(2) == Value::Int(4));
     assert!(rt; cells.same(1, &cells, 3) && !cells.same(0, &cells, 1));
     assert!(rt; Kind::Int.least() == Value::Int(i64::MIN));
-    assert_eq!(rt; Word::empty().as_bytes().len(), 0);
+    assert_eq!(rt; Word::empty().as_str().len(), 0);
     cells.truncate(1);
     assert_eq!(rt; cells.len(), 1);
     Ok(())

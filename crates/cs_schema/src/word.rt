@@ -1,12 +1,7 @@
 //! A text of at most 255 bytes, which lies in the value itself.
-ghost use Rattle.std.specs.Prelude.{◌≡◌, ◌≤◌, ◌<◌, ◌↔◌, List, [], length, IsOk, IfOk, IsUtf8, refl};
-ghost use Rattle.std.specs.Ordering.{nat_cmp};
-ghost use Rattle.std.specs.Cmp.Lexicographic.{pointwise, slice_cmp, nat_list_eq_equiv, nat_list_cmp_total, texts_po, texts_ties};
-ghost use Rattle.std.specs.Cmp.{partial_equiv_from_equiv};
-ghost use Rattle.std.specs.Prelude.{nat_eq, Some};
+ghost use Rattle.std.specs.Prelude.{◌≡◌, ◌≤◌, ◌↔◌, [], length, IsOk, IfOk, IsUtf8};
 
 use arrayvec::ArrayString;
-use std::cmp::Ordering;
 use std::marker::Model;
 use thiserror::Error;
 
@@ -62,15 +57,6 @@ impl Word {
         }
     }
 
-    /// The bytes of the text.
-    pub fn as_bytes(&self) -> &[u8]
-        ensures value { result.now ≡ self.now }
-        ensures fits { length result.now ≤ 255 }
-        ensures utf8 { IsUtf8 result.now }
-    {
-        self.as_str().as_bytes()
-    }
-
     /// The same text once more.
     pub fn copy(&self) -> Word
         ensures value { result ≡ self.now }
@@ -79,43 +65,5 @@ impl Word {
     {
         let _text = self.as_str();
         Word { text: self.text }
-    }
-}
-
-impl PartialEq for Word {
-    ghost eq = { λ s t. pointwise nat_eq s t };
-
-    ghost laws = { partial_equiv_from_equiv nat_list_eq_equiv };
-
-    fn eq(&self, other: &Self) -> bool {
-        self.as_str() == other.as_str()
-    }
-}
-
-impl Eq for Word {
-    ghost laws = { nat_list_eq_equiv };
-}
-
-impl PartialOrd for Word {
-    ghost partial_cmp = { λ s t. Some (slice_cmp nat_cmp s t) };
-
-    ghost laws = { texts_po };
-
-    fn partial_cmp(&self, other: &Self) -> Option<Ordering> {
-        Some(self.cmp(other))
-    }
-}
-
-impl Ord for Word {
-    ghost cmp = { slice_cmp nat_cmp };
-
-    ghost total = { nat_list_cmp_total };
-
-    ghost matches_partial_cmp = { λ s t. refl };
-
-    ghost matches_eq = { texts_ties };
-
-    fn cmp(&self, other: &Self) -> Ordering {
-        self.as_str().cmp(other.as_str())
     }
 }

@@ -21,10 +21,10 @@ returns-in_default-2-clause-none g c =
     no_entry g.C.Cell.bytes g.C.Cell.is_cell g.C.PartialEq.eq g.C.Ord.cmp c.args.bytes.now c.args.rows c.loop-at.at (Filled c.loop-at.cells.items) c.loop-at.invariant.far c.read_entry.new.lengths.items c.loop-at-test.true
     (subst (λ o. ReadsEntry g.C.Cell.bytes g.C.Cell.is_cell c.args.bytes.now c.loop-at.at c.read_entry.new.lengths.items o) c.in_default-2.is c.in_ok-value.ensures)
 
-pub returns-then-not-paint-clause-none : goal.returns-then-not-paint-clause-none
-returns-then-not-paint-clause-none g c = λ xs h.
+pub returns-then-not-all-clause-none : goal.returns-then-not-all-clause-none
+returns-then-not-all-clause-none g c = λ xs h.
     let size = c.loop-at.invariant.size in
-    let long = c.if-not-paint.ensures.too_long (search rules) in
+    let long = c.in_ok-all.ensures.too_long (search rules) in
     let same = ap total c.deref.ensures.value in
     let reads = subst (λ o. ReadsEntry g.C.Cell.bytes g.C.Cell.is_cell c.args.bytes.now c.loop-at.at c.read_entry.new.lengths.items o) c.in-Some-2.is c.in_ok-value.ensures in
     let next = one_more_entry g.C.Cell.bytes g.C.Cell.is_cell g.C.PartialEq.eq g.C.Ord.cmp c.args.bytes.now c.args.rows c.loop-at.at (Filled c.loop-at.cells.items) c.loop-at.invariant.far c.read_entry.new.lengths.items (c.in-Some-2.value, c.in-Some-2.next) (λ done ys. total c.read_entry.new.lengths.items < length ys + 1) c.loop-at-test.true reads
@@ -34,14 +34,14 @@ returns-then-not-paint-clause-none g c = λ xs h.
 pub loop-at-preserved : goal.loop-at-preserved
 loop-at-preserved g c =
     let size = c.loop-at.invariant.size in
-    let same = c.if-not-paint.ensures.size in
+    let same = c.in_ok-all.ensures.size in
     let reads = subst (λ o. ReadsEntry g.C.Cell.bytes g.C.Cell.is_cell c.args.bytes.now c.loop-at.at c.read_entry.new.lengths.items o) c.in-Some-2.is c.in_ok-value.ensures in
-    let painted : Painted c.in-Some-2.value (bits_from false c.read_entry.new.lengths.items) c.loop-at.cells.items c.paint.new.cells.items = subst (λ (ns : List ℕ). Painted c.in-Some-2.value (bits_from false ns) c.loop-at.cells.items c.paint.new.cells.items) c.deref.ensures.value (c.if-not-paint.ensures.painted (search rules)) in
+    let painted : Painted c.in-Some-2.value (bits_from false c.read_entry.new.lengths.items) c.loop-at.cells.items c.paint.new.cells.items = subst (λ (ns : List ℕ). Painted c.in-Some-2.value (bits_from false ns) c.loop-at.cells.items c.paint.new.cells.items) c.deref.ensures.value (c.in_ok-all.ensures.painted (search rules)) in
     record {
       far = one_more_entry g.C.Cell.bytes g.C.Cell.is_cell g.C.PartialEq.eq g.C.Ord.cmp c.args.bytes.now c.args.rows c.loop-at.at (Filled c.loop-at.cells.items) c.loop-at.invariant.far c.read_entry.new.lengths.items (c.in-Some-2.value, c.in-Some-2.next) (Filled c.paint.new.cells.items) c.loop-at-test.true reads
           (λ xs done x h value lengths known. filled_more g.C.PartialEq.eq (record { itself = g.met.C.Eq.laws.refl; exact = g.met.C.Cell.exact }) c.loop-at.cells.items c.paint.new.cells.items c.in-Some-2.value c.read_entry.new.lengths.items painted xs done x (h.rows_are ∙ sym size) value lengths known);
       size = omega (arith, size, same);
-      hold = c.if-not-paint.ensures.hold reads.2 c.loop-at.invariant.hold;
+      hold = c.in_ok-all.ensures.hold reads.2 c.loop-at.invariant.hold;
       within = reads.1;
     }
 

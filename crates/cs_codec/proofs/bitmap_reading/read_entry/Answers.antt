@@ -5,10 +5,10 @@ use Rattle.cs_codec.proofs.bitmap_reading.read_entry.Goals as goal
 
 pub returns-in_default-2 : goal.returns-in_default-2
 returns-in_default-2 g c =
-    no_lengths g.C.Cell.bytes g.C.Cell.is_cell g.met.C.Cell.begins_one c.args.bytes.now c.args.at c.in-Some.value c.in-Some.end c.in-Some.ensures.found c.in-Some-read_number.count c.in-Some-read_number.ensures.found c.read_numbers.new.numbers.items
+    no_lengths g.C.Cell.bytes g.C.Cell.is_cell g.met.C.Cell.begins_one c.args.bytes.now c.args.at c.in-Some.value c.in-Some.end (rw c.in-Some.is at c.in_ok-value.ensures.found) c.in-Some-read_number.count c.in-Some-read_number.ensures.found c.read_numbers.new.numbers.items
     (subst (λ (o : Option ℕ). ReadsNumbers c.args.bytes.now (c.in-Some.end + 4) c.in-Some-read_number.count c.read_numbers.new.numbers.items o) c.in_default-2.is c.in_ok-stop.ensures)
 
 pub returns : goal.returns
 returns g c =
-    entry_read g.C.Cell.bytes g.C.Cell.is_cell g.met.C.Cell.begins_one c.args.bytes.now c.args.at c.in-Some.value c.in-Some.end c.in-Some.ensures.found c.in-Some-read_number.count c.in-Some-read_number.ensures.found c.read_numbers.new.numbers.items c.in-Some-2.stop
+    entry_read g.C.Cell.bytes g.C.Cell.is_cell g.met.C.Cell.begins_one c.args.bytes.now c.args.at c.in-Some.value c.in-Some.end (rw c.in-Some.is at c.in_ok-value.ensures.found) c.in-Some-read_number.count c.in-Some-read_number.ensures.found c.read_numbers.new.numbers.items c.in-Some-2.stop
     (subst (λ (o : Option ℕ). ReadsNumbers c.args.bytes.now (c.in-Some.end + 4) c.in-Some-read_number.count c.read_numbers.new.numbers.items o) c.in-Some-2.is c.in_ok-stop.ensures)

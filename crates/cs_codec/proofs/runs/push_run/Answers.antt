@@ -28,7 +28,7 @@ kept g c =
     ]
 
 pub returns-clause-cells : goal.returns-clause-cells
-returns-clause-cells g c = rw (c.in_ok-push.ensures.items, c.copy.ensures) ((kept g c).cells ∙ ap (λ z. expand c.args.runs.now.items ++ z) (append-nil (replicate c.args.count c.args.value.now)))
+returns-clause-cells g c = rw (c.in_ok-push.ensures.items, c.in_ok-copy.ensures) ((kept g c).cells ∙ ap (λ z. expand c.args.runs.now.items ++ z) (append-nil (replicate c.args.count c.args.value.now)))
 
 pub returns-clause-proper : goal.returns-clause-proper
-returns-clause-proper g c = rw (c.in_ok-push.ensures.items, c.copy.ensures) ((kept g c).proper c.requires.proper)
+returns-clause-proper g c = rw (c.in_ok-push.ensures.items, c.in_ok-copy.ensures) ((kept g c).proper c.requires.proper)

@@ -9,14 +9,14 @@ returns-in_default-clause-not_a_text g c = λ _ others h.
     let i = c.loop-at.invariant in
     let so_far : ReadSoFar g.C.Cell.bytes g.C.Cell.is_cell c.args.bytes.now c.args.rows c.loop-at.at c.loop-at.runs.items = record { written = i.written; hold = i.hold; few = omega arith; short = c.requires } in
     let next = next_run g.C.Cell.bytes g.C.Cell.is_cell g.C.PartialEq.eq g.met.C.Cell.begins_one c.args.bytes.now c.args.rows c.loop-at.at c.loop-at.runs.items others so_far c.loop-at-test.true h in
-    none_stands g.C.Cell.bytes g.C.Cell.is_cell g.C.PartialEq.eq c.args.bytes.now c.args.rows c.loop-at.at c.loop-at.runs.items so_far next c.in_default.ensures.none
+    none_stands g.C.Cell.bytes g.C.Cell.is_cell g.C.PartialEq.eq c.args.bytes.now c.args.rows c.loop-at.at c.loop-at.runs.items so_far next (rw c.in_default.is at c.in_ok-run.ensures.none)
 
 pub returns-then-position-count-clause-not_a_text : goal.returns-then-position-count-clause-not_a_text
 returns-then-position-count-clause-not_a_text g c = λ _ others h.
     let i = c.loop-at.invariant in
     let so_far : ReadSoFar g.C.Cell.bytes g.C.Cell.is_cell c.args.bytes.now c.args.rows c.loop-at.at c.loop-at.runs.items = record { written = i.written; hold = i.hold; few = omega arith; short = c.requires } in
     let next = next_run g.C.Cell.bytes g.C.Cell.is_cell g.C.PartialEq.eq g.met.C.Cell.begins_one c.args.bytes.now c.args.rows c.loop-at.at c.loop-at.runs.items others so_far c.loop-at-test.true h in
-    let this = stands_next g.C.Cell.bytes g.C.Cell.is_cell g.C.PartialEq.eq g.met.C.Cell.begins_one c.args.bytes.now c.args.rows c.loop-at.at c.loop-at.runs.items c.in-Some.run' c.in-Some.position c.in-Some.end so_far next c.in-Some.ensures.found in
+    let this = stands_next g.C.Cell.bytes g.C.Cell.is_cell g.C.PartialEq.eq g.met.C.Cell.begins_one c.args.bytes.now c.args.rows c.loop-at.at c.loop-at.runs.items c.in-Some.run' c.in-Some.position c.in-Some.end so_far next (rw c.in-Some.is at c.in_ok-run.ensures.found) in
     let place = this.position_is in
     absurd (omega (arith, place))
 
@@ -25,7 +25,7 @@ returns-then-run-rows-clause-not_a_text g c = λ _ others h.
     let i = c.loop-at.invariant in
     let so_far : ReadSoFar g.C.Cell.bytes g.C.Cell.is_cell c.args.bytes.now c.args.rows c.loop-at.at c.loop-at.runs.items = record { written = i.written; hold = i.hold; few = omega arith; short = c.requires } in
     let next = next_run g.C.Cell.bytes g.C.Cell.is_cell g.C.PartialEq.eq g.met.C.Cell.begins_one c.args.bytes.now c.args.rows c.loop-at.at c.loop-at.runs.items others so_far c.loop-at-test.true h in
-    let this = stands_next g.C.Cell.bytes g.C.Cell.is_cell g.C.PartialEq.eq g.met.C.Cell.begins_one c.args.bytes.now c.args.rows c.loop-at.at c.loop-at.runs.items c.in-Some.run' c.in-Some.position c.in-Some.end so_far next c.in-Some.ensures.found in
+    let this = stands_next g.C.Cell.bytes g.C.Cell.is_cell g.C.PartialEq.eq g.met.C.Cell.begins_one c.args.bytes.now c.args.rows c.loop-at.at c.loop-at.runs.items c.in-Some.run' c.in-Some.position c.in-Some.end so_far next (rw c.in-Some.is at c.in_ok-run.ensures.found) in
     let few = this.few in
     absurd (omega (arith, few))
 
@@ -34,14 +34,14 @@ returns-then-not-goes_on-clause-not_a_text g c = λ _ others h.
     let i = c.loop-at.invariant in
     let so_far : ReadSoFar g.C.Cell.bytes g.C.Cell.is_cell c.args.bytes.now c.args.rows c.loop-at.at c.loop-at.runs.items = record { written = i.written; hold = i.hold; few = omega arith; short = c.requires } in
     let next = next_run g.C.Cell.bytes g.C.Cell.is_cell g.C.PartialEq.eq g.met.C.Cell.begins_one c.args.bytes.now c.args.rows c.loop-at.at c.loop-at.runs.items others so_far c.loop-at-test.true h in
-    let this = stands_next g.C.Cell.bytes g.C.Cell.is_cell g.C.PartialEq.eq g.met.C.Cell.begins_one c.args.bytes.now c.args.rows c.loop-at.at c.loop-at.runs.items c.in-Some.run' c.in-Some.position c.in-Some.end so_far next c.in-Some.ensures.found in
+    let this = stands_next g.C.Cell.bytes g.C.Cell.is_cell g.C.PartialEq.eq g.met.C.Cell.begins_one c.args.bytes.now c.args.rows c.loop-at.at c.loop-at.runs.items c.in-Some.run' c.in-Some.position c.in-Some.end so_far next (rw c.in-Some.is at c.in_ok-run.ensures.found) in
     c.goes_on.ensures.no (cc) this.rest this.proper
 
 pub loop-at-preserved : goal.loop-at-preserved
 loop-at-preserved g c =
     let i = c.loop-at.invariant in
     let rs = c.loop-at.runs.items in
-    let found = c.in-Some.ensures.found in
+    let found = (rw c.in-Some.is at c.in_ok-run.ensures.found) in
     let size = length-expand-push rs c.in-Some.run' in
     let place : c.in-Some.position ≡ 1 + length (expand rs) = omega arith in
     rw c.in_ok-push.ensures.items (record {

@@ -5,11 +5,11 @@ use Rattle.cs_codec.proofs.plain.PlainEncoding.read.Goals as goal
 
 pub returns-in_default-clause-not_a_text : goal.returns-in_default-clause-not_a_text
 returns-in_default-clause-not_a_text g c = λ _ others h.
-    one_more_stands g.C.Cell.bytes g.C.Cell.is_cell g.met.C.Cell.begins_one g.met.C.Cell.some_bytes c.args.bytes.now c.args.rows c.loop.at c.loop.cells.items others c.loop.invariant.hold c.loop.invariant.so_far (omega arith) h c.in_default.ensures.none
+    one_more_stands g.C.Cell.bytes g.C.Cell.is_cell g.met.C.Cell.begins_one g.met.C.Cell.some_bytes c.args.bytes.now c.args.rows c.loop.at c.loop.cells.items others c.loop.invariant.hold c.loop.invariant.so_far (omega arith) h (rw c.in_default.is at c.in_ok-cell.ensures.none)
 
 pub loop-preserved : goal.loop-preserved
 loop-preserved g c =
-    let found = c.in-Some.ensures.found in
+    let found = rw c.in-Some.is at c.in_ok-cell.ensures.found in
     rw c.in_ok-push.ensures.items (record {
       so_far = plain_more g.C.Cell.bytes g.C.Cell.is_cell c.args.bytes.now c.loop.at c.in-Some.end c.loop.cells.items c.in-Some.cell c.loop.invariant.so_far found;
       hold = all-push g.C.Cell.is_cell c.loop.cells.items c.in-Some.cell c.loop.invariant.hold found.holds;

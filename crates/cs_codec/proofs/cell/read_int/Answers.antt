@@ -1,6 +1,6 @@
 use Rattle.std.proofs.Common.{arith, rules}
 use Rattle.cs_codec.proofs.CellLemmas.{int_none, int_stands_as}
-use Rattle.cs_codec.proofs.cell.I64Cell.read.Goals as goal
+use Rattle.cs_codec.proofs.cell.read_int.Goals as goal
 
 pub returns-in_err-bits-clause-none : goal.returns-in_err-bits-clause-none
 returns-in_err-bits-clause-none c = rw c.from_residual.ensures (int_none c.args.text.now c.args.at c.in_err-bits.ensures)
