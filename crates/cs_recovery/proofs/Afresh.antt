@@ -1,9 +1,8 @@
 -- A segment that is written afresh: its columns fit, and its image has the keys 1, 2, 3, ..
-use Rattle.std.proofs.Common.{◌≡◌, ◌≢◌, ℕ, zero, suc, ◌+◌, ◌-◌, ◌<◌, ◌≤◌, List, [], ◌∷◌, ◌++◌, map, refl, sym, ap, subst, ◌∙◌, Bool, true, false, not, cond, ◌&&◌, ◌||◌, ◌⊎◌, inl, inr, Option, Some, None, length, get_or, arith, ◌==◌, eqb-true, eq-eqb, pos, Ordering}
-use Rattle.std.specs.Prelude.{nat_lt, nat_le, slice_index, ◌≤ℤ◌}
+use Rattle.std.proofs.Common.{◌≡◌, ◌≢◌, ℕ, zero, suc, ◌+◌, ◌-◌, ◌<◌, ◌≤◌, List, [], ◌∷◌, ◌++◌, map, refl, sym, ap, subst, ◌∙◌, true, false, ◌&&◌, ◌||◌, ◌⊎◌, inl, inr, Option, Some, length, get_or, arith, ◌==◌, eq-eqb, pos, Ordering}
+use Rattle.std.specs.Prelude.{slice_index, ◌≤ℤ◌}
 use Rattle.std.specs.List.{slice_get, range_with_len, enumerate_from, IsDistinct}
 use Rattle.std.specs.List.Sorted.{IsStrictlySortedBy}
-use Rattle.std.specs.Option.{option_map_or, option_and_then, option_or}
 use Rattle.std.specs.Ordering.{ordering_then, int_cmp}
 use Rattle.std.specs.Cmp.{int_ranked}
 use Rattle.std.specs.Cmp.Lexicographic.{slice_cmp}
@@ -12,44 +11,25 @@ use Rattle.std.proofs.lemmas.Option.{none-some, same_Some, slice_get-get_or, get
 use Rattle.std.proofs.lemmas.List.FromFn.{get_or-map-range_with_len, length-map-range_with_len, fill_by_all, length-enumerate_from, get_or-enumerate_from}
 use Rattle.std.proofs.Math.ListN.{length-map}
 use Rattle.std.proofs.lemmas.Int.{ints}
-use borrow.Author.Tests.{lt-ltb}
-use lib.Pointwise.{pointwise}
 use Rattle.cs_schema.specs.declared.kinds.Kind.{Kind}
 use Rattle.cs_schema.specs.declared.kinds.Code.{Code}
 use Rattle.cs_schema.specs.declared.cells.Value.{Value}
-use Rattle.cs_schema.specs.declared.file_name.FileName.{FileName}
-use Rattle.cs_schema.specs.CatalogData.{CatalogData, HasSegment, projection, segments, has_join, column}
+use Rattle.cs_schema.specs.CatalogData.{CatalogData, HasSegment, projection, column}
 use Rattle.cs_schema.specs.CatalogRules.{IsCatalog}
-use Rattle.cs_schema.specs.Rows.{Row, IsTable, segment_of_row, project, cell, row_cmp}
+use Rattle.cs_schema.specs.Rows.{Row, IsTable, project, cell, row_cmp}
 use Rattle.cs_schema.specs.Lists.{IsIn, member}
 use Rattle.cs_schema.specs.Values.{IsOfKind, value_cmp}
-use Rattle.cs_schema.specs.FileNames.{Survives, FileContents}
-use Rattle.cs_schema.specs.Losses.{Sites, alive, lost}
 use Rattle.cs_schema.specs.Order.{rows_of, Fits, row_limit}
-use Rattle.cs_schema.specs.Lists.{numbers_below}
 use Rattle.cs_codec.specs.ColumnText.{FitsColumn, FitsCode, int_of}
 use Rattle.cs_codec.specs.Texts.{NeverFalls, NeverFallsFrom}
-use Rattle.cs_segment.specs.SegmentFile.{IsBase, base_row, base_column, base_of, segment_text}
+use Rattle.cs_segment.specs.SegmentFile.{IsBase, base_row, base_column, base_of}
 use Rattle.cs_schema.specs.CatalogData.{code_at, kind_at}
-use Rattle.cs_delta.specs.Image.{Pair, applied_from, base_pairs, ImageData, image_rows, image_keys, position_of_key, fresh_image}
-use Rattle.cs_delta.specs.DeltaFile.{IsDelta, merged, no_changes, delta_text, key_limit}
-use Rattle.cs_jix.specs.JoinIndex.{Place, no_place, IsEntry, IsJoinIndexFile, join_index_text}
+use Rattle.cs_delta.specs.Image.{Pair, applied_from, base_pairs, fresh_image}
+use Rattle.cs_delta.specs.DeltaFile.{IsDelta, merged, no_changes}
 use Rattle.cs_rows.specs.Walk.{Contents}
-use Rattle.cs_recovery.specs.Contents.{IsImageOf, IsJoinOf, Reads}
-use Rattle.cs_recovery.specs.Holding.{AreContentsOf, HoldsSurvivors, Holds, agrees}
-use Rattle.cs_recovery.specs.Places.{image_after, place_of, entry_for, entries_for}
-use Rattle.cs_recovery.specs.Expected.{AreExpected, written, is_segment, is_lost, is_affected}
-use Rattle.cs_recovery.specs.Tables.{when}
-use Rattle.cs_recovery.specs.Claims.{put_over}
-use Rattle.cs_schema.proofs.Ascending.{false≢true, All-in}
+use Rattle.cs_schema.proofs.Ascending.{All-in}
 use Rattle.cs_schema.proofs.RowOrder.{rows_of-are}
-use Rattle.cs_schema.proofs.Lists.{in_at, in_map, slice_get_map, before_map}
-use Rattle.cs_recovery.proofs.Walks.{IsKeyed, has_index}
-use Rattle.cs_safety.proofs.AliveLemmas.{segment_below, alive_kept}
-use Rattle.cs_recovery.proofs.Exact.{Layers}
-use Rattle.cs_recovery.proofs.Accepted.{same_contents}
-use Rattle.cs_recovery.proofs.Losses.{image_under, join_under, agree_map}
-use Rattle.cs_recovery.proofs.Keyed.{merged_keyed}
+use Rattle.cs_schema.proofs.Lists.{in_at, in_map, slice_get_map}
 
 -- ---- the first sort column never falls
 

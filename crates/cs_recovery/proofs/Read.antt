@@ -1,13 +1,12 @@
 -- What the proofs need of the layers of files: files of one name hold one content.
-use Rattle.std.proofs.Common.{◌≡◌, ℕ, List, sym, ap, subst, ◌∙◌, Some}
+use Rattle.std.proofs.Common.{◌≡◌, ℕ, List, sym, ap, subst, ◌∙◌}
 use Rattle.std.proofs.lemmas.Option.{same_Some}
-use Rattle.cs_schema.specs.declared.file_name.FileName.{FileName}
 use Rattle.cs_schema.specs.CatalogData.{CatalogData, HasSegment}
 use Rattle.cs_schema.specs.CatalogRules.{IsCatalog}
 use Rattle.cs_schema.specs.FileNames.{FileContents}
-use Rattle.cs_segment.specs.SegmentFile.{Base, IsSegmentFile}
+use Rattle.cs_segment.specs.SegmentFile.{IsSegmentFile}
 use Rattle.cs_segment.proofs.OneText.{one_segment}
-use Rattle.cs_delta.specs.DeltaFile.{DeltaData, IsDeltaFile, merged}
+use Rattle.cs_delta.specs.DeltaFile.{IsDeltaFile, merged}
 use Rattle.cs_delta.specs.Image.{ImageData}
 use Rattle.cs_delta.proofs.HeadTexts.{one_delta}
 use Rattle.cs_jix.specs.JoinIndex.{Place, IsJoinIndexFile}

@@ -1,9 +1,8 @@
 -- Where files hold a table, the walk of an anchor row finds the places of one row of the table, and all its cells.
 use Rattle.std.proofs.Common.{◌≡◌, ℕ, zero, suc, ◌+◌, ◌<◌, ◌≤◌, List, [], ◌∷◌, map, refl, sym, ap, subst, ◌∙◌, Bool, true, false, not, cond, ◌&&◌, ◌||◌, inl, inr, Option, Some, None, length, arith, ◌==◌, eqb-true}
-use Rattle.std.specs.Prelude.{slice_index, slice_index_or, IsTrue, nat_lt}
-use Rattle.std.specs.List.{slice_get, position_or_len, position, range_with_len, list_any, count_by, filter}
-use Rattle.std.specs.Option.{option_map, option_and_then, option_map_or, is_some, is_none, unwrap_or}
-use Rattle.std.specs.Ordering.{is_eq}
+use Rattle.std.specs.Prelude.{slice_index, IsTrue}
+use Rattle.std.specs.List.{slice_get, position_or_len, list_any}
+use Rattle.std.specs.Option.{option_map, option_and_then, option_map_or}
 use Rattle.std.specs.Cmp.{Equal-is}
 use Rattle.std.proofs.lemmas.Option.{get_or_from_slice_get}
 use borrow.Author.Tests.{lt-ltb}

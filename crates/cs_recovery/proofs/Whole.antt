@@ -1,38 +1,26 @@
 -- The surviving files with the written ones put over them hold the table again.
-use Rattle.std.proofs.Common.{◌≡◌, ◌≢◌, ℕ, zero, suc, ◌+◌, ◌-◌, ◌<◌, ◌≤◌, List, [], ◌∷◌, ◌++◌, map, refl, sym, ap, subst, ◌∙◌, Bool, true, false, not, cond, ◌&&◌, ◌||◌, ◌⊎◌, inl, inr, Option, Some, None, length, get_or, arith, ◌==◌, eqb-true, eq-eqb, pos, Ordering}
+use Rattle.std.proofs.Common.{◌≡◌, ◌≢◌, ℕ, ◌+◌, ◌-◌, ◌<◌, ◌≤◌, List, [], ◌∷◌, ◌++◌, map, refl, sym, ap, subst, ◌∙◌, Bool, true, false, not, cond, ◌&&◌, ◌||◌, ◌⊎◌, inl, inr, Option, Some, None, length, get_or, arith, ◌==◌, eq-eqb, Ordering}
 use Rattle.std.specs.Prelude.{nat_lt, nat_le, slice_index, ◌≤ℤ◌}
-use Rattle.std.specs.List.{slice_get, range_with_len, enumerate_from, IsDistinct}
-use Rattle.std.specs.List.Sorted.{IsStrictlySortedBy}
+use Rattle.std.specs.List.{slice_get, range_with_len, enumerate_from}
 use Rattle.std.specs.Option.{option_map_or, option_and_then, option_or}
-use Rattle.std.specs.Ordering.{ordering_then, int_cmp}
-use Rattle.std.specs.Cmp.{int_ranked}
-use Rattle.std.specs.Cmp.Lexicographic.{slice_cmp}
-use Rattle.std.specs.declared.cmp.Ordering.TheVariants.{Less, Equal, Greater}
-use Rattle.std.proofs.lemmas.Option.{none-some, same_Some, slice_get-get_or, get_or_from_slice_get}
-use Rattle.std.proofs.lemmas.List.FromFn.{get_or-map-range_with_len, length-map-range_with_len, fill_by_all, length-enumerate_from, get_or-enumerate_from}
+use Rattle.std.proofs.lemmas.Option.{get_or_from_slice_get}
+use Rattle.std.proofs.lemmas.List.FromFn.{length-map-range_with_len, length-enumerate_from}
 use Rattle.std.proofs.Math.ListN.{length-map}
-use Rattle.std.proofs.lemmas.Int.{ints}
 use borrow.Author.Tests.{lt-ltb}
 use lib.Pointwise.{pointwise}
-use Rattle.cs_schema.specs.declared.kinds.Kind.{Kind}
-use Rattle.cs_schema.specs.declared.kinds.Code.{Code}
 use Rattle.cs_schema.specs.declared.cells.Value.{Value}
 use Rattle.cs_schema.specs.declared.file_name.FileName.{FileName}
-use Rattle.cs_schema.specs.CatalogData.{CatalogData, HasSegment, projection, segments, has_join, column}
+use Rattle.cs_schema.specs.CatalogData.{CatalogData, HasSegment, segments, has_join}
 use Rattle.cs_schema.specs.CatalogRules.{IsCatalog}
-use Rattle.cs_schema.specs.Rows.{Row, IsTable, segment_of_row, project, cell, row_cmp}
-use Rattle.cs_schema.specs.Lists.{IsIn, member}
-use Rattle.cs_schema.specs.Values.{IsOfKind, value_cmp}
+use Rattle.cs_schema.specs.Rows.{Row, IsTable, segment_of_row, project}
+use Rattle.cs_schema.specs.Lists.{IsIn}
 use Rattle.cs_schema.specs.FileNames.{Survives, FileContents}
 use Rattle.cs_schema.specs.Losses.{Sites, alive, lost}
 use Rattle.cs_schema.specs.Order.{rows_of, Fits, row_limit}
 use Rattle.cs_schema.specs.Lists.{numbers_below}
-use Rattle.cs_codec.specs.ColumnText.{FitsColumn, FitsCode, int_of}
-use Rattle.cs_codec.specs.Texts.{NeverFalls, NeverFallsFrom}
-use Rattle.cs_segment.specs.SegmentFile.{IsBase, base_row, base_column, base_of, segment_text}
-use Rattle.cs_schema.specs.CatalogData.{code_at, kind_at}
-use Rattle.cs_delta.specs.Image.{Pair, applied_from, base_pairs, ImageData, image_rows, image_keys, position_of_key, fresh_image}
-use Rattle.cs_delta.specs.DeltaFile.{IsDelta, merged, no_changes, delta_text, key_limit}
+use Rattle.cs_segment.specs.SegmentFile.{base_of, segment_text}
+use Rattle.cs_delta.specs.Image.{Pair, ImageData, image_rows, image_keys, position_of_key, fresh_image}
+use Rattle.cs_delta.specs.DeltaFile.{merged, no_changes, delta_text, key_limit}
 use Rattle.cs_jix.specs.JoinIndex.{Place, no_place, IsEntry, IsJoinIndexFile, join_index_text}
 use Rattle.cs_rows.specs.Walk.{Contents}
 use Rattle.cs_recovery.specs.Contents.{IsImageOf, IsJoinOf, Reads}
@@ -41,7 +29,7 @@ use Rattle.cs_recovery.specs.Places.{image_after, place_of, entry_for, entries_f
 use Rattle.cs_recovery.specs.Expected.{AreExpected, written, is_segment, is_lost, is_affected}
 use Rattle.cs_recovery.specs.Tables.{when}
 use Rattle.cs_recovery.specs.Claims.{put_over}
-use Rattle.cs_schema.proofs.Ascending.{false≢true, All-in}
+use Rattle.cs_schema.proofs.Ascending.{false≢true}
 use Rattle.cs_schema.proofs.RowOrder.{rows_of-are}
 use Rattle.cs_schema.proofs.Lists.{in_at, in_map, slice_get_map, before_map}
 use Rattle.cs_recovery.proofs.Walks.{IsKeyed, has_index}
@@ -50,7 +38,7 @@ use Rattle.cs_recovery.proofs.Exact.{Layers}
 use Rattle.cs_recovery.proofs.Accepted.{same_contents}
 use Rattle.cs_recovery.proofs.Losses.{image_under, join_under, agree_map}
 use Rattle.cs_recovery.proofs.Keyed.{merged_keyed}
-use Rattle.cs_recovery.proofs.Afresh.{base_is, count_is, fresh_merged, no_changes_are, distinct_none}
+use Rattle.cs_recovery.proofs.Afresh.{base_is, count_is, fresh_merged, no_changes_are}
 
 module _ (C : CatalogData) (cat : IsCatalog C) (layers : Layers C) (F : FileContents) (L : Sites) (S : Contents) (reads : Reads C F L S) (T : List Row) (t : IsTable C T) (fits : Fits C T) (same : AreContentsOf C L S T) where
   keyed : (p s : ℕ) → Survives C L (FileName.Seg p s) → IsKeyed (S.image p s)

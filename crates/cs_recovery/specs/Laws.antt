@@ -7,12 +7,10 @@ use Rattle.cs_schema.specs.FileNames.{FileContents}
 use Rattle.cs_schema.specs.Losses.{Sites, IsLoss}
 use Rattle.cs_schema.specs.Rows.{Row}
 use Rattle.cs_schema.specs.Lists.{IsIn}
-use Rattle.cs_delta.specs.Image.{ImageData}
-use Rattle.cs_jix.specs.JoinIndex.{Place}
 use Rattle.cs_safety.specs.Safety.{IsSafe}
 use Rattle.cs_rows.specs.Walk.{Contents, At, Stray}
 use Rattle.cs_rows.specs.WalkByRows.{Found, found_from}
-use Rattle.cs_recovery.specs.Contents.{IsImageOf, IsJoinOf, Reads}
+use Rattle.cs_recovery.specs.Contents.{Reads}
 use Rattle.cs_recovery.specs.Holding.{HoldsSurvivors, Holds}
 use Rattle.cs_recovery.specs.Expected.{AreExpected}
 use Rattle.cs_recovery.specs.Verdicts.{NamesItsSites, IsVerdict, IsWalkedBy, IsRebuildVerdict, IsCheckVerdict, Verdict}

@@ -1,6 +1,5 @@
-use Rattle.std.proofs.Common.{◌≡◌, ◌+◌, ◌-◌, ℕ, List, drop, ap, ◌∙◌, arith, length, get_or}
+use Rattle.std.proofs.Common.{◌≡◌, ◌+◌, ◌-◌, List, drop, ap, ◌∙◌, arith, length}
 use Rattle.std.proofs.lemmas.List.{length-drop}
-use Rattle.cs_piece.specs.declared.pieces.Piece.{Piece}
 use Rattle.cs_segment.specs.SegmentFile.{sealed, base_column}
 use Rattle.cs_segment.proofs.PieceColumns.{column_at, text_more, body_made, one_less, one_there}
 use Rattle.cs_segment.proofs.writing.write_segment.Goals as goal

@@ -3,7 +3,7 @@ use Rattle.std.specs.List.{zip}
 use Rattle.cs_jix.specs.JoinIndex.{Place, entry_at}
 use Rattle.cs_jix.proofs.JoinLemmas.{zip_length, zip_at, entry_zero, entry_past, entry_here, dead_entry, live_entry}
 use Rattle.cs_jix.proofs.index.JoinIndex.entry.Goals as goal
-use Rattle.cs_jix.proofs.index.JoinIndex.entry.Goals.{then-key-eq0-via-then-key-eq0, then-key-eq0-via-else-key-eq0+then-key-len, Then-place-eq0, Else-place-eq0}
+use Rattle.cs_jix.proofs.index.JoinIndex.entry.Goals.{then-key-eq0-via-then-key-eq0, then-key-eq0-via-else-key-eq0+then-key-len}
 
 pub returns-then-key-eq0 : goal.returns-then-key-eq0
 returns-then-key-eq0 c =
