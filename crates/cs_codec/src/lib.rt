@@ -16,6 +16,3 @@ pub mod runs;
 
 pub use cell::Cell;
 pub use encoding::{CodecFault, Encoding};
-
-#[cfg(test)]
-mod tests;

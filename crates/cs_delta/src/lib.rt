@@ -14,8 +14,6 @@ pub mod laws;
 mod layer;
 mod merging;
 mod reading;
-#[cfg(test)]
-mod tests;
 mod writing;
 
 pub use delta::Delta;

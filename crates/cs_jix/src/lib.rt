@@ -3,8 +3,6 @@
 
 pub mod index;
 pub mod reading;
-#[cfg(test)]
-mod tests;
 pub mod writing;
 
 pub use index::JoinIndex;

@@ -15,8 +15,6 @@ mod rising;
 pub mod samples;
 mod segments;
 mod sort;
-#[cfg(test)]
-mod tests;
 mod words;
 mod writing;
 

@@ -9,6 +9,3 @@ mod pieces;
 pub use columns::read_column;
 pub use cs_codec::CodecFault;
 pub use pieces::{Piece, encode_piece, join_pieces, write_piece};
-
-#[cfg(test)]
-mod tests;

@@ -25,8 +25,6 @@ mod reading;
 mod recovery;
 mod rowwise;
 mod survey;
-#[cfg(test)]
-mod tests;
 mod unwritten;
 mod walking;
 mod writing;

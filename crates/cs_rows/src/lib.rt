@@ -19,8 +19,6 @@ mod route;
 pub mod steps;
 pub mod survivors;
 pub mod table;
-#[cfg(test)]
-mod tests;
 pub mod walked;
 pub mod whole;
 

@@ -15,8 +15,6 @@ mod plans;
 mod reach;
 mod row_sets;
 mod sets;
-#[cfg(test)]
-mod tests;
 
 pub use ksafety::{SafetyFault, ksafe};
 pub use losses::{alive, safe};

@@ -19,8 +19,6 @@ mod names;
 mod read;
 mod rules;
 pub mod samples;
-#[cfg(test)]
-mod tests;
 mod text;
 mod word;
 

@@ -11,8 +11,6 @@ pub mod memory;
 mod saving;
 mod sink;
 mod source;
-#[cfg(test)]
-mod tests;
 
 pub use fault::{Fault, StoreFault};
 pub use file_set::FileSet;

@@ -79,7 +79,7 @@ const THEN_CHANGED: Delta = Delta {
 };
 
 #[test]
-fn is_rebuilt_in_the_codes_of_the_catalog(rt: HostRuntime) -> Result<(), Fail> {
+fn is_rebuilt_in_the_codes_of_the_catalog_with_ample_memory(rt: HostRuntime) -> Result<(), Fail> {
     let cases: [(&str, Written); 3] = [
         ("codes = [4, 4]", (SEG, 126, PLAIN)),
         ("codes = [4, 1]", (SEG, 158, RUNS)),

@@ -94,7 +94,7 @@ pub const WHOLE: Parts = Parts {
 };
 
 #[test]
-fn sound(rt: HostRuntime) -> Result<(), Fail> {
+fn sound_with_ample_memory(rt: HostRuntime) -> Result<(), Fail> {
     let rows = by_rows(rt.alloc(), THREE_PROJECTIONS)?;
     let asks = [
         Ask::Checked(2, Ok(4)),

@@ -1,10 +1,10 @@
 ghost use Rattle.std.specs.Prelude.{◌≡◌, ◌++◌, IfOk};
 
-use crate::bitmaps::Bitmaps;
-use crate::differences::{Differences, DifferencesPart};
-use crate::encoding::Encoding;
-use crate::plain::Plain;
-use crate::runs::Runs;
+use cs_codec::bitmaps::Bitmaps;
+use cs_codec::differences::{Differences, DifferencesPart};
+use cs_codec::encoding::Encoding;
+use cs_codec::plain::Plain;
+use cs_codec::runs::Runs;
 use cs_schema::Text;
 use std::alloc::{AllocError, Global};
 use std::test::Fail;

@@ -1,7 +1,7 @@
 ghost use Rattle.std.specs.Prelude.{◌<◌, length, IfOk};
 
-use crate::{CellPlace, Delta, Image, Item, ItemCell, merge, read_delta, write_empty_delta};
 use cs_codec::Cell;
+use cs_delta::{CellPlace, Delta, Image, Item, ItemCell, merge, read_delta, write_empty_delta};
 use cs_schema::{Catalog, Cells, read_catalog};
 use cs_segment::fault::FileFault;
 use cs_segment::seal::seal;

@@ -1,5 +1,5 @@
-use crate::samples::{CITIES, SPLIT_COLUMNS, THREE_PROJECTIONS, TWO_ORDERS};
-use crate::{
+use cs_schema::samples::{CITIES, SPLIT_COLUMNS, THREE_PROJECTIONS, TWO_ORDERS};
+use cs_schema::{
     CatalogFault, Cells, Code, FileName, Kind, Loss, Safety, Text, Value, Word, WordFault,
     read_catalog,
 };

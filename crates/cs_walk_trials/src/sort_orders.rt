@@ -1,8 +1,7 @@
 ghost use Rattle.std.specs.Prelude.{◌≡◌, ◌<◌, ◌^◌, length, map, IfOk};
 
-use crate::item::key_column;
-use crate::samples::walked_rows;
-use crate::{OrderFault, orders};
+use cs_order::samples::walked_rows;
+use cs_order::{OrderFault, orders};
 use cs_rows::Table;
 use cs_schema::samples::{CITIES, THREE_PROJECTIONS, TWO_ORDERS};
 use cs_schema::{Catalog, Cells, Text, Value, read_catalog};
@@ -57,7 +56,7 @@ fn keys_in(
         if segment != s || at as usize != index {
             return Err(Fail::new("another place"));
         }
-        match walked.column(key_column(catalog)).cell(*row as usize) {
+        match walked.column(catalog.key as usize).cell(*row as usize) {
             Value::Int(key) => keys.push(key)?,
             Value::Text(_) => return Err(Fail::new("no int")),
         }

@@ -2,7 +2,7 @@ use Rattle.std.proofs.Common.{◌≡◌, ◌∷◌, ◌++◌, [], sym, ap, subst
 use Rattle.cs_rows.specs.TableView.{over}
 use Rattle.cs_rows.specs.WalkedView.{AreColumns}
 use Rattle.cs_rows.proofs.TableLemmas.{one_column}
-use Rattle.cs_rows.proofs.tests.keys_of_an_anchor.Goals as goal
+use Rattle.cs_walk_trials.proofs.walks.keys_of_an_anchor.Goals as goal
 
 pub of_columns-table-requires : goal.of_columns-table-requires
 of_columns-table-requires g c =

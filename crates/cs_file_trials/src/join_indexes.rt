@@ -1,4 +1,4 @@
-use crate::{read_jix, write_jix};
+use cs_jix::{read_jix, write_jix};
 use cs_segment::fault::FileFault;
 use cs_segment::seal::seal;
 use std::test::Fail;

@@ -1,4 +1,4 @@
-use crate::{alive, ksafe, plan, safe};
+use cs_safety::{alive, ksafe, plan, safe};
 use cs_schema::samples::{CITIES, SPLIT_COLUMNS, THREE_PROJECTIONS, TWO_ORDERS};
 use cs_schema::{Catalog, Loss, read_catalog};
 use std::alloc::Global;

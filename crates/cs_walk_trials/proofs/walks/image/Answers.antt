@@ -1,4 +1,4 @@
-use Rattle.cs_rows.proofs.tests.image.Goals as goal
+use Rattle.cs_walk_trials.proofs.walks.image.Goals as goal
 
 pub merge-requires : goal.merge-requires
 merge-requires c = record {

@@ -1,6 +1,6 @@
-use crate::memory::{Failure, MemorySink, MemorySource, load_from_memory, save_to_memory};
-use crate::{Fault, FileSet, Sink, Source, StoreFault, load, save};
 use cs_schema::{Catalog, FileName, Loss, read_catalog};
+use cs_store::memory::{Failure, MemorySink, MemorySource, load_from_memory, save_to_memory};
+use cs_store::{Fault, FileSet, Sink, Source, StoreFault, load, save};
 use std::alloc::Global;
 use std::fmt::Write;
 use std::test::Fail;

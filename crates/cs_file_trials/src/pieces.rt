@@ -1,4 +1,4 @@
-use crate::{encode_piece, join_pieces, read_column, write_piece};
+use cs_piece::{encode_piece, join_pieces, read_column, write_piece};
 use cs_schema::{Code, Kind};
 use std::test::Fail;
 

@@ -1,0 +1,15 @@
+//! Trials of the layers that files are read and written by: vectors, printed text, hostile bytes.
+#![tactic(auto)]
+
+#[cfg(test)]
+mod catalogs;
+#[cfg(test)]
+mod deltas;
+#[cfg(test)]
+mod encodings;
+#[cfg(test)]
+mod join_indexes;
+#[cfg(test)]
+mod pieces;
+#[cfg(test)]
+mod stores;

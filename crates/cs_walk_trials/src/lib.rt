@@ -1,0 +1,9 @@
+//! Trials of safety and plans, of walks, and of the orders of their rows.
+#![tactic(auto)]
+
+#[cfg(test)]
+mod safety;
+#[cfg(test)]
+mod sort_orders;
+#[cfg(test)]
+mod walks;
