@@ -6,7 +6,7 @@ use cs_schema::{
 use std::test::Fail;
 
 #[test]
-fn reads_a_catalog(rt: HostRuntime) -> Result<(), Fail> {
+fn reads_a_catalog_with_ample_memory(rt: HostRuntime) -> Result<(), Fail> {
     let catalog = read_catalog(rt.alloc(), TWO_ORDERS.as_bytes())
         .ok()
         .ok_or("read")?;
@@ -299,7 +299,7 @@ fn keeps_texts(rt: HostRuntime) -> Result<(), Fail> {
 }
 
 #[test]
-fn grows_cells(rt: HostRuntime) -> Result<(), Fail> {
+fn grows_cells_with_ample_memory(rt: HostRuntime) -> Result<(), Fail> {
     let mut cells = Cells::new(rt.alloc(), Kind::Int);
     cells.push(Value::Int(5))?;
     cells.push(Value::Int(3))?;

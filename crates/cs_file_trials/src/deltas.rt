@@ -211,7 +211,7 @@ fn ints_of(alloc: Global, image: &Image) -> Result<Vec<i64>, AllocError>
 }
 
 #[test]
-fn files_are_read_exactly(rt: HostRuntime) -> Result<(), Fail> {
+fn files_are_read_exactly_with_ample_memory(rt: HostRuntime) -> Result<(), Fail> {
     let alloc = rt.alloc();
     let catalog = read_catalog(alloc, ONE_COLUMN.as_bytes())?;
     assert!(rt; 0 < catalog.projection_count());
@@ -270,7 +270,7 @@ fn highest_key_has_a_limit(rt: HostRuntime) -> Result<(), Fail> {
 }
 
 #[test]
-fn changes_are_merged(rt: HostRuntime) -> Result<(), Fail> {
+fn changes_are_merged_with_ample_memory(rt: HostRuntime) -> Result<(), Fail> {
     let alloc = rt.alloc();
     let catalog = read_catalog(alloc, ONE_COLUMN.as_bytes())?;
     assert!(rt; 0 < catalog.projection_count());

@@ -29,7 +29,7 @@ fn joined<E: Encoding<i64>>(
 const RISING_TEXT: [u8; 17] = [0, 0, 0, 1, 0, 0, 0, 0, 0, 0, 0, 1, 3, 3, 0, 1, 4];
 
 #[test]
-fn differences_know_no_cut(rt: HostRuntime) -> Result<(), Fail> {
+fn differences_know_no_cut_with_ample_memory(rt: HostRuntime) -> Result<(), Fail> {
     let alloc = rt.alloc();
     let text = RISING_TEXT.as_slice();
     assert_eq!(rt;
@@ -130,7 +130,7 @@ fn blocks_begin_at_every_128th_position(rt: HostRuntime) -> Result<(), Fail> {
 }
 
 #[test]
-fn runs_know_no_cut(rt: HostRuntime) -> Result<(), Fail> {
+fn runs_know_no_cut_with_ample_memory(rt: HostRuntime) -> Result<(), Fail> {
     let alloc = rt.alloc();
     let text = [
         0, 0, 0, 0, 0, 0, 0, 4, 0, 0, 0, 1, 0, 0, 0, 3, 0, 0, 0, 0, 0, 0, 0, 5, 0, 0, 0, 4, 0, 0,
@@ -158,7 +158,7 @@ const BITMAPS_TEXT: [u8; 92] = [
 ];
 
 #[test]
-fn bitmaps_know_no_cut(rt: HostRuntime) -> Result<(), Fail> {
+fn bitmaps_know_no_cut_with_ample_memory(rt: HostRuntime) -> Result<(), Fail> {
     let alloc = rt.alloc();
     let cells = [0, 0, 1, 1, 2, 1, 0, 2, 1];
     for cut in 0..=9usize {
@@ -179,7 +179,7 @@ fn bitmaps_know_no_cut(rt: HostRuntime) -> Result<(), Fail> {
 }
 
 #[test]
-fn plain_cells_are_written_and_read(rt: HostRuntime) -> Result<(), Fail> {
+fn plain_cells_are_written_and_read_with_ample_memory(rt: HostRuntime) -> Result<(), Fail> {
     let alloc = rt.alloc();
     let text = joined::<Plain>(alloc, &[1], &[-1])?;
     let expected = [

@@ -9,7 +9,7 @@ const BODY: [u8; 36] = [
 ];
 
 #[test]
-fn reads_a_join_index(rt: HostRuntime) -> Result<(), Fail> {
+fn reads_a_join_index_with_ample_memory(rt: HostRuntime) -> Result<(), Fail> {
     let mut bytes = BODY.as_slice().to_vec(rt.alloc())?;
     seal(&mut bytes)?;
     assert_eq!(rt; bytes.len(), 68);

@@ -206,7 +206,7 @@ fn is_one_text(
 }
 
 #[test]
-fn vectors_are_read_and_written(rt: HostRuntime) -> Result<(), Fail> {
+fn vectors_are_read_and_written_with_ample_memory(rt: HostRuntime) -> Result<(), Fail> {
     let alloc = rt.alloc();
     for vector in &VECTORS {
         let catalog = read_catalog(alloc, vector.catalog.as_bytes())?;
@@ -277,7 +277,7 @@ fn long_body(alloc: Global) -> Result<Vec<u8>, AllocError> {
 }
 
 #[test]
-fn long_files_are_read_by_threads(rt: HostRuntime) -> Result<(), Fail> {
+fn long_files_are_read_by_threads_with_ample_memory(rt: HostRuntime) -> Result<(), Fail> {
     let alloc = rt.alloc();
     let catalog = read_catalog(alloc, TWO_ORDERS.as_bytes())?;
     assert_eq!(rt; catalog.projection_count(), 2);

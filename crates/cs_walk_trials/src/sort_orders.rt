@@ -78,7 +78,7 @@ fn fault_of(
 }
 
 #[test]
-fn ids_by_their_remainder(rt: HostRuntime) -> Result<(), Fail> {
+fn ids_by_their_remainder_with_ample_memory(rt: HostRuntime) -> Result<(), Fail> {
     let mut ids = Vec::new(rt.alloc());
     let mut remainders = Vec::new(rt.alloc());
     for row in 0..5000u32 {

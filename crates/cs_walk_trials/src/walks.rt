@@ -285,7 +285,7 @@ fn shows(walked: &Walked, catalog: &Catalog, rows: &[&[i64]]) -> bool
 }
 
 #[test]
-fn ranges_of_a_plan(rt: HostRuntime) -> Result<(), Fail> {
+fn ranges_of_a_plan_with_ample_memory(rt: HostRuntime) -> Result<(), Fail> {
     let alloc = rt.alloc();
     let loss = Loss::none().with(3);
     let mut store = Store::of(alloc, SPLIT_COLUMNS)?;
@@ -334,7 +334,7 @@ fn keys_of_an_anchor(rt: HostRuntime) -> Result<(), Fail> {
 
 // No projection is alive, and each row stands in a surviving segment.
 #[test]
-fn rows_of_surviving_segments(rt: HostRuntime) -> Result<(), Fail> {
+fn rows_of_surviving_segments_with_ample_memory(rt: HostRuntime) -> Result<(), Fail> {
     let alloc = rt.alloc();
     let mut store = Store::of(alloc, THREE_ORDERS)?;
     store.put_segment(alloc, 0, 1, &[&[3, 4], &[20, 10]], &[])?;

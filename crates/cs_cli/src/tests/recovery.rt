@@ -51,7 +51,7 @@ fn prints_what_each_command_answers(rt: HostRuntime) -> Result<(), Fail> {
 }
 
 #[test]
-fn writes_files_and_then_the_mark(rt: HostRuntime) -> Result<(), Fail> {
+fn writes_files_and_then_the_mark_with_ample_memory(rt: HostRuntime) -> Result<(), Fail> {
     for line in [
         "recover S O 1",
         "recover --workers 64 --cut 1 S O 1 1",
