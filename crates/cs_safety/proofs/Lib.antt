@@ -12,3 +12,4 @@ pub mod PlanLemmas
 pub mod LossTails
 pub mod RowSetLemmas
 pub mod OnePlan
+pub mod WithinSafe

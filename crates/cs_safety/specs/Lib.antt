@@ -5,6 +5,7 @@ pub mod PlanView
 pub mod SafetyCuts
 pub mod SafetyFault
 pub mod SafetyLaws
+pub mod Within
 pub mod NumberSets
 pub mod Reach
 pub mod PlanTests

@@ -1,9 +1,15 @@
 //! Laws over the definitions: each function does nothing, and its contract is the law.
 ghost use Rattle.cs_safety.specs.SafetyLaws.{WholeIsSafeByRows, FirstUnsafeIsOne, PlanIsOne, CutsDecide};
+ghost use Rattle.cs_safety.specs.Within.{SafetyIsMonotone};
 
 /// A loss that leaves a suitable projection is safe by rows.
 pub fn whole_is_safe_by_rows()
     ensures { WholeIsSafeByRows }
+{}
+
+/// A loss within a safe one is safe, by either rule.
+pub fn safety_is_monotone()
+    ensures { SafetyIsMonotone }
 {}
 
 /// A catalog has at most one first unsafe loss.
