@@ -143,7 +143,7 @@ cells_for (k ∷ cs) = let f = cells_for cs in (least_of k.kind ∷ f.0, ap suc 
     each zero h f = least_kind k.kind
     each (suc c) h f = f.2 c (omega arith)
 
-some_row : (C : CatalogData) → (r : Row) × IsRow C r
+pub some_row : (C : CatalogData) → (r : Row) × IsRow C r
 some_row C = let f = cells_for C.columns in (f.0, (f.1, f.2))
 
 pub first_left : (C : CatalogData) (L : Sites) (sets : List Bool) → length sets ≡ 256 → among sets 0 ≡ true → ((s : ℕ) → among sets s ≡ true → s ≡ 0) → AreLeft C L 0 sets

@@ -1,0 +1,3 @@
+pub mod Fatal
+pub mod Order
+pub mod Tails
