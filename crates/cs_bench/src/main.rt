@@ -14,10 +14,11 @@ mod rounds;
 mod stores;
 
 use anyhow::{Result, anyhow};
+use cs_catalog::read_catalog;
 use cs_order::samples::walked_rows;
 use cs_rows::Table;
 use cs_safety::ksafe;
-use cs_schema::{Catalog, read_catalog};
+use cs_schema::Catalog;
 use std::env;
 use std::rt::Clock;
 use std::thread::Threads;

@@ -1,6 +1,6 @@
 -- The status that a program ends with.
 use Rattle.std.specs.Prelude.{ℕ}
-use Rattle.cs_schema.specs.declared.fault.CatalogFault.TheVariants as catalog
+use Rattle.cs_catalog.specs.declared.fault.CatalogFault.TheVariants as catalog
 use Rattle.cs_store.specs.declared.fault.Fault.TheVariants as fault
 use Rattle.cs_cli.specs.declared.stop.Stop.{Stop}
 use Rattle.cs_cli.specs.declared.stop.Stop.TheVariants as stop

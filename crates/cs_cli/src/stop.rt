@@ -2,7 +2,7 @@
 ghost use Rattle.std.specs.Prelude.{◌≡◌, ◌⊎◌};
 ghost use Rattle.cs_cli.specs.Status.{status_of};
 
-use cs_schema::CatalogFault;
+use cs_catalog::CatalogFault;
 use cs_store::Fault;
 use std::io::Write;
 use thiserror::Error;

@@ -1,8 +1,6 @@
+use cs_catalog::{CatalogFault, read_catalog};
 use cs_schema::samples::{CITIES, SPLIT_COLUMNS, THREE_PROJECTIONS, TWO_ORDERS};
-use cs_schema::{
-    CatalogFault, Cells, Code, FileName, Kind, Loss, Safety, Text, Value, Word, WordFault,
-    read_catalog,
-};
+use cs_schema::{Cells, Code, FileName, Kind, Loss, Safety, Text, Value, Word, WordFault};
 use std::test::Fail;
 
 #[test]

@@ -1,8 +1,9 @@
 ghost use Rattle.std.specs.Prelude.{◌<◌, length, IfOk};
 
+use cs_catalog::read_catalog;
 use cs_codec::Cell;
 use cs_delta::{CellPlace, Delta, Image, Item, ItemCell, merge, read_delta, write_empty_delta};
-use cs_schema::{Catalog, Cells, read_catalog};
+use cs_schema::{Catalog, Cells};
 use cs_segment::fault::FileFault;
 use cs_segment::seal::seal;
 use cs_segment::segment::read_segment;

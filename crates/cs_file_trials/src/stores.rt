@@ -1,4 +1,5 @@
-use cs_schema::{Catalog, FileName, Loss, read_catalog};
+use cs_catalog::read_catalog;
+use cs_schema::{Catalog, FileName, Loss};
 use cs_store::memory::{Failure, MemorySink, MemorySource, load_from_memory, save_to_memory};
 use cs_store::{Fault, FileSet, Sink, Source, StoreFault, load, save};
 use std::alloc::Global;

@@ -1,8 +1,9 @@
 //! Reading a catalog.
 use crate::attempt::{Answer, Report, allocate};
 use anyhow::{Result, anyhow};
+use cs_catalog::{CatalogFault, read_catalog};
 use cs_schema::samples::CITIES;
-use cs_schema::{Catalog, CatalogFault, Projection, read_catalog};
+use cs_schema::{Catalog, Projection};
 use std::alloc::Global;
 
 /// The catalog that a text has to be.

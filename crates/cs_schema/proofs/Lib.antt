@@ -6,15 +6,11 @@ pub mod Surviving
 pub mod CellLemmas
 pub mod LossLemmas
 pub mod NameLemmas
-pub mod CutLemmas
 pub mod SiteLemmas
 pub mod ColumnNames
 pub mod Covering
 pub mod Widths
 pub mod CatalogNumbers
 pub mod CatalogFacts
-pub mod Reading
-pub mod TextLists
 pub mod RulesKept
-pub mod SortedTexts
 pub mod MappedRanges

@@ -51,8 +51,8 @@ impl Text {
         }
     }
 
-    /// The same text as a word.
-    pub(crate) fn of_word(alloc: Global, word: &Word) -> Result<Text, AllocError>
+    /// A copy of a word.
+    pub fn of_word(alloc: Global, word: &Word) -> Result<Text, AllocError>
         ensures { IfOk result (λ text. text ≡ word.now) }
     {
         match ArrayString::from(word.as_str()) {

@@ -8,9 +8,10 @@ use crate::parallel::par_read_segment;
 use crate::seal::{seal, unseal};
 use crate::segment::{Segment, read_segment};
 use crate::writing::write_segment;
+use cs_catalog::read_catalog;
 use cs_piece::{Piece, encode_piece};
 use cs_schema::samples::{CITIES, SPLIT_COLUMNS, THREE_PROJECTIONS, TWO_ORDERS};
-use cs_schema::{Catalog, Value, read_catalog};
+use cs_schema::{Catalog, Value};
 use std::alloc::{AllocError, Global};
 use std::test::Fail;
 

@@ -1,9 +1,10 @@
 //! One row more than a range may have.
 ghost use Rattle.std.specs.Prelude.{◌≤◌};
 
+use cs_catalog::read_catalog;
 use cs_delta::write_empty_delta;
 use cs_rebuild::rebuild;
-use cs_schema::{FileName, Loss, read_catalog};
+use cs_schema::{FileName, Loss};
 use cs_segment::seal::seal;
 use cs_store::{Fault, FileSet};
 use std::alloc::Global;

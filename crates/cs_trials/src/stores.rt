@@ -1,6 +1,7 @@
 //! Stores in memory, made from plain rows. Their bytes are written here by hand: no encoder of the library is asked.
+use cs_catalog::read_catalog;
 use cs_delta::write_empty_delta;
-use cs_schema::{Catalog, Code, FileName, Loss, read_catalog};
+use cs_schema::{Catalog, Code, FileName, Loss};
 use cs_segment::seal::seal;
 use cs_store::FileSet;
 use std::alloc::Global;

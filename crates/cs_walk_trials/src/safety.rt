@@ -1,6 +1,7 @@
+use cs_catalog::read_catalog;
 use cs_safety::{alive, ksafe, plan, safe};
 use cs_schema::samples::{CITIES, SPLIT_COLUMNS, THREE_PROJECTIONS, TWO_ORDERS};
-use cs_schema::{Catalog, Loss, read_catalog};
+use cs_schema::{Catalog, Loss};
 use std::alloc::Global;
 use std::test::Fail;
 

@@ -1,10 +1,11 @@
 ghost use Rattle.std.specs.Prelude.{◌≡◌, ◌<◌, ◌^◌, length, map, IfOk};
 
+use cs_catalog::read_catalog;
 use cs_order::samples::walked_rows;
 use cs_order::{OrderFault, orders};
 use cs_rows::Table;
 use cs_schema::samples::{CITIES, THREE_PROJECTIONS, TWO_ORDERS};
-use cs_schema::{Catalog, Cells, Text, Value, read_catalog};
+use cs_schema::{Catalog, Cells, Text, Value};
 use std::alloc::{AllocGlobal, Global};
 use std::test::Fail;
 use std::thread::Threads;

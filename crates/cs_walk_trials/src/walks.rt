@@ -3,6 +3,7 @@ ghost use Rattle.std.specs.Prelude.{◌≡◌, ◌<◌, length, map, IfOk};
 ghost use Rattle.cs_segment.specs.SegmentData.{kinds_at};
 ghost use Rattle.cs_rows.specs.Survivors.{HasRoom, HoldsImages};
 
+use cs_catalog::read_catalog;
 use cs_delta::{Image, merge, read_delta};
 use cs_jix::read_jix;
 use cs_rows::by_rows::walk_rows;
@@ -13,7 +14,7 @@ use cs_rows::whole::{anchor_column, follow_range, lone_column, reads_anchor_alon
 use cs_rows::{Survivors, Table, Walked};
 use cs_safety::plan;
 use cs_schema::samples::SPLIT_COLUMNS;
-use cs_schema::{Catalog, Cells, Kind, Loss, Value, read_catalog};
+use cs_schema::{Catalog, Cells, Kind, Loss, Value};
 use cs_segment::seal::seal;
 use cs_segment::segment::read_segment;
 use std::alloc::Global;

@@ -1,8 +1,9 @@
 //! Small stores for the program. One projection is written by hand, and the others are rebuilt from it.
+use cs_catalog::read_catalog;
 use cs_delta::write_empty_delta;
 use cs_rebuild::rebuild;
 use cs_schema::samples::{SPLIT_COLUMNS, THREE_PROJECTIONS};
-use cs_schema::{FileName, Loss, read_catalog};
+use cs_schema::{FileName, Loss};
 use cs_segment::seal::seal;
 use cs_store::FileSet;
 use std::marker::Sync;

@@ -1,0 +1,4 @@
+pub mod Reading
+pub mod TextLists
+pub mod SortedTexts
+pub mod CutLemmas

@@ -1,0 +1,16 @@
+use Rattle.std.proofs.Common.{refl, to_z-of_z, arith}
+use Rattle.toml.specs.View.{view}
+use Rattle.cs_schema.specs.declared.cells.Value.{Value}
+use Rattle.cs_catalog.specs.Tree.{cut_of}
+use Rattle.cs_schema.specs.Cuts.{cut_integer}
+use Rattle.cs_catalog.proofs.Reading.{cells_more, cells_stop}
+use Rattle.cs_catalog.proofs.cuts.integer_cuts.Goals as goal
+
+pub returns-in-None-clause-refused : goal.returns-in-None-clause-refused
+returns-in-None-clause-refused c _ =
+    (refl, cells_stop view cut_of cut_integer c.args.values.now c.loop-value.value-index c.value-item.result c.loop-value-test.true c.value-item.is c.in-None.ensures)
+
+pub loop-value-preserved : goal.loop-value-preserved
+loop-value-preserved c =
+    let more = cells_more view cut_of cut_integer Value.Int c.args.values.now c.loop-value.value-index c.value-item.result _ c.in-Some.number c.loop-value-test.true c.value-item.is c.in-Some.ensures c.loop-value.invariant in
+    rw c.in_ok-push-in-Some.ensures.ok (grind (arith, to_z-of_z, more))

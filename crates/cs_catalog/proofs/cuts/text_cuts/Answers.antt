@@ -1,0 +1,15 @@
+use Rattle.std.proofs.Common.{refl}
+use Rattle.toml.specs.View.{view}
+use Rattle.cs_schema.specs.declared.cells.Value.{Value}
+use Rattle.cs_catalog.specs.Tree.{cut_of}
+use Rattle.cs_schema.specs.Cuts.{cut_text}
+use Rattle.cs_catalog.proofs.Reading.{cells_more, cells_stop}
+use Rattle.cs_catalog.proofs.cuts.text_cuts.Goals as goal
+
+pub returns-in-None-clause-refused : goal.returns-in-None-clause-refused
+returns-in-None-clause-refused c _ =
+    (refl, cells_stop view cut_of cut_text c.args.values.now c.loop-value.value-index c.value-item.result c.loop-value-test.true c.value-item.is c.in-None.ensures)
+
+pub loop-value-preserved : goal.loop-value-preserved
+loop-value-preserved c =
+    rw (c.in_ok-push-in-Some.ensures.ok, c.in_ok-of_word-in-Some.ensures) (cells_more view cut_of cut_text Value.Text c.args.values.now c.loop-value.value-index c.value-item.result _ c.in-Some.word c.loop-value-test.true c.value-item.is c.in-Some.ensures c.loop-value.invariant)

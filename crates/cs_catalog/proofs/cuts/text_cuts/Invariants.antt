@@ -1,0 +1,10 @@
+use Rattle.std.proofs.Common.{◌≡◌, Some, take, map}
+use Rattle.toml.specs.View.{view}
+use Rattle.cs_schema.specs.declared.cells.Value.{Value as Cell}
+use Rattle.cs_schema.specs.Document.{read_all}
+use Rattle.cs_catalog.specs.Tree.{cut_of}
+use Rattle.cs_schema.specs.Cuts.{cut_text}
+use Rattle.cs_catalog.proofs.cuts.text_cuts.Given as goal
+
+abbrev pub invariant-loop-value : goal.invariant-loop-value
+invariant-loop-value l = read_all cut_text (map cut_of (map view (take l.value-index l.values))) ≡ Some (map Cell.Text l.found.items)

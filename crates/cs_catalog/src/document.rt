@@ -1,0 +1,289 @@
+//! A catalog's TOML with every key read at its type.
+ghost use Rattle.std.specs.Prelude.{◌≡◌, Some, None, IfOk, IfErr, OnOk, map, option_and_then, [], ◌∷◌, ◌++◌};
+ghost use Rattle.toml.specs.Data.{as_str, as_integer, as_table};
+ghost use Rattle.toml.specs.View.{view, table_view};
+ghost use Rattle.cs_schema.specs.Document.{read_all, is_from_to};
+ghost use Rattle.cs_catalog.specs.Tree.{is_version, safety_at, texts, text_at, integer_at, array_at, texts_at, integers_at, tables_at, column_of, projection_of, document_of};
+ghost use Rattle.cs_catalog.specs.Refusals.{IsRefused, IsRefusedUnlessMemory};
+
+use crate::CatalogFault;
+use std::alloc::Global;
+use std::marker::Model;
+use toml::{Table, Value};
+
+/// A column as the text names it.
+#[derive(Drop)]
+pub struct ColumnEntry<'a> {
+    pub name: &'a str,
+    pub kind: &'a str,
+}
+
+impl<'a> Model for ColumnEntry<'a> {
+    ghost use Rattle.cs_schema.specs.Document.{ColumnText};
+
+    ghost Value = { ColumnText };
+
+    ghost view = { λ c. record { name = c.name.now; kind = c.kind.now } };
+}
+
+/// A projection as the text names it. The items of `cuts` may have any type.
+#[derive(Drop)]
+pub struct ProjectionEntry<'a> {
+    pub name: &'a str,
+    pub columns: Vec<&'a str>,
+    pub code_numbers: Vec<i64>,
+    pub sort: Vec<&'a str>,
+    pub cuts: &'a [Value],
+    pub site_numbers: Vec<i64>,
+    pub joins: Vec<&'a str>,
+}
+
+impl<'a> Model for ProjectionEntry<'a> {
+    ghost use Rattle.std.specs.Prelude.{map};
+    ghost use Rattle.toml.specs.View.{view as data_of};
+    ghost use Rattle.cs_schema.specs.Document.{ProjectionText};
+    ghost use Rattle.cs_catalog.specs.Tree.{cut_of, texts};
+
+    ghost Value = { ProjectionText };
+
+    ghost view = { λ p. record {
+      name = p.name.now;
+      columns = texts p.columns.items;
+      code_numbers = p.code_numbers.items;
+      sort = texts p.sort.items;
+      cuts = map cut_of (map data_of p.cuts.now);
+      site_numbers = p.site_numbers.items;
+      joins = texts p.joins.items;
+    } };
+}
+
+/// A catalog's TOML with every key read at its type.
+#[derive(Drop)]
+pub struct Document<'a> {
+    pub table: &'a str,
+    pub key: &'a str,
+    pub sites: i64,
+    pub safety: &'a str,
+    pub columns: Vec<ColumnEntry<'a>>,
+    pub projections: Vec<ProjectionEntry<'a>>,
+}
+
+impl<'a> Model for Document<'a> {
+    ghost use Rattle.cs_schema.specs.Document.{Document as DocumentText};
+
+    ghost Value = { DocumentText };
+
+    ghost view = { λ d. record {
+      table_name = d.table.now;
+      key = d.key.now;
+      site_count = d.sites;
+      safety = d.safety.now;
+      columns = d.columns.items;
+      projections = d.projections.items;
+    } };
+}
+
+/// Appends an item, or wants memory.
+pub fn push<T: Drop>(list: &mut Vec<T>, item: T) -> Result<(), CatalogFault>
+    ensures ok { OnOk result (list.new.items ≡ list.old.items ++ item ∷ []) }
+    ensures memory { IfErr result (λ e. e ≡ CatalogFault.Memory) }
+{
+    match list.push(item) {
+        Ok(()) => Ok(()),
+        Err(_) => Err(CatalogFault::Memory),
+    }
+}
+
+fn text_at<'a>(table: &'a Table, key: &str) -> Result<&'a str, CatalogFault>
+    ensures read { IfOk result (λ s. text_at key.now (table_view table.now) ≡ Some s.now) }
+    ensures unread { IfErr result (IsRefused 2 (text_at key.now (table_view table.now))) }
+{
+    match table.get(key) {
+        Some(value) => match value.as_str() {
+            Some(text) => Ok(text),
+            None => Err(CatalogFault::Rule(2)),
+        },
+        None => Err(CatalogFault::Rule(2)),
+    }
+}
+
+pub fn integer_at(table: &Table, key: &str) -> Result<i64, CatalogFault>
+    ensures read { IfOk result (λ z. integer_at key.now (table_view table.now) ≡ Some z) }
+    ensures unread { IfErr result (IsRefused 2 (integer_at key.now (table_view table.now))) }
+{
+    match table.get(key) {
+        Some(value) => match value.as_integer() {
+            Some(number) => Ok(number),
+            None => Err(CatalogFault::Rule(2)),
+        },
+        None => Err(CatalogFault::Rule(2)),
+    }
+}
+
+fn array_at<'a>(table: &'a Table, key: &str) -> Result<&'a [Value], CatalogFault>
+    ensures read { IfOk result (λ vs. array_at key.now (table_view table.now) ≡ Some (map view vs.now)) }
+    ensures unread { IfErr result (IsRefused 2 (array_at key.now (table_view table.now))) }
+{
+    match table.get(key) {
+        Some(value) => match value.as_array() {
+            Some(items) => Ok(items.as_slice()),
+            None => Err(CatalogFault::Rule(2)),
+        },
+        None => Err(CatalogFault::Rule(2)),
+    }
+}
+
+/// Every value as a text.
+fn texts(alloc: Global, values: &[Value]) -> Result<Vec<&str>, CatalogFault>
+    ensures read { IfOk result (λ v. read_all as_str (map view values.now) ≡ Some (texts v.items)) }
+    ensures unread { IfErr result (IsRefusedUnlessMemory 2 (read_all as_str (map view values.now))) }
+{
+    let mut found = Vec::new(alloc);
+    for value in values {
+        match value.as_str() {
+            Some(text) => push(&mut found, text)?,
+            None => return Err(CatalogFault::Rule(2)),
+        }
+    }
+    Ok(found)
+}
+
+/// Every value as an integer.
+pub fn integers(alloc: Global, values: &[Value]) -> Result<Vec<i64>, CatalogFault>
+    ensures read { IfOk result (λ v. read_all as_integer (map view values.now) ≡ Some v.items) }
+    ensures unread { IfErr result (IsRefusedUnlessMemory 2 (read_all as_integer (map view values.now))) }
+{
+    let mut found = Vec::new(alloc);
+    for value in values {
+        match value.as_integer() {
+            Some(number) => push(&mut found, number)?,
+            None => return Err(CatalogFault::Rule(2)),
+        }
+    }
+    Ok(found)
+}
+
+fn texts_at<'a>(alloc: Global, table: &'a Table, key: &str) -> Result<Vec<&'a str>, CatalogFault>
+    ensures read { IfOk result (λ v. texts_at key.now (table_view table.now) ≡ Some (texts v.items)) }
+    ensures unread { IfErr result (IsRefusedUnlessMemory 2 (texts_at key.now (table_view table.now))) }
+{
+    texts(alloc, array_at(table, key)?)
+}
+
+fn integers_at(alloc: Global, table: &Table, key: &str) -> Result<Vec<i64>, CatalogFault>
+    ensures read { IfOk result (λ v. integers_at key.now (table_view table.now) ≡ Some v.items) }
+    ensures unread { IfErr result (IsRefusedUnlessMemory 2 (integers_at key.now (table_view table.now))) }
+{
+    integers(alloc, array_at(table, key)?)
+}
+
+fn column(value: &Value) -> Result<ColumnEntry<'_>, CatalogFault>
+    ensures read { IfOk result (λ c. option_and_then column_of (as_table (view value.now)) ≡ Some c) }
+    ensures unread { IfErr result (IsRefused 2 (option_and_then column_of (as_table (view value.now)))) }
+{
+    let Some(table) = value.as_table() else {
+        return Err(CatalogFault::Rule(2));
+    };
+    let name = text_at(table, "name")?;
+    let kind = text_at(table, "kind")?;
+    Ok(ColumnEntry { name, kind })
+}
+
+fn projection(alloc: Global, value: &Value) -> Result<ProjectionEntry<'_>, CatalogFault>
+    ensures read { IfOk result (λ p. option_and_then projection_of (as_table (view value.now)) ≡ Some p) }
+    ensures unread { IfErr result (IsRefusedUnlessMemory 2 (option_and_then projection_of (as_table (view value.now)))) }
+{
+    let Some(table) = value.as_table() else {
+        return Err(CatalogFault::Rule(2));
+    };
+    let name = text_at(table, "name")?;
+    let columns = texts_at(alloc, table, "columns")?;
+    let code_numbers = integers_at(alloc, table, "codes")?;
+    let sort = texts_at(alloc, table, "sort")?;
+    let cuts = array_at(table, "cuts")?;
+    let site_numbers = integers_at(alloc, table, "sites")?;
+    let joins = texts_at(alloc, table, "joins")?;
+    Ok(ProjectionEntry {
+        name,
+        columns,
+        code_numbers,
+        sort,
+        cuts,
+        site_numbers,
+        joins,
+    })
+}
+
+fn columns(alloc: Global, values: &[Value]) -> Result<Vec<ColumnEntry<'_>>, CatalogFault>
+    ensures read { IfOk result (λ v. read_all (λ d. option_and_then column_of (as_table d)) (map view values.now) ≡ Some v.items) }
+    ensures unread { IfErr result (IsRefusedUnlessMemory 2 (read_all (λ d. option_and_then column_of (as_table d)) (map view values.now))) }
+{
+    let mut found = Vec::new(alloc);
+    for value in values {
+        let entry = column(value)?;
+        push(&mut found, entry)?;
+    }
+    Ok(found)
+}
+
+fn projections(alloc: Global, values: &[Value]) -> Result<Vec<ProjectionEntry<'_>>, CatalogFault>
+    ensures read { IfOk result (λ v. read_all (λ d. option_and_then projection_of (as_table d)) (map view values.now) ≡ Some v.items) }
+    ensures unread { IfErr result (IsRefusedUnlessMemory 2 (read_all (λ d. option_and_then projection_of (as_table d)) (map view values.now))) }
+{
+    let mut found = Vec::new(alloc);
+    for value in values {
+        let entry = projection(alloc, value)?;
+        push(&mut found, entry)?;
+    }
+    Ok(found)
+}
+
+pub fn is_from_to(low: u8, high: u8, value: i64) -> bool
+    ensures { result ≡ is_from_to low high value }
+{
+    match u8::try_from(value) {
+        Ok(number) => low <= number && number <= high,
+        Err(_) => false,
+    }
+}
+
+pub fn is_version(number: u8, table: &Table) -> bool
+    ensures { result ≡ is_version number (table_view table.now) }
+{
+    match integer_at(table, "version") {
+        Ok(version) => is_from_to(number, number, version),
+        Err(_) => false,
+    }
+}
+
+fn safety_at(table: &Table) -> Result<&str, CatalogFault>
+    ensures read { IfOk result (λ s. safety_at (table_view table.now) ≡ Some s.now) }
+    ensures unread { IfErr result (IsRefused 2 (safety_at (table_view table.now))) }
+{
+    if is_version(2, table) {
+        text_at(table, "safety")
+    } else {
+        Ok("whole")
+    }
+}
+
+/// Reads every key at its type.
+pub fn read_document(alloc: Global, table: &Table) -> Result<Document<'_>, CatalogFault>
+    ensures read { IfOk result (λ d. document_of (table_view table.now) ≡ Some d) }
+    ensures unread { IfErr result (IsRefusedUnlessMemory 2 (document_of (table_view table.now))) }
+{
+    let name = text_at(table, "table")?;
+    let key = text_at(table, "key")?;
+    let sites = integer_at(table, "sites")?;
+    let safety = safety_at(table)?;
+    let columns = columns(alloc, array_at(table, "column")?)?;
+    let projections = projections(alloc, array_at(table, "projection")?)?;
+    Ok(Document {
+        table: name,
+        key,
+        sites,
+        safety,
+        columns,
+        projections,
+    })
+}

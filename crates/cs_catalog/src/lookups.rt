@@ -1,0 +1,58 @@
+//! Names, looked up in a document.
+ghost use Rattle.std.specs.Prelude.{◌≡◌};
+ghost use Rattle.cs_catalog.specs.Tree.{texts};
+ghost use Rattle.cs_schema.specs.Rules.{is_among, are_distinct, is_column, is_int_column, is_projection, leading};
+
+use crate::document::{ColumnEntry, ProjectionEntry};
+
+/// Whether a name stands among names.
+pub fn is_among(name: &str, names: &[&str]) -> bool
+    ensures { result ≡ is_among name.now (texts names.now) }
+{
+    names.contains(&name)
+}
+
+/// Whether no name stands twice, for lists of a few names.
+pub fn are_distinct(names: &[&str]) -> bool
+    ensures { result ≡ are_distinct (texts names.now) }
+{
+    for (i, name) in names.iter().enumerate() {
+        if is_among(name, &names[i + 1..]) {
+            return false;
+        }
+    }
+    true
+}
+
+/// Whether a column has this name.
+pub fn is_column(columns: &[ColumnEntry], name: &str) -> bool
+    ensures { result ≡ is_column columns.now name.now }
+{
+    columns.iter().any(|column| column.name == name)
+}
+
+/// Whether a column of ints has this name.
+pub fn is_int_column(columns: &[ColumnEntry], name: &str) -> bool
+    ensures { result ≡ is_int_column columns.now name.now }
+{
+    columns
+        .iter()
+        .any(|column| column.name == name && column.kind == "int")
+}
+
+/// Whether a projection has this name.
+pub fn is_projection(projections: &[ProjectionEntry], name: &str) -> bool
+    ensures { result ≡ is_projection projections.now name.now }
+{
+    projections.iter().any(|projection| projection.name == name)
+}
+
+/// The first sort column, or the empty text where there is none.
+pub fn leading<'a>(projection: &ProjectionEntry<'a>) -> &'a str
+    ensures { result.now ≡ leading projection.now }
+{
+    match projection.sort.first() {
+        Some(name) => name,
+        None => "",
+    }
+}
