@@ -4,6 +4,8 @@
 #[cfg(test)]
 mod catalogs;
 #[cfg(test)]
+mod cells;
+#[cfg(test)]
 mod deltas;
 #[cfg(test)]
 mod encodings;

@@ -1,0 +1,27 @@
+//! Reads catalogs, and prints what each says or why it is refused.
+//!
+//! Standard input has cases, each ended by a blank line: a line `BASE: TITLE`, then an edit of the sample catalog
+//! BASE. Lines `-LINE`, one after the other, are what is taken out where they first stand in the sample, and lines
+//! `+LINE` are put in their place; with no line `-` they are put in front of the sample. The base `nothing` is empty.
+#![tactic(auto)]
+
+mod case;
+mod description;
+
+use anyhow::Result;
+use case::Case;
+
+fn main(rt: HostRuntime) -> Result<()> {
+    let mut case = Case::new(rt.alloc());
+    for line in rt.lines(rt.alloc()) {
+        let line = line?;
+        if line.as_str().is_empty() {
+            let answer = case.answer(rt.alloc())?;
+            rt.print(answer.as_str())?;
+            case = Case::new(rt.alloc());
+        } else {
+            case.read(line.as_str())?;
+        }
+    }
+    Ok(())
+}
