@@ -1,0 +1,18 @@
+//! Stores and outputs that are folders, as the programs use them.
+//!
+//! Nothing is opened that is no regular file or has more bytes than it may have, and what an output
+//! took is synced before it is marked. No contract is told what a folder holds.
+#![tactic(auto)]
+
+mod limits;
+mod output;
+mod paths;
+mod reading;
+mod store;
+#[cfg(test)]
+mod tests;
+
+pub use limits::{CATALOG_LIMIT, FileLimits};
+pub use output::OutputFolder;
+pub use reading::read_bounded;
+pub use store::StoreFolder;

@@ -1,0 +1,105 @@
+//! An output in one folder that is made for it.
+ghost use Rattle.std.specs.Prelude.{◌≡◌, ◌≤◌, ⊤, IsErrOf};
+ghost use Rattle.cs_store.specs.Fault.{CountsFault};
+
+use crate::paths::{file_in, no_memory, path_in};
+use cs_schema::FileName;
+use cs_store::{Sink, StoreFault};
+use std::alloc::Global;
+use std::fs::OpenFile;
+use std::io::Write;
+use std::rt::Files;
+use std::{fs, io};
+
+/// The name of the mark that all files are there.
+const MARK: &str = "DONE";
+
+/// An output in one folder that was made for it, with the number of faults that were met up to its last write.
+#[derive(Drop)]
+pub struct OutputFolder<R> {
+    alloc: Global,
+    rt: R,
+    path: String,
+    faults: u64,
+}
+
+impl<R: Files + Drop> OutputFolder<R> {
+    /// Makes the folder, where nothing may be yet and whose parent is there; no fault was met.
+    pub fn make(alloc: Global, rt: R, path: &str) -> Result<Self, StoreFault> {
+        let output = Self {
+            alloc,
+            rt,
+            path: String::from_str(alloc, path).map_err(no_memory)?,
+            faults: 0,
+        };
+        match fs::create_dir(&output.rt, path) {
+            Ok(()) => Ok(output),
+            Err(_) => Err(StoreFault::Device),
+        }
+    }
+}
+
+impl<R: Files> OutputFolder<R> {
+    /// Counts a fault of the device, or takes the answer.
+    fn told(&mut self, answer: io::Result<()>) -> Result<(), StoreFault>
+        ensures device { IsErrOf result StoreFault.Device → CountsFault self.old.faults self.new.faults }
+        ensures counted { self.old.faults ≤ self.new.faults }
+    {
+        match answer {
+            Ok(()) => Ok(()),
+            Err(_) => {
+                self.faults = self.faults.saturating_add(1);
+                Err(StoreFault::Device)
+            }
+        }
+    }
+
+    /// Writes the mark, when the names of all files are on the disk, and then brings its own name there and
+    /// that of the folder.
+    fn write_mark(&self, path: &str, parent: &str, text: &str) -> io::Result<()> {
+        sync_folder(&self.rt, self.path.as_str())?;
+        write_file(&self.rt, path, text.as_bytes())?;
+        sync_folder(&self.rt, self.path.as_str())?;
+        sync_folder(&self.rt, parent)
+    }
+}
+
+impl<R: Files> Sink for OutputFolder<R> {
+    ghost takes = { λ s name bytes t. ⊤ };
+
+    ghost marks = { λ s files t. ⊤ };
+
+    ghost refuses = { λ s at fault t. ⊤ };
+
+    ghost fault_count = { λ s. s.faults };
+
+    fn put(&mut self, name: FileName, bytes: &[u8]) -> Result<(), StoreFault> {
+        let path = file_in(self.alloc, self.path.as_str(), name).map_err(no_memory)?;
+        let written = write_file(&self.rt, path.as_str(), bytes);
+        self.told(written)
+    }
+
+    fn mark(&mut self, files: u64) -> Result<(), StoreFault> {
+        let path = path_in(self.alloc, self.path.as_str(), MARK).map_err(no_memory)?;
+        let parent = path_in(self.alloc, self.path.as_str(), "..").map_err(no_memory)?;
+        let text = format!(in self.alloc; "files={files}\n").map_err(no_memory)?;
+        let written = self.write_mark(path.as_str(), parent.as_str(), text.as_str());
+        self.told(written)
+    }
+
+    fn faults(&self) -> u64 {
+        self.faults
+    }
+}
+
+/// Writes the whole file, in the place of one that is there, and brings it to the disk.
+fn write_file<R: Files>(rt: &R, path: &str, bytes: &[u8]) -> io::Result<()> {
+    let mut file = fs::create(rt, path)?;
+    file.write_all(bytes)?;
+    file.sync_all()
+}
+
+/// Brings a folder's names to the disk.
+fn sync_folder<R: Files>(rt: &R, path: &str) -> io::Result<()> {
+    fs::open(rt, path)?.sync_all()
+}
