@@ -2,4 +2,5 @@ pub mod FileSetLemmas
 mod LoadLemmas
 mod MemoryLemmas
 mod PlanLemmas
+mod ReadableLemmas
 mod SaveLemmas

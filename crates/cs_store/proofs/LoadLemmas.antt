@@ -1,5 +1,5 @@
 -- How a load goes on from one read to the next.
-use Rattle.std.proofs.Common.{◌≡◌, ℕ, ◌+◌, ◌<◌, ◌≤◌, suc, List, [], ◌∷◌, ◌++◌, length, take, drop, Option, Some, None, MatchOption, get_or, refl, subst, sym, ap, ◌∙◌, arith}
+use Rattle.std.proofs.Common.{inl, inr, append_assoc, ◌≡◌, ℕ, ◌+◌, ◌<◌, ◌≤◌, suc, List, [], ◌∷◌, ◌++◌, length, take, drop, Option, Some, None, MatchOption, get_or, refl, subst, sym, ap, ◌∙◌, arith}
 use Rattle.std.proofs.Math.Seq.{drop-cons}
 use Rattle.std.proofs.lemmas.List.{take_more, take-append-drop}
 use Rattle.std.specs.Global.{Vec}
@@ -13,7 +13,7 @@ use Rattle.cs_schema.specs.NameOrder.{name_cmp_total}
 use Rattle.cs_schema.specs.declared.file_name.FileName.{FileName}
 use Rattle.cs_store.specs.FileSet.{Files}
 use Rattle.cs_store.proofs.FileSetLemmas.{put_last}
-use Rattle.cs_store.specs.Load.{Answers, names_of, present, ReadsInTurn, StopsLoading}
+use Rattle.cs_store.specs.Load.{Answers, names_of, present, ReadsInTurn, StopsLoading, ReadsSome}
 use Rattle.cs_store.specs.declared.fault.StoreFault.{StoreFault}
 use Rattle.cs_store.specs.declared.fault.StoreFault.TheVariants.{Device}
 use Rattle.cs_store.specs.declared.fault.Fault.TheVariants.{Read}
@@ -24,7 +24,7 @@ in_midst P [] n rest h = h.0
 in_midst P (x ∷ xs) n rest h = in_midst P xs n rest h.1
 
 -- in ascending names, those before a name are below it
-below_before : (xs : List FileName) (n : FileName) (rest : List FileName) → IsStrictlySortedBy name_cmp (xs ++ n ∷ rest) → AllByRecursion (λ m. name_cmp m n ≡ Less) xs
+pub below_before : (xs : List FileName) (n : FileName) (rest : List FileName) → IsStrictlySortedBy name_cmp (xs ++ n ∷ rest) → AllByRecursion (λ m. name_cmp m n ≡ Less) xs
 unfolding IsStrictlySortedBy
 below_before [] n rest h = tt
 below_before (x ∷ xs) n rest h = (in_midst _ xs n rest h.0, below_before xs n rest h.1)
@@ -101,3 +101,36 @@ module _ {S : Type 0} (gives : S → FileName → Option (List ℕ) → S → Ty
       refused = refused;
       named = refl;
     }
+
+    -- a read that was refused, for whatever reason
+    pub some_refused : (refuses : S → FileName → StoreFault → S → Type 0) (files : Files) → ReadSoFar count names i s files u → (why : StoreFault) → refuses u n why t → ReadsSome gives refuses names s t
+    some_refused refuses files so_far why refused = record {
+      answers = so_far.answers;
+      others = n ∷ drop (suc i) names;
+      reached = u;
+      in_order = split_here ∙ ap (λ l. l ++ n ∷ drop (suc i) names) (sym so_far.in_order);
+      in_turn = so_far.in_turn;
+      ends = inr (record { name = n; others = drop (suc i) names; why = why; first = refl; refused = refused });
+    }
+
+    -- a read that answered, after which the load ended
+    pub some_read : (refuses : S → FileName → StoreFault → S → Type 0) (files : Files) → ReadSoFar count names i s files u → (file : Option (List ℕ)) → gives u n file t → ReadsSome gives refuses names s t
+    some_read refuses files so_far file given = record {
+      answers = so_far.answers ++ (n, file) ∷ [];
+      others = drop (suc i) names;
+      reached = t;
+      in_order = split_here ∙ sym (append_assoc (take i names) (n ∷ []) (drop (suc i) names)) ∙ ap (λ l. l ++ drop (suc i) names) (ap (λ l. l ++ n ∷ []) (sym so_far.in_order) ∙ sym (names_of-push so_far.answers (n, file)));
+      in_turn = ReadsInTurn-push s so_far.answers u (n, file) t so_far.in_turn given;
+      ends = inl refl;
+    }
+
+  -- reads that all answered
+  pub some_so_far : (count : S → ℕ) (names : List FileName) (i : ℕ) (s u : S) (refuses : S → FileName → StoreFault → S → Type 0) (files : Files) → ReadSoFar count names i s files u → ReadsSome gives refuses names s u
+  some_so_far count names i s u refuses files so_far = record {
+    answers = so_far.answers;
+    others = drop i names;
+    reached = u;
+    in_order = sym (take-append-drop i names) ∙ ap (λ l. l ++ drop i names) (sym so_far.in_order);
+    in_turn = so_far.in_turn;
+    ends = inl refl;
+  }

@@ -1,5 +1,5 @@
 -- What a load does: reads in turn, each by what the source says of one read.
-use Rattle.std.specs.Prelude.{◌≡◌, ℕ, List, [], ◌∷◌, ◌++◌, map, Option, None, Some}
+use Rattle.std.specs.Prelude.{◌≡◌, ◌⊎◌, ℕ, List, [], ◌∷◌, ◌++◌, map, Option, None, Some}
 use Rattle.std.specs.FinMap.{entries}
 use Rattle.cs_schema.specs.declared.file_name.FileName.{FileName}
 use Rattle.cs_store.specs.FileSet.{Files}
@@ -27,6 +27,14 @@ module _ {S : Type 0} (gives : S → FileName → Option (List ℕ) → S → Ty
   ReadsInTurn s [] t = t ≡ s
   ReadsInTurn s (answer ∷ rest) t = (u : S) × gives s answer.0 answer.1 u × ReadsInTurn u rest t
 
+  -- the read of the first of these names was refused
+  pub record RefusesNext (refuses : S → FileName → StoreFault → S → Type 0) (names : List FileName) (s t : S) : Type 0 where
+    pub name : FileName
+    pub others : List FileName
+    pub why : StoreFault
+    pub first : names ≡ name ∷ others
+    pub refused : refuses s name why t
+
   -- each name was read, in order, and the files are just those that were there
   pub record Loads (names : List FileName) (s : S) (files : Files) (t : S) : Type 0 where
     pub answers : Answers
@@ -44,3 +52,12 @@ module _ {S : Type 0} (gives : S → FileName → Option (List ℕ) → S → Ty
     pub in_turn : ReadsInTurn s answers reached
     pub refused : refuses reached name Device t
     pub named : fault ≡ Read name
+
+  -- A load ended, whatever it answered: some names were read, in order, and then at most the read of the next was refused.
+  pub record ReadsSome (refuses : S → FileName → StoreFault → S → Type 0) (names : List FileName) (s t : S) : Type 0 where
+    pub answers : Answers
+    pub others : List FileName
+    pub reached : S
+    pub in_order : names ≡ names_of answers ++ others
+    pub in_turn : ReadsInTurn s answers reached
+    pub ends : (t ≡ reached) ⊎ RefusesNext refuses others reached t

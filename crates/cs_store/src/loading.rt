@@ -5,7 +5,7 @@ ghost use Rattle.std.specs.List.Sorted.{IsStrictlySortedBy};
 ghost use Rattle.cs_schema.specs.FileNames.{name_cmp, surviving};
 ghost use Rattle.cs_schema.specs.declared.file_name.FileName.{FileName};
 ghost use Rattle.cs_store.specs.Fault.{CountsFault, MemoryOr};
-ghost use Rattle.cs_store.specs.Load.{Loads, StopsLoading};
+ghost use Rattle.cs_store.specs.Load.{Loads, ReadsSome, StopsLoading};
 
 use crate::{Fault, FileSet, Source, StoreFault};
 use cs_schema::{Catalog, FileName, Loss};
@@ -14,8 +14,8 @@ use std::alloc::{AllocError, Global};
 /// Reads the files that survive the loss, in the order of their names, and leaves out those that the
 /// source doesn't have.
 ///
-/// `Read` names the first read at which the device failed. Nothing is said of the source after want
-/// of memory.
+/// `Read` names the first read at which the device failed. After any answer some files were read, and at
+/// most one read was refused.
 pub fn load<S: Source>(
     alloc: Global,
     catalog: &Catalog,
@@ -26,6 +26,7 @@ pub fn load<S: Source>(
         Loads S.gives (surviving catalog.now loss) source.old files source.new) }
     ensures err { IfErr result (λ fault. MemoryOr fault
         (StopsLoading S.gives S.refuses (surviving catalog.now loss) source.old fault source.new)) }
+    ensures reads { ReadsSome S.gives S.refuses (surviving catalog.now loss) source.old source.new }
     ensures device { (name : FileName) → IsErrOf result (Fault.Read name)
         → CountsFault (S.fault_count source.old) (S.fault_count source.new) }
     ensures counted { S.fault_count source.old ≤ S.fault_count source.new }
@@ -46,6 +47,7 @@ fn load_names<S: Source>(
     ensures ok { IfOk result (λ files. Loads S.gives names.now source.old files source.new) }
     ensures err { IfErr result (λ fault. MemoryOr fault
         (StopsLoading S.gives S.refuses names.now source.old fault source.new)) }
+    ensures reads { ReadsSome S.gives S.refuses names.now source.old source.new }
     ensures device { (name : FileName) → IsErrOf result (Fault.Read name)
         → CountsFault (S.fault_count source.old) (S.fault_count source.new) }
     ensures counted { S.fault_count source.old ≤ S.fault_count source.new }
@@ -67,7 +69,11 @@ fn load_names<S: Source>(
 }
 
 /// Puts what a read gave, if there was such a file.
-fn keep(files: &mut FileSet, name: FileName, file: Option<Vec<u8>>) -> Result<(), AllocError>
+pub(crate) fn keep(
+    files: &mut FileSet,
+    name: FileName,
+    file: Option<Vec<u8>>,
+) -> Result<(), AllocError>
     ensures { OnOk result (MatchOption file (files.new ≡ files.old)
         (λ bytes. files.new ≡ insert files.old name bytes.items)) }
 {
