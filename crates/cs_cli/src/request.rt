@@ -83,37 +83,53 @@ fn commands<'a>(alloc: Global) -> Result<Command<'a>, clap::Error> {
 
 /// `check K STORE`.
 fn check_command<'a>(alloc: Global) -> Result<Command<'a>, clap::Error> {
-    let k = Arg::new(alloc, "k")
-        .required(true)
-        .value_parser(value_parser!(u8));
-    let store = Arg::new(alloc, "store").required(true);
-    Ok(Command::new(alloc, "check").arg(k)?.arg(store)?)
+    let command = Command::new(alloc, "check")
+        .arg(k_argument(alloc))?
+        .arg(folder_argument(alloc, "store"))?;
+    Ok(command)
 }
 
 /// `recover [--workers N] [--cut R] STORE OUT SITE...`.
 fn recover_command<'a>(alloc: Global) -> Result<Command<'a>, clap::Error> {
-    let workers = Arg::new(alloc, "workers")
+    let command = Command::new(alloc, "recover")
+        .arg(workers_argument(alloc))?
+        .arg(cut_argument(alloc))?
+        .arg(folder_argument(alloc, "store"))?
+        .arg(folder_argument(alloc, "output"))?
+        .arg(site_argument(alloc))?;
+    Ok(command)
+}
+
+fn k_argument<'a>(alloc: Global) -> Arg<'a> {
+    Arg::new(alloc, "k")
+        .required(true)
+        .value_parser(value_parser!(u8))
+}
+
+fn folder_argument<'a>(alloc: Global, name: &'a str) -> Arg<'a> {
+    Arg::new(alloc, name).required(true)
+}
+
+fn workers_argument<'a>(alloc: Global) -> Arg<'a> {
+    Arg::new(alloc, "workers")
         .long("workers")
         .value_parser(value_parser!(u32).range(1..=64))
-        .default_value("1");
-    let cut = Arg::new(alloc, "cut")
+        .default_value("1")
+}
+
+fn cut_argument<'a>(alloc: Global) -> Arg<'a> {
+    Arg::new(alloc, "cut")
         .long("cut")
         .value_parser(value_parser!(u32).range(1..=1_048_576))
-        .default_value("65536");
-    let store = Arg::new(alloc, "store").required(true);
-    let output = Arg::new(alloc, "output").required(true);
-    let site = Arg::new(alloc, "site")
+        .default_value("65536")
+}
+
+fn site_argument<'a>(alloc: Global) -> Arg<'a> {
+    Arg::new(alloc, "site")
         .required(true)
         .action(ArgAction::Append)
         .num_args(1..)
-        .value_parser(value_parser!(u8).range(1..=16));
-    let command = Command::new(alloc, "recover")
-        .arg(workers)?
-        .arg(cut)?
-        .arg(store)?
-        .arg(output)?
-        .arg(site)?;
-    Ok(command)
+        .value_parser(value_parser!(u8).range(1..=16))
 }
 
 /// The arguments of `check`, if all are there.
