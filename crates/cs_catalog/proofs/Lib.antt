@@ -2,3 +2,4 @@ pub mod Reading
 pub mod TextLists
 pub mod SortedTexts
 pub mod CutLemmas
+pub mod Mapped
