@@ -36,7 +36,8 @@ use Rattle.cs_recovery.proofs.Walks.{IsKeyed, has_index}
 use Rattle.cs_safety.proofs.AliveLemmas.{segment_below, alive_kept}
 use Rattle.cs_recovery.proofs.Exact.{Layers}
 use Rattle.cs_recovery.proofs.Accepted.{same_contents}
-use Rattle.cs_recovery.proofs.Losses.{image_under, join_under, agree_map}
+use Rattle.cs_recovery.proofs.Agreeing.{agree_map}
+use Rattle.cs_recovery.proofs.FewerSurvive.{image_under, join_under}
 use Rattle.cs_recovery.proofs.Keyed.{merged_keyed}
 use Rattle.cs_recovery.proofs.Afresh.{base_is, count_is, fresh_merged, no_changes_are}
 
