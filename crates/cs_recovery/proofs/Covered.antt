@@ -1,6 +1,6 @@
 -- A safe loss that has a site of each conflict of a table is accepted with it.
-use Rattle.std.proofs.Common.{◌≡◌, ℕ, ◌+◌, ◌<◌, ◌≤◌, List, [], map, refl, sym, ap, subst, ◌∙◌, Bool, true, false, cond, ◌&&◌, ◌⊎◌, inl, inr, Option, Some, None, length, get_or, arith, ◌==◌, eqb-true, eq-eqb}
-use Rattle.std.specs.Prelude.{nat_lt, IsTrue}
+use Rattle.std.proofs.Common.{◌≡◌, ℕ, ◌+◌, ◌<◌, ◌≤◌, List, [], map, refl, sym, ap, subst, ◌∙◌, Bool, true, false, ◌&&◌, ◌⊎◌, inl, inr, Option, Some, None, length, get_or, arith, ◌==◌, eqb-true, eq-eqb}
+use Rattle.std.specs.Prelude.{nat_lt}
 use Rattle.std.specs.List.{slice_get}
 use Rattle.std.specs.Option.{option_map_or}
 use Rattle.std.proofs.lemmas.Option.{slice_get-get_or}
@@ -12,7 +12,7 @@ use Rattle.cs_schema.specs.declared.file_name.FileName.{FileName}
 use Rattle.cs_schema.specs.Lists.{member, IsIn}
 use Rattle.cs_schema.specs.CatalogData.{CatalogData, HasSegment, segments, has_join}
 use Rattle.cs_schema.specs.CatalogRules.{IsCatalog}
-use Rattle.cs_schema.specs.FileNames.{FileContents, HasName, Survives}
+use Rattle.cs_schema.specs.FileNames.{FileContents, Survives}
 use Rattle.cs_schema.specs.Losses.{Sites, IsLoss, lost}
 use Rattle.cs_schema.specs.Order.{rows_of, Fits}
 use Rattle.cs_schema.specs.Rows.{Row, IsTable, segment_of_row, project}

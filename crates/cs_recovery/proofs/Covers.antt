@@ -1,43 +1,32 @@
 -- The accepted losses of a table are the safe ones that have a site of each conflict.
-use Rattle.std.proofs.Common.{◌≡◌, ℕ, ◌+◌, ◌<◌, ◌≤◌, List, [], map, refl, sym, ap, subst, ◌∙◌, Bool, true, false, cond, ◌&&◌, ◌⊎◌, inl, inr, Option, Some, None, length, arith, ◌==◌, eqb-true, eq-eqb}
-use Rattle.std.specs.Prelude.{nat_lt, slice_index, IsTrue}
+use Rattle.std.proofs.Common.{◌≡◌, ℕ, ◌+◌, ◌<◌, ◌≤◌, List, refl, sym, ap, subst, ◌∙◌, Bool, true, false, ◌⊎◌, inl, inr, Option, Some, None, length, arith}
+use Rattle.std.specs.Prelude.{IsTrue}
 use Rattle.std.specs.List.{slice_get}
 use Rattle.std.specs.Option.{option_and_then, option_map_or}
-use Rattle.std.proofs.lemmas.Option.{same_Some, none-some, slice_get_within, slice_get-get_or}
+use Rattle.std.proofs.lemmas.Option.{same_Some, slice_get_within}
 use Rattle.std.proofs.lemmas.List.FromFn.{length-map-range_with_len}
-use Rattle.std.proofs.lemmas.List.Quantifiers.{position-Some}
-use Rattle.std.proofs.Math.ListN.{length-map}
-use borrow.Author.Tests.{lt-ltb}
-use lib.Pointwise.{pointwise}
 use Rattle.cs_schema.specs.declared.file_name.FileName.{FileName}
 use Rattle.cs_schema.specs.Lists.{member, IsIn}
-use Rattle.cs_schema.specs.CatalogData.{CatalogData, HasSegment, segments, has_join}
+use Rattle.cs_schema.specs.CatalogData.{CatalogData}
 use Rattle.cs_schema.specs.CatalogRules.{IsCatalog}
-use Rattle.cs_schema.specs.FileNames.{FileContents, HasName, Survives, projection_of, segment_of}
-use Rattle.cs_schema.specs.Losses.{Sites, IsLoss, lost}
-use Rattle.cs_schema.specs.Order.{rows_of, Fits}
-use Rattle.cs_schema.specs.Rows.{Row, IsTable, segment_of_row, project}
-use Rattle.cs_schema.specs.Values.{value_eq}
-use Rattle.cs_delta.specs.Image.{ImageData, Pair, image_keys, image_rows, position_of_key}
+use Rattle.cs_schema.specs.FileNames.{FileContents, HasName, Survives}
+use Rattle.cs_schema.specs.Losses.{Sites, lost}
+use Rattle.cs_schema.specs.Order.{rows_of}
+use Rattle.cs_schema.specs.Rows.{Row, segment_of_row}
+use Rattle.cs_delta.specs.Image.{ImageData, image_keys, image_rows, position_of_key}
 use Rattle.cs_jix.specs.JoinIndex.{Place, no_place}
 use Rattle.cs_rows.specs.Walk.{Contents}
-use Rattle.cs_safety.specs.Safety.{IsSafe}
 use Rattle.cs_recovery.specs.AcceptedLosses.{IsAcceptedLoss}
-use Rattle.cs_recovery.specs.Conflicts.{site_of, IsImageOfTable, IsEntryOf, IsKeyOf, Contradicts, IsConflict, HitsConflicts, AreRead}
-use Rattle.cs_recovery.specs.Contents.{IsImageOf, IsJoinOf, Reads}
-use Rattle.cs_recovery.specs.Expected.{is_segment}
-use Rattle.cs_recovery.specs.Holding.{AreContentsOf, HoldsSurvivors, agrees}
+use Rattle.cs_recovery.specs.Conflicts.{IsEntryOf, IsKeyOf, Contradicts, IsConflict, HitsConflicts}
+use Rattle.cs_recovery.specs.Contents.{IsImageOf, IsJoinOf}
+use Rattle.cs_recovery.specs.Holding.{HoldsSurvivors, agrees}
 use Rattle.cs_recovery.specs.Places.{image_after, place_of, entry_for, entries_for}
-use Rattle.cs_recovery.specs.Verdicts.{IsSound}
-use Rattle.cs_schema.proofs.Ascending.{false≢true}
 use Rattle.cs_schema.proofs.Lists.{in_at, agreed_at, slice_get-made}
 use Rattle.cs_schema.proofs.RowOrder.{rows_of-are}
 use Rattle.cs_safety.proofs.AliveLemmas.{segment_below}
-use Rattle.cs_recovery.proofs.Agreeing.{both_true, first_true, second_true, agrees_if, dead_is, placed_is, kept_is, lost_place, kept_place, agreed_length, agrees_at_each}
-use Rattle.cs_recovery.proofs.Exact.{Layers, sound, rows_decide}
-use Rattle.cs_recovery.proofs.OneAnswer.{segment_there}
-use Rattle.cs_recovery.proofs.Restarts.{some, all_agree}
-use Rattle.cs_recovery.proofs.RowPlaces.{IsPlaced, IsKept, kept_after, place_kept, kept_row, place}
+use Rattle.cs_recovery.proofs.Agreeing.{agrees_if, dead_is, placed_is, kept_is, agreed_length}
+use Rattle.cs_recovery.proofs.Exact.{Layers, sound}
+use Rattle.cs_recovery.proofs.RowPlaces.{kept_after, place_kept, kept_row, place}
 use Rattle.cs_recovery.proofs.Walks.{IsKeyed}
 
 -- the place of a row that stands at a position

@@ -1,6 +1,6 @@
 -- What the files that survive a loss hold, those that survive a larger one hold.
-use Rattle.std.proofs.Common.{◌≡◌, ℕ, zero, suc, ◌+◌, ◌<◌, ◌≤◌, List, [], ◌∷◌, map, refl, sym, ap, subst, ◌∙◌, Bool, true, false, not, cond, ◌&&◌, Option, Some, None, length, arith, ◌==◌, eqb-true}
-use Rattle.std.specs.Prelude.{nat_le, slice_index}
+use Rattle.std.proofs.Common.{◌≡◌, ℕ, ◌+◌, ◌<◌, List, map, refl, sym, ap, subst, ◌∙◌, Bool, true, false, Option, Some, None, length}
+use Rattle.std.specs.Prelude.{slice_index}
 use Rattle.std.specs.List.{slice_get}
 use Rattle.std.specs.Option.{option_and_then, option_map_or}
 use lib.Pointwise.{pointwise}

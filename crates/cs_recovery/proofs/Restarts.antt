@@ -24,7 +24,7 @@ use Rattle.cs_recovery.specs.Holding.{AreContentsOf, HoldsSurvivors, agrees}
 use Rattle.cs_recovery.specs.Places.{entries_for}
 use Rattle.cs_recovery.specs.Tables.{when}
 use Rattle.cs_recovery.specs.Expected.{AreExpected, written, is_segment, is_lost, is_affected}
-use Rattle.cs_recovery.specs.Verdicts.{IsVerdict, IsRebuildVerdict, IsWalkedBy, Verdict, judged}
+use Rattle.cs_recovery.specs.Verdicts.{IsVerdict, IsRebuildVerdict, IsWalkedBy, judged}
 use Rattle.cs_recovery.specs.Claims.{IsRebuildAnswer}
 use Rattle.cs_recovery.specs.AnswerLaws.{IsOrMemory, IsPartlyWritten}
 use Rattle.cs_store.specs.FileSet.{Files, contents_of}
