@@ -26,7 +26,6 @@ use Rattle.cs_segment.specs.SegmentFile.{IsBase, base_row, base_column, base_of}
 use Rattle.cs_schema.specs.CatalogData.{code_at, kind_at}
 use Rattle.cs_delta.specs.Image.{Pair, applied_from, base_pairs, fresh_image}
 use Rattle.cs_delta.specs.DeltaFile.{IsDelta, merged, no_changes}
-use Rattle.cs_rows.specs.Walk.{Contents}
 use Rattle.cs_schema.proofs.Ascending.{All-in}
 use Rattle.cs_schema.proofs.RowOrder.{rows_of-are}
 use Rattle.cs_schema.proofs.Lists.{in_at, in_map, slice_get_map}

@@ -25,7 +25,7 @@ use Rattle.cs_recovery.proofs.Walks.{IsKeyed}
 use Rattle.cs_recovery.proofs.WalkedRows.{walk_ends, in_segments, segments_in}
 use Rattle.cs_recovery.proofs.Exact.{Layers, once_segments, not_twice}
 use Rattle.cs_recovery.proofs.Accepted.{same_contents}
-use Rattle.cs_recovery.proofs.Losses.{image_under, join_under, reads_under}
+use Rattle.cs_recovery.proofs.FewerSurvive.{image_under, join_under, reads_under}
 use Rattle.cs_recovery.proofs.RowLists.{once_only}
 use Rattle.cs_recovery.proofs.RowHome.{full_rows, rows_walk_ends, walked_in, in_walked}
 

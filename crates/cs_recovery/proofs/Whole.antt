@@ -1,11 +1,10 @@
 -- The surviving files with the written ones put over them hold the table again.
-use Rattle.std.proofs.Common.{◌≡◌, ◌≢◌, ℕ, ◌+◌, ◌-◌, ◌<◌, ◌≤◌, List, [], ◌∷◌, ◌++◌, map, refl, sym, ap, subst, ◌∙◌, Bool, true, false, not, cond, ◌&&◌, ◌||◌, ◌⊎◌, inl, inr, Option, Some, None, length, get_or, arith, ◌==◌, eq-eqb, Ordering}
-use Rattle.std.specs.Prelude.{nat_lt, nat_le, slice_index, ◌≤ℤ◌}
-use Rattle.std.specs.List.{slice_get, range_with_len, enumerate_from}
+use Rattle.std.proofs.Common.{◌≡◌, ℕ, ◌+◌, ◌<◌, ◌≤◌, List, [], ◌∷◌, map, refl, sym, ap, subst, ◌∙◌, Bool, true, false, not, cond, ◌&&◌, ◌||◌, ◌⊎◌, inl, inr, Option, Some, None, length, arith, ◌==◌, eq-eqb}
+use Rattle.std.specs.Prelude.{nat_lt, nat_le, slice_index}
+use Rattle.std.specs.List.{slice_get, enumerate_from}
 use Rattle.std.specs.Option.{option_map_or, option_and_then, option_or}
 use Rattle.std.proofs.lemmas.Option.{get_or_from_slice_get}
 use Rattle.std.proofs.lemmas.List.FromFn.{length-map-range_with_len, length-enumerate_from}
-use Rattle.std.proofs.Math.ListN.{length-map}
 use borrow.Author.Tests.{lt-ltb}
 use lib.Pointwise.{pointwise}
 use Rattle.cs_schema.specs.declared.cells.Value.{Value}
@@ -36,7 +35,8 @@ use Rattle.cs_recovery.proofs.Walks.{IsKeyed, has_index}
 use Rattle.cs_safety.proofs.AliveLemmas.{segment_below, alive_kept}
 use Rattle.cs_recovery.proofs.Exact.{Layers}
 use Rattle.cs_recovery.proofs.Accepted.{same_contents}
-use Rattle.cs_recovery.proofs.Losses.{image_under, join_under, agree_map}
+use Rattle.cs_recovery.proofs.Agreeing.{agree_map}
+use Rattle.cs_recovery.proofs.FewerSurvive.{image_under, join_under}
 use Rattle.cs_recovery.proofs.Keyed.{merged_keyed}
 use Rattle.cs_recovery.proofs.Afresh.{base_is, count_is, fresh_merged, no_changes_are}
 

@@ -6,3 +6,7 @@ pub mod Expected
 pub mod Verdicts
 pub mod Claims
 pub mod Laws
+pub mod AcceptedLosses
+pub mod Conflicts
+pub mod LossLaws
+pub mod AnswerLaws

@@ -1,4 +1,6 @@
 //! What a recovery has to be: what files hold, which files are expected, and what `rebuild` and `check` answer.
 #![tactic(auto)]
 
+pub mod answer_laws;
 pub mod laws;
+pub mod loss_laws;

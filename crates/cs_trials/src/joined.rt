@@ -32,7 +32,7 @@ const TO_SECOND: [(u16, u32); 2] = [(0, 3), (0, 2)];
 const TO_FIRST: [(u16, u32); 3] = [(0, 0), (0, 2), (0, 1)];
 
 /// The rows (1, 5, 9), (2, 6, 8). The first row of the second projection is deleted, so its keys are 2 and 3.
-const WHOLE: Parts = Parts {
+pub const WHOLE: Parts = Parts {
     segments: &[
         (0, 0, &[Column::Ints(&[1, 2]), Column::Ints(&[5, 6])]),
         (1, 0, &[Column::Ints(&[7, 8, 9])]),

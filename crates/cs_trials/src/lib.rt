@@ -18,6 +18,8 @@ mod gates;
 #[cfg(test)]
 mod joined;
 #[cfg(test)]
+mod laws;
+#[cfg(test)]
 mod one_segment;
 #[cfg(test)]
 mod orders_by_ties;
