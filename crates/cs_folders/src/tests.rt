@@ -1,7 +1,8 @@
 //! Folders of the system, made where the tests run.
 use crate::{CATALOG_LIMIT, FileLimits, OutputFolder, StoreFolder, read_bounded};
 use cs_schema::samples::TWO_ORDERS;
-use cs_schema::{FileName, read_catalog};
+use cs_catalog::read_catalog;
+use cs_schema::FileName;
 use cs_store::{Sink, Source, StoreFault};
 use std::fs;
 use std::fs::{File, OpenFile};
