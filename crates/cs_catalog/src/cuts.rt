@@ -115,7 +115,8 @@ fn ascends(cells: &Cells) -> bool
     }
 }
 
-fn has_cuts(
+/// Whether a projection keeps the rule on cuts.
+pub fn has_cuts(
     alloc: Global,
     columns: &[ColumnEntry],
     projection: &ProjectionEntry,

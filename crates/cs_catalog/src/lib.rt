@@ -1,17 +1,22 @@
 //! The catalog of a store, read from its text.
 //!
 //! Promises that a catalog is read exactly: what the text says where it keeps every rule, else the least
-//! rule that it breaks.
+//! rule that it breaks. `explain` answers the same rule, and in words what breaks it.
 #![tactic(auto)]
 
 mod build;
 mod cuts;
 mod document;
+mod document_words;
+mod explained;
 mod fault;
+mod key_words;
 mod lookups;
 mod names;
+mod projection_words;
 mod read;
 mod rules;
 
+pub use explained::{Explanation, explain};
 pub use fault::CatalogFault;
 pub use read::read_catalog;

@@ -26,7 +26,7 @@ fn are_name_bytes(bytes: &[u8]) -> bool
     bytes.iter().all(|byte| is_name_byte(*byte))
 }
 
-fn is_name(name: &str) -> bool
+pub fn is_name(name: &str) -> bool
     ensures { result ≡ is_name name.now }
 {
     match name.as_bytes().split_first() {

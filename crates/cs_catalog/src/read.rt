@@ -17,7 +17,8 @@ fn has_version(table: &Table) -> bool
     is_version(1, table) || is_version(2, table)
 }
 
-fn table_catalog(alloc: Global, table: &Table) -> Result<Catalog, CatalogFault>
+/// The catalog that a tree says.
+pub fn table_catalog(alloc: Global, table: &Table) -> Result<Catalog, CatalogFault>
     ensures read { IfOk result (IsCatalogOfTree (table_view table.now)) }
     ensures refused { IfErr result (IsRefusalOfTree (table_view table.now)) }
 {

@@ -21,7 +21,7 @@ pub fn sizes_hold(document: &Document) -> bool
         && (1 <= document.projections.len() && document.projections.len() <= 8)
 }
 
-fn is_kind(kind: &str) -> bool
+pub fn is_kind(kind: &str) -> bool
     ensures { result ≡ is_kind kind.now }
 {
     kind == "int" || kind == "text"

@@ -1,0 +1,63 @@
+//! Which rule a catalog's text breaks, and in words how.
+ghost use Rattle.std.specs.Prelude.{◌≡◌, ℕ, Some, IfOk, IfSome, IfNone, option_map};
+ghost use Rattle.toml.specs.View.{table_view};
+ghost use Rattle.cs_catalog.specs.Reading.{least_broken_rule, BreaksRule};
+
+use crate::CatalogFault;
+use crate::document_words::rule_words;
+use crate::key_words::{key_words, version_words};
+use crate::read::table_catalog;
+use std::alloc::{AllocError, Global};
+use toml::Table;
+
+/// The least rule that a catalog's text breaks, and in words how.
+#[derive(Drop)]
+pub struct Explanation {
+    /// The number of the rule, as `read_catalog` gives it.
+    pub rule: u8,
+    /// What breaks it and what is wanted; columns, projections and items without a name are numbered from 0.
+    pub words: String,
+}
+
+fn words_of(alloc: Global, rule: u8, table: &Table) -> Result<String, AllocError> {
+    match rule {
+        1 => version_words(alloc, table),
+        2 => key_words(alloc, table),
+        _ => rule_words(alloc, rule, table),
+    }
+}
+
+fn explain_table(alloc: Global, table: &Table) -> Result<Option<Explanation>, AllocError>
+    ensures broken { IfOk result (λ found. IfSome found (λ e. least_broken_rule (table_view table.now) ≡ Some e.rule)) }
+    ensures none { IfOk result (λ found. IfNone found (least_broken_rule (table_view table.now) ≡ None)) }
+{
+    match table_catalog(alloc, table) {
+        Ok(_) => Ok(None),
+        Err(CatalogFault::Rule(rule)) => {
+            let words = words_of(alloc, rule, table)?;
+            Ok(Some(Explanation { rule, words }))
+        }
+        Err(_) => Err(AllocError),
+    }
+}
+
+/// Explains a catalog's text that breaks a rule: the rule that `read_catalog` refuses it by, and in words what breaks it.
+/// None where it breaks no rule, since it is a catalog or no TOML.
+pub fn explain(alloc: Global, bytes: &[u8]) -> Result<Option<Explanation>, AllocError>
+    ensures broken { IfOk result (λ found. IfSome found (λ e. BreaksRule bytes.now e.rule)) }
+    ensures none { IfOk result (λ found. IfNone found ((n : ℕ) → ¬ BreaksRule bytes.now n)) }
+{
+    let Ok(text) = std::str::from_utf8(bytes) else {
+        return Ok(None);
+    };
+    match toml::table_from_str(alloc, text) {
+        Ok(table) => explain_table(alloc, &table),
+        Err(error) => {
+            if error.is_memory() {
+                Err(AllocError)
+            } else {
+                Ok(None)
+            }
+        }
+    }
+}
