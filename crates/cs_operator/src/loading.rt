@@ -4,7 +4,8 @@ ghost use Rattle.cs_operator.specs.Verbs.{LoadsStore};
 
 use crate::places::Places;
 use crate::stop::{Stop, store_stop};
-use cs_schema::{Catalog, Loss, read_catalog};
+use cs_catalog::read_catalog;
+use cs_schema::{Catalog, Loss};
 use cs_store::{FileSet, StoreFault, load};
 use std::alloc::Global;
 
