@@ -2,7 +2,8 @@
 ghost use Rattle.std.specs.Prelude.{◌≡◌, ◌≤◌};
 ghost use Rattle.cs_operator.specs.Status.{status_of};
 
-use cs_schema::{Catalog, CatalogFault};
+use cs_catalog::CatalogFault;
+use cs_schema::Catalog;
 use cs_store::Fault;
 use std::fmt;
 
