@@ -4,7 +4,7 @@ use Rattle.std.specs.FinMap.{entries, len}
 use Rattle.cs_schema.specs.CatalogData.{CatalogData}
 use Rattle.cs_schema.specs.FileNames.{surviving}
 use Rattle.cs_schema.specs.Losses.{Sites}
-use Rattle.cs_schema.specs.Reading.{IsCatalogOf}
+use Rattle.cs_catalog.specs.Reading.{IsCatalogOf}
 use Rattle.cs_schema.specs.declared.file_name.FileName.{FileName}
 use Rattle.cs_safety.specs.Safety.{IsKSafe}
 use Rattle.cs_store.specs.FileSet.{Files, contents_of}
