@@ -10,6 +10,8 @@ mod deltas;
 #[cfg(test)]
 mod encodings;
 #[cfg(test)]
+mod explanations;
+#[cfg(test)]
 mod join_indexes;
 #[cfg(test)]
 mod pieces;
