@@ -1,0 +1,11 @@
+pub mod RecordLemmas
+pub mod HeldLemmas
+pub mod ValueLemmas
+pub mod TripLemmas
+pub mod WriteLemmas
+pub mod HeaderLemmas
+pub mod RowsLemmas
+pub mod OrderLemmas
+pub mod TextLemmas
+pub mod ReadLemmas
+pub mod CatalogNames

@@ -1,0 +1,84 @@
+//! From the fields of a record to cells.
+ghost use Rattle.std.specs.Prelude.{◌≡◌, ◌<◌, ℕ, [], ◌∷◌, ◌++◌, length, OnOk, IfErr};
+ghost use Rattle.csv.specs.Records.{fields_of};
+ghost use Rattle.cs_schema.specs.Values.{kind_of, values};
+ghost use Rattle.cs_csv.specs.Fields.{IsCellOf, cell_of, field};
+ghost use Rattle.cs_csv.specs.Faults.{AddsField, IsFirstRefused, Refuses, kinds_of};
+
+use crate::fault::{FieldFault, RecordFault};
+use cs_schema::{Cells, Text};
+use csv::ByteRecord;
+use std::alloc::Global;
+use std::str;
+
+/// The field of a record at a place.
+pub(crate) fn field_at(row: &ByteRecord, place: usize) -> &[u8]
+    requires { place < length (fields_of row.now) }
+    ensures { result.now ≡ field (fields_of row.now) place }
+{
+    match row.get(place) {
+        Some(field) => field,
+        None => unreachable!(),
+    }
+}
+
+/// Adds the cell that a field is.
+fn push_field(alloc: Global, text: &[u8], cells: &mut Cells) -> Result<(), FieldFault>
+    ensures kind { kind_of cells.new ≡ kind_of cells.old }
+    ensures fits { OnOk result (IsCellOf (kind_of cells.old) text.now) }
+    ensures ok { OnOk result (values cells.new ≡ values cells.old ++ cell_of (kind_of cells.old) text.now ∷ []) }
+    ensures err { IfErr result (λ why. Refuses (kind_of cells.old) text.now why) }
+{
+    match cells {
+        Cells::Ints(ints) => {
+            let Ok(text) = str::from_utf8(text) else {
+                return Err(FieldFault::NotInt);
+            };
+            let Ok(int) = text.parse::<i64>() else {
+                return Err(FieldFault::NotInt);
+            };
+            if ints.push(int).is_err() {
+                return Err(FieldFault::Memory);
+            }
+        }
+        Cells::Texts(texts) => {
+            let Ok(text) = str::from_utf8(text) else {
+                return Err(FieldFault::NotText);
+            };
+            if text.len() > 255 {
+                return Err(FieldFault::TooLong);
+            }
+            let Ok(found) = Text::new(alloc, text) else {
+                return Err(FieldFault::Memory);
+            };
+            let Some(text) = found else {
+                unreachable!();
+            };
+            if texts.push(text).is_err() {
+                return Err(FieldFault::Memory);
+            }
+        }
+    }
+    Ok(())
+}
+
+/// Adds the cells that the fields of a record are.
+pub(crate) fn push_record(
+    alloc: Global,
+    row: &ByteRecord,
+    cells: &mut Vec<Cells>,
+) -> Result<(), RecordFault>
+    requires { length (fields_of row.now) ≡ length cells.old.items }
+    ensures kinds { kinds_of cells.new.items ≡ kinds_of cells.old.items }
+    ensures ok { OnOk result ((i : ℕ) → i < length cells.old.items → AddsField cells.old.items cells.new.items (fields_of row.now) i) }
+    ensures err { IfErr result (λ fault. IsFirstRefused cells.old.items (fields_of row.now) fault.place fault.why) }
+{
+    for place in 0..cells.len() {
+        let text = field_at(row, place);
+        match push_field(alloc, text, &mut cells[place]) {
+            Ok(()) => {}
+            Err(why) => return Err(RecordFault { place, why }),
+        }
+    }
+    Ok(())
+}

@@ -1,0 +1,5 @@
+//! Trials of reading and writing rows as CSV.
+#![tactic(auto)]
+
+#[cfg(test)]
+mod rows;

@@ -1,0 +1,142 @@
+use cs_catalog::read_catalog;
+use cs_csv::{CsvFault, read_rows, write_rows};
+use cs_schema::samples::CITIES;
+use cs_schema::{Catalog, Cells};
+use std::test::Fail;
+
+fn cities(rt: &HostRuntime) -> Result<Catalog, Fail> {
+    Ok(read_catalog(rt.alloc(), CITIES.as_bytes())?)
+}
+
+/// The cells of a column: each int with a comma behind it, each text between `<` and `>`.
+fn column_text(rt: &HostRuntime, cells: &Cells) -> Result<String, Fail> {
+    let alloc = rt.alloc();
+    let mut text = format!(in alloc; "")?;
+    match cells {
+        Cells::Ints(ints) => {
+            for int in ints {
+                text = format!(in alloc; "{text}{int},")?;
+            }
+        }
+        Cells::Texts(texts) => {
+            for cell in texts {
+                let cell = cell.as_str();
+                text = format!(in alloc; "{text}<{cell}>")?;
+            }
+        }
+    }
+    Ok(text)
+}
+
+/// The columns that a text is read as, or its fault.
+fn read(rt: &HostRuntime, text: &[u8]) -> Result<String, Fail> {
+    let alloc = rt.alloc();
+    let catalog = cities(rt)?;
+    match read_rows(alloc, &catalog, text) {
+        Ok(columns) => {
+            let mut read = format!(in alloc; "")?;
+            for cells in &columns {
+                let column = column_text(rt, cells)?;
+                read = format!(in alloc; "{read}{column}|")?;
+            }
+            Ok(read)
+        }
+        Err(fault) => Ok(format!(in alloc; "{fault:?}")?),
+    }
+}
+
+#[test]
+fn reads_rows_with_ample_memory(rt: HostRuntime) -> Result<(), Fail> {
+    for (text, wanted) in [
+        ("id,city,v\n", "|||"),
+        ("id,city,v", "|||"),
+        ("id,city,v\n1,a,2\n3,b,4\n", "1,3,|<a><b>|2,4,|"),
+        ("id,city,v\n1,a,2", "1,|<a>|2,|"),
+        ("v,id,city\n2,1,a\n", "1,|<a>|2,|"),
+        ("id,city,v\r\n1,a,2\r\n", "1,|<a>|2,|"),
+        ("\u{feff}id,city,v\n1,a,2\n", "1,|<a>|2,|"),
+        ("\"id\",\"city\",\"v\"\n\"1\",\"a\",\"2\"\n", "1,|<a>|2,|"),
+        ("id,city,v\n1,\"a,b\",2\n", "1,|<a,b>|2,|"),
+        ("id,city,v\n1,\"a \"\"b\"\"\",2\n", "1,|<a \"b\">|2,|"),
+        ("id,city,v\n1,\"a\nb\",2\n", "1,|<a\nb>|2,|"),
+        ("id,city,v\n1,,2\n", "1,|<>|2,|"),
+        ("id,city,v\n\n1,a,2\n\n", "1,|<a>|2,|"),
+        ("id,city,v\n+1,a,007\n", "1,|<a>|7,|"),
+        (
+            "id,city,v\n-9223372036854775808,a,9223372036854775807\n",
+            "-9223372036854775808,|<a>|9223372036854775807,|",
+        ),
+    ] {
+        assert_eq!(rt; read(&rt, text.as_bytes())?.as_str(), wanted);
+    }
+    Ok(())
+}
+
+#[test]
+fn refuses_by_the_first_fault(rt: HostRuntime) -> Result<(), Fail> {
+    for (text, wanted) in [
+        ("", "Header"),
+        ("id,city\n", "Header"),
+        ("id,city,w\n", "Header"),
+        ("id,city,city\n", "Header"),
+        ("id,city,v\n1,a\n", "Width { record: 0 }"),
+        ("id,city,v\n1,a,2,3\n", "Width { record: 0 }"),
+        ("id,city,v\n1,\"a,2\n", "Width { record: 0 }"),
+        ("id,city,v\n1,a,2\n1,a,x\n", "NotInt { record: 1, column: 2 }"),
+        ("id,city,v\n 1,a,2\n", "NotInt { record: 0, column: 0 }"),
+        ("id,city,v\n,a,2\n", "NotInt { record: 0, column: 0 }"),
+        (
+            "id,city,v\n9223372036854775808,a,2\n",
+            "NotInt { record: 0, column: 0 }",
+        ),
+    ] {
+        assert_eq!(rt; read(&rt, text.as_bytes())?.as_str(), wanted);
+    }
+    assert_eq!(rt;
+        read(&rt, b"id,city,v\n1,\xff,2\n")?.as_str(),
+        "NotText { record: 0, column: 1 }"
+    );
+    Ok(())
+}
+
+#[test]
+fn texts_end_at_255_bytes(rt: HostRuntime) -> Result<(), Fail> {
+    let alloc = rt.alloc();
+    let longest = "a".repeat(alloc, 255)?;
+    let text = format!(in alloc; "id,city,v\n1,{longest},2\n")?;
+    let wanted = format!(in alloc; "1,|<{longest}>|2,|")?;
+    assert_eq!(rt; read(&rt, text.as_bytes())?.as_str(), wanted.as_str());
+    let text = format!(in alloc; "id,city,v\n1,{longest}a,2\n")?;
+    assert_eq!(rt;
+        read(&rt, text.as_bytes())?.as_str(),
+        "TooLong { record: 0, column: 1 }"
+    );
+    Ok(())
+}
+
+#[test]
+fn writes_rows_with_ample_memory(rt: HostRuntime) -> Result<(), Fail> {
+    let alloc = rt.alloc();
+    let catalog = cities(&rt)?;
+    for (text, wanted) in [
+        ("id,city,v\n", "id,city,v\n"),
+        (
+            "v,city,id\r\n2,a,1\r\n-4,\"b\nc\",3\r\n",
+            "id,city,v\n1,a,2\n3,\"b\nc\",-4\n",
+        ),
+        (
+            "id,city,v\n1,\"a \"\"b\"\", c\",2\n",
+            "id,city,v\n1,\"a \"\"b\"\", c\",2\n",
+        ),
+        ("id,city,v\n1,,2\n", "id,city,v\n1,,2\n"),
+    ] {
+        let Ok(columns) = read_rows(alloc, &catalog, text.as_bytes()) else {
+            return Err(Fail::from("read"));
+        };
+        let Ok(written) = write_rows(alloc, &catalog, &columns, Vec::new(alloc)) else {
+            return Err(Fail::from("write"));
+        };
+        assert_eq!(rt; written.as_slice(), wanted.as_bytes());
+    }
+    Ok(())
+}
