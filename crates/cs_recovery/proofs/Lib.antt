@@ -29,6 +29,7 @@ pub mod RowReadings
 pub mod RowSteps
 pub mod Stores
 pub mod Suffice
+pub mod TableFacts
 pub mod WalkedRows
 pub mod WalkedTable
 pub mod Walks

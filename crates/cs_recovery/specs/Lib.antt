@@ -10,3 +10,4 @@ pub mod AcceptedLosses
 pub mod Conflicts
 pub mod LossLaws
 pub mod AnswerLaws
+pub mod TableLaws

@@ -4,3 +4,4 @@
 pub mod answer_laws;
 pub mod laws;
 pub mod loss_laws;
+pub mod table_laws;
