@@ -47,7 +47,7 @@ both_true true c e = (refl, e)
 both_true false c e = false≢true e
 
 module _ (d v : Value) where
-  greatest_at_most : AtMost d v → (cs : List Value) → AtMost (greatest_below d v cs) v
+  pub greatest_at_most : AtMost d v → (cs : List Value) → AtMost (greatest_below d v cs) v
   greatest_at_most l [] = l
   greatest_at_most l (c ∷ cs) = go (is_le (value_cmp c v) && is_le (value_cmp (greatest_below d v cs) c)) refl (greatest_at_most l cs)
     where
@@ -55,7 +55,7 @@ module _ (d v : Value) where
       go true e h = (both_true (is_le (value_cmp c v)) (is_le (value_cmp (greatest_below d v cs) c)) e).0
       go false e h = h
 
-  greatest_is : (cs : List Value) (c : Value) → IsIn c cs → AtMost c v → AtMost c (greatest_below d v cs)
+  pub greatest_is : (cs : List Value) (c : Value) → IsIn c cs → AtMost c v → AtMost c (greatest_below d v cs)
   greatest_is [] c h l = absurd h
   greatest_is (x ∷ cs) c h l = go (is_le (value_cmp x v)) refl (is_le (value_cmp (greatest_below d v cs) x)) refl h (λ k. greatest_is cs c k l)
     where

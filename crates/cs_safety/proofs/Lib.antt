@@ -13,3 +13,4 @@ pub mod LossTails
 pub mod RowSetLemmas
 pub mod OnePlan
 pub mod WithinSafe
+pub mod CutCells

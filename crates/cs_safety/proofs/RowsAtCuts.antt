@@ -22,13 +22,13 @@ count_from p q [] a h = refl
 count_from p q (x ∷ xs) a h = ap (λ b. fold (λ n x. n + cond (p x) 1 0) (a + cond b 1 0) xs) (h x (inl refl)) ∙ count_from p q xs (a + cond (q x) 1 0) (λ y i. h y (inr i))
 
 module _ (C : CatalogData) where
-  cuts_are_on : (p : ℕ) → p < length C.projections → (c : Value) → IsIn c (projection C p).cuts → IsIn c (cuts_on C (first_sort C p))
+  pub cuts_are_on : (p : ℕ) → p < length C.projections → (c : Value) → IsIn c (projection C p).cuts → IsIn c (cuts_on C (first_sort C p))
   cuts_are_on p h c i =
       flat_in (λ q. cond (first_sort C q == first_sort C p) (projection C q).cuts []) (range_with_len 0 (length C.projections)) p c (range_in 0 (length C.projections) p (omega arith) (omega (arith, h)))
       (subst (λ b. IsIn c (cond b (projection C p).cuts [])) (sym (eq-eqb (first_sort C p) (first_sort C p) refl)) i)
 
   -- a fact of the cuts on a column, projection by projection
-  each_cut_on : (P : Value → Type 0) (k : ℕ) → ((p : ℕ) → p < length C.projections → first_sort C p ≡ k → (u : Value) → IsIn u (projection C p).cuts → P u) → (c : Value) → IsIn c (cuts_on C k) → P c
+  pub each_cut_on : (P : Value → Type 0) (k : ℕ) → ((p : ℕ) → p < length C.projections → first_sort C p ≡ k → (u : Value) → IsIn u (projection C p).cuts → P u) → (c : Value) → IsIn c (cuts_on C k) → P c
   each_cut_on P k all c i =
       let x = in_flat (λ q. cond (first_sort C q == k) (projection C q).cuts []) (range_with_len 0 (length C.projections)) c i in
       let l = (in_range 0 (length C.projections) x.0 x.1).1 in
@@ -56,7 +56,7 @@ module _ (C : CatalogData) where
         rules.columns (first_sort C p) (rules.sort (first_sort C p) (member_at (projection C p).sort 0 0 rules.some_sort))
 
     module _ (r : Row) (is : IsRow C r) where
-      cell_at_cut : (c : ℕ) → c < length C.columns → cell (at_cuts C r) c ≡ at_cut C c (cell r c)
+      pub cell_at_cut : (c : ℕ) → c < length C.columns → cell (at_cuts C r) c ≡ at_cut C c (cell r c)
       cell_at_cut c l = get_or-map-range_with_len (λ c. at_cut C c (cell r c)) 0 (length C.columns) c c (Value.Int (pos 0)) l (omega arith)
 
       at_cuts_row : IsRow C (at_cuts C r)

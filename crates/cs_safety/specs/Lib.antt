@@ -6,6 +6,7 @@ pub mod SafetyCuts
 pub mod SafetyFault
 pub mod SafetyLaws
 pub mod Within
+pub mod CutLaws
 pub mod NumberSets
 pub mod Reach
 pub mod PlanTests

@@ -1,5 +1,6 @@
 //! Laws over the definitions: each function does nothing, and its contract is the law.
 ghost use Rattle.cs_safety.specs.SafetyLaws.{WholeIsSafeByRows, FirstUnsafeIsOne, PlanIsOne, CutsDecide};
+ghost use Rattle.cs_safety.specs.CutLaws.{CellsAreGreatestCuts};
 ghost use Rattle.cs_safety.specs.Within.{SafetyIsMonotone};
 
 /// A loss that leaves a suitable projection is safe by rows.
@@ -25,4 +26,9 @@ pub fn plan_is_one()
 /// A row stands just where the row of the greatest cuts not above its cells stands.
 pub fn cuts_decide()
     ensures { CutsDecide }
+{}
+
+/// A cell of that row is the greatest cut on its column, of any projection, that is not above the row's cell, else the least value.
+pub fn cells_are_greatest_cuts()
+    ensures { CellsAreGreatestCuts }
 {}
