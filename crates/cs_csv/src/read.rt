@@ -4,6 +4,7 @@ ghost use Rattle.csv.specs.Records.{fields_of};
 ghost use Rattle.cs_csv.specs.Fields.{Record};
 ghost use Rattle.cs_csv.specs.Faults.{HoldsRows, IsFirstFault};
 ghost use Rattle.cs_csv.specs.Reading.{HasRead, IfKnown};
+ghost use Rattle.cs_csv.specs.Writing.{AreEven};
 ghost use Rattle.cs_csv.specs.Rows.{HoldsSoFar, RowsRead};
 
 use crate::fault::CsvFault;
@@ -152,6 +153,7 @@ pub fn read_rows<R: Read + Drop>(
     reader: R,
 ) -> Result<Vec<Cells>, CsvFault>
     ensures ok { IfOk result (λ cells. (header : Record) × (rows : List Record) × HoldsRows catalog.now.columns header rows cells.items × IfKnown (R.remaining reader) (λ records. records ≡ header ∷ rows)) }
+    ensures even { IfOk result (λ cells. AreEven cells.items) }
     ensures err { IfErr result (λ fault. IfKnown (R.remaining reader) (λ records. IsFirstFault catalog.now.columns records fault)) }
 {
     read_columns(alloc, catalog.columns.as_slice(), reader)
