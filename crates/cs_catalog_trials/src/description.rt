@@ -13,7 +13,10 @@ pub fn describe(alloc: Global, catalog: &Catalog) -> Result<String> {
         catalog.sites,
         catalog.safety,
     );
-    writeln!(text, "  table {table}, key {key}, sites {sites}, safety {safety:?}")?;
+    writeln!(
+        text,
+        "  table {table}, key {key}, sites {sites}, safety {safety:?}"
+    )?;
     for column in &catalog.columns {
         let (name, kind) = (column.name.as_str(), column.kind);
         writeln!(text, "  column {name}: {kind:?}")?;
@@ -38,7 +41,10 @@ fn describe_projection(text: &mut String, projection: &Projection) -> Result<()>
         projection.codes.as_slice(),
         projection.sort.as_slice(),
     );
-    writeln!(text, "    columns {columns:?}, codes {codes:?}, sort {sort:?}")?;
+    writeln!(
+        text,
+        "    columns {columns:?}, codes {codes:?}, sort {sort:?}"
+    )?;
     match &projection.cuts {
         Cells::Ints(cuts) => {
             let cuts = cuts.as_slice();
