@@ -82,7 +82,10 @@ fn refuses_by_the_first_fault(rt: HostRuntime) -> Result<(), Fail> {
         ("id,city,v\n1,a\n", "Width { record: 0 }"),
         ("id,city,v\n1,a,2,3\n", "Width { record: 0 }"),
         ("id,city,v\n1,\"a,2\n", "Width { record: 0 }"),
-        ("id,city,v\n1,a,2\n1,a,x\n", "NotInt { record: 1, column: 2 }"),
+        (
+            "id,city,v\n1,a,2\n1,a,x\n",
+            "NotInt { record: 1, column: 2 }",
+        ),
         ("id,city,v\n 1,a,2\n", "NotInt { record: 0, column: 0 }"),
         ("id,city,v\n,a,2\n", "NotInt { record: 0, column: 0 }"),
         (

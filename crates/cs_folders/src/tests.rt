@@ -1,8 +1,8 @@
 //! Folders of the system, made where the tests run.
 use crate::{CATALOG_LIMIT, FileLimits, OutputFolder, StoreFolder, read_bounded};
-use cs_schema::samples::TWO_ORDERS;
 use cs_catalog::read_catalog;
 use cs_schema::FileName;
+use cs_schema::samples::TWO_ORDERS;
 use cs_store::{Sink, Source, StoreFault};
 use std::fs;
 use std::fs::{File, OpenFile};
