@@ -128,7 +128,7 @@ fn keeps_what_was_put_before_a_refusal(rt: HostRuntime) -> Result<(), Fail> {
 }
 
 #[test]
-fn loads_and_saves_with_ample_memory(rt: HostRuntime) -> Result<(), Fail> {
+fn loads_with_ample_memory(rt: HostRuntime) -> Result<(), Fail> {
     let alloc = rt.alloc();
     let catalog = catalog(alloc)?;
     let mut source = MemorySource::new(alloc, files(alloc)?, None);
@@ -136,11 +136,16 @@ fn loads_and_saves_with_ample_memory(rt: HostRuntime) -> Result<(), Fail> {
     assert!(rt; surviving.len() == 2 && surviving.get(SEGMENT) == Some([0, 7].as_slice()));
     let all = load_from_memory(alloc, &catalog, Loss::none(), &mut source)?;
     assert!(rt; all.len() == 4);
+    Ok(())
+}
 
-    let mut sink = MemorySink::new(alloc, FileSet::new(alloc)?, None);
+#[test]
+fn saves_with_ample_memory(rt: HostRuntime) -> Result<(), Fail> {
+    let files = files(rt.alloc())?;
+    let mut sink = MemorySink::new(rt.alloc(), FileSet::new(rt.alloc())?, None);
     assert!(rt; sink.files.is_empty());
-    assert!(rt; save_to_memory(&all, &mut sink).is_ok());
-    assert!(rt; sink.files.len() == 4 && sink.mark == Some(4));
+    assert!(rt; save_to_memory(&files, &mut sink).is_ok());
+    assert!(rt; sink.files.len() == 5 && sink.mark == Some(5));
     assert!(rt; sink.files.get(SEGMENT) == Some([0, 7].as_slice()));
     Ok(())
 }

@@ -1,4 +1,4 @@
-use Rattle.cs_file_trials.proofs.deltas.image_of.Goals as goal
+use Rattle.cs_file_trials.proofs.deltas.images.image_of.Goals as goal
 
 pub merge-requires : goal.merge-requires
 merge-requires c = record {

@@ -1,0 +1,216 @@
+//! Files of deltas: read exactly, or damaged.
+ghost use Rattle.std.specs.Prelude.{◌<◌, length};
+
+use super::{LOWER, NO_ITEMS, UPPER, one_column, sealed, single, stacked};
+use cs_codec::Cell;
+use cs_delta::{CellPlace, Delta, Item, ItemCell, read_delta, write_empty_delta};
+use cs_schema::Catalog;
+use cs_segment::fault::FileFault;
+use cs_segment::seal::seal;
+use std::alloc::{AllocError, Global};
+use std::test::Fail;
+
+/// No changes of four rows.
+const EMPTY: &[u8] = b"CSDEL001\0\0\0\0\0\0\0\x04\0\0\0\x04\0\0\0\0";
+
+/// A layer that gives key 4 once more.
+const SAME_KEY: &[u8] = b"\0\0\0\x01\x01\0\0\0\0\0\0\0\x04\0\0\0\0\0\0\0\x05";
+
+/// A layer without the fifth row.
+const FIFTH_ROW: &[u8] = b"\0\0\0\x01\x02\0\0\0\x04";
+
+/// A layer that counts more items than it has.
+const HOSTILE: &[u8] = b"\xff\xff\xff\xff\x02\0\0\0\0";
+
+/// The bytes with one of them changed.
+fn changed(alloc: Global, bytes: &[u8], at: usize) -> Result<Vec<u8>, AllocError> {
+    let mut bytes = bytes.to_vec(alloc)?;
+    if at < bytes.len() {
+        bytes[at] ^= 1;
+    }
+    Ok(bytes)
+}
+
+fn write_cell(out: &mut Vec<u8>, cell: &ItemCell) -> Result<(), AllocError> {
+    match &cell.place {
+        CellPlace::Int(int) => int.write(out),
+        CellPlace::Text(text) => text.write(out),
+    }
+}
+
+fn write_item(out: &mut Vec<u8>, item: &Item) -> Result<(), AllocError> {
+    match item {
+        Item::Insert { at, key, row } => {
+            out.push(1)?;
+            out.extend_from_slice(&at.to_be_bytes())?;
+            out.extend_from_slice(&key.to_be_bytes())?;
+            for value in row {
+                write_cell(out, value)?;
+            }
+        }
+        Item::Delete { at } => {
+            out.push(2)?;
+            out.extend_from_slice(&at.to_be_bytes())?;
+        }
+        Item::Modify { at, column, value } => {
+            out.push(3)?;
+            out.extend_from_slice(&at.to_be_bytes())?;
+            out.push(*column)?;
+            write_cell(out, value)?;
+        }
+    }
+    Ok(())
+}
+
+/// What stands before the items of a delta of one layer, or before its layers.
+fn write_head(out: &mut Vec<u8>, delta: &Delta) -> Result<(), AllocError> {
+    let mark: &[u8] = if delta.version == 1 {
+        b"CSDEL001"
+    } else {
+        b"CSDEL002"
+    };
+    out.extend_from_slice(mark)?;
+    out.extend_from_slice(&delta.p.to_be_bytes())?;
+    out.extend_from_slice(&delta.s.to_be_bytes())?;
+    out.extend_from_slice(&delta.rows.to_be_bytes())?;
+    out.extend_from_slice(&delta.top.to_be_bytes())
+}
+
+fn write_layers(out: &mut Vec<u8>, delta: &Delta) -> Result<(), AllocError> {
+    if delta.version == 2 {
+        out.extend_from_slice(&delta.layers.len().to_be_bytes()[7..])?;
+    }
+    for layer in &delta.layers {
+        out.extend_from_slice(&layer.len().to_be_bytes()[4..])?;
+        for item in layer {
+            write_item(out, item)?;
+        }
+    }
+    Ok(())
+}
+
+/// The file of a delta.
+fn written(alloc: Global, delta: &Delta) -> Result<Vec<u8>, AllocError> {
+    let mut out = Vec::new(alloc);
+    write_head(&mut out, delta)?;
+    write_layers(&mut out, delta)?;
+    seal(&mut out)?;
+    Ok(out)
+}
+
+/// Whether the bytes are the file of no delta.
+fn is_damaged(alloc: Global, catalog: &Catalog, bytes: &[u8]) -> bool
+    requires { 0 < length catalog.now.projections }
+{
+    read_delta(alloc, catalog, 0, 0, bytes).err() == Some(FileFault::Damaged)
+}
+
+/// Whether each proper prefix of the file, and the file with any byte changed, is damaged.
+fn is_guarded(alloc: Global, catalog: &Catalog, bytes: &[u8]) -> Result<bool, AllocError>
+    requires { 0 < length catalog.now.projections }
+{
+    for at in 0..bytes.len() {
+        let other = changed(alloc, bytes, at)?;
+        if !is_damaged(alloc, catalog, &bytes[..at]) || !is_damaged(alloc, catalog, &other) {
+            return Ok(false);
+        }
+    }
+    Ok(true)
+}
+
+/// Whether the body with any byte changed, sealed again, is damaged or is the file of what is read of it.
+fn is_one_text(alloc: Global, catalog: &Catalog, body: &[u8]) -> Result<bool, AllocError>
+    requires { 0 < length catalog.now.projections }
+{
+    for at in 0..body.len() {
+        let mut bytes = changed(alloc, body, at)?;
+        seal(&mut bytes)?;
+        let is_well = match read_delta(alloc, catalog, 0, 0, &bytes) {
+            Ok(delta) => written(alloc, &delta)?.as_slice() == bytes.as_slice(),
+            Err(fault) => fault == FileFault::Damaged,
+        };
+        if !is_well {
+            return Ok(false);
+        }
+    }
+    Ok(true)
+}
+
+/// What the file of a delta without its digest is not, or is: written again, and guarded against changes.
+fn is_read_exactly(alloc: Global, catalog: &Catalog, body: &[u8]) -> Result<bool, FileFault>
+    requires { 0 < length catalog.now.projections }
+{
+    let bytes = sealed(alloc, body)?;
+    let delta = read_delta(alloc, catalog, 0, 0, &bytes)?;
+    if written(alloc, &delta)?.as_slice() != bytes.as_slice() {
+        return Ok(false);
+    }
+    Ok(is_guarded(alloc, catalog, &bytes)? && is_one_text(alloc, catalog, body)?)
+}
+
+#[test]
+fn files_are_read_exactly_with_ample_memory(rt: HostRuntime) -> Result<(), Fail> {
+    let catalog = one_column(rt.alloc())?;
+    assert!(rt; is_read_exactly(rt.alloc(), &catalog, EMPTY)?, "no items");
+    let body = single(rt.alloc(), LOWER)?;
+    assert!(rt; is_read_exactly(rt.alloc(), &catalog, &body)?, "one layer");
+    let body = stacked(rt.alloc(), 2, &[LOWER, UPPER])?;
+    assert!(rt; is_read_exactly(rt.alloc(), &catalog, &body)?, "two layers");
+    Ok(())
+}
+
+#[test]
+fn empty_deltas_are_written_with_ample_memory(rt: HostRuntime) -> Result<(), Fail> {
+    let none = write_empty_delta(rt.alloc(), 0, 0, 4)?;
+    assert_eq!(rt; none.as_slice(), sealed(rt.alloc(), EMPTY)?.as_slice());
+    Ok(())
+}
+
+#[test]
+fn bytes_that_are_no_delta(rt: HostRuntime) -> Result<(), Fail> {
+    let catalog = one_column(rt.alloc())?;
+    let cases: [(u8, &[&[u8]]); 7] = [
+        (0, &[]),
+        (4, &[NO_ITEMS, NO_ITEMS, NO_ITEMS, NO_ITEMS]),
+        (2, &[LOWER, SAME_KEY]),
+        (2, &[LOWER, FIFTH_ROW]),
+        (2, &[LOWER]),
+        (1, &[LOWER, UPPER]),
+        (1, &[HOSTILE]),
+    ];
+    for (i, (count, layers)) in cases.iter().enumerate() {
+        let body = stacked(rt.alloc(), *count, layers)?;
+        let bytes = sealed(rt.alloc(), &body)?;
+        assert!(rt; is_damaged(rt.alloc(), &catalog, &bytes), "case {i}");
+    }
+    Ok(())
+}
+
+#[test]
+fn bytes_after_the_digest(rt: HostRuntime) -> Result<(), Fail> {
+    let catalog = one_column(rt.alloc())?;
+    let mut bytes = sealed(rt.alloc(), EMPTY)?;
+    bytes.push(0)?;
+    assert!(rt; is_damaged(rt.alloc(), &catalog, &bytes));
+    Ok(())
+}
+
+/// Why the delta of three rows with this highest key is refused.
+fn fault_at(alloc: Global, catalog: &Catalog, top: u32) -> Result<Option<FileFault>, AllocError>
+    requires { 0 < length catalog.now.projections }
+{
+    let mut body = b"CSDEL001\0\0\0\0\0\0\0\x03".to_vec(alloc)?;
+    body.extend_from_slice(&top.to_be_bytes())?;
+    body.extend_from_slice(NO_ITEMS)?;
+    seal(&mut body)?;
+    Ok(read_delta(alloc, catalog, 0, 0, &body).err())
+}
+
+#[test]
+fn highest_key_has_a_limit(rt: HostRuntime) -> Result<(), Fail> {
+    let catalog = one_column(rt.alloc())?;
+    for (top, fault) in [(4_194_304, None), (4_194_305, Some(FileFault::Damaged))] {
+        assert_eq!(rt; fault_at(rt.alloc(), &catalog, top)?, fault, "{top}");
+    }
+    Ok(())
+}
