@@ -1,6 +1,6 @@
 //! Deltas: their files, and the images that they make.
 mod files;
-mod images;
+pub mod images;
 
 ghost use Rattle.std.specs.Prelude.{◌<◌, length, IfOk};
 

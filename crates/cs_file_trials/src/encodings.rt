@@ -1,6 +1,6 @@
 ghost use Rattle.std.specs.Prelude.{◌≡◌, ◌≤◌, ◌++◌, IfOk};
 
-use cs_codec::bitmaps::Bitmaps;
+use cs_codec::bitmaps::{Bitmaps, BitmapsPart};
 use cs_codec::differences::{Differences, DifferencesPart};
 use cs_codec::encoding::{CodecFault, Encoding};
 use cs_codec::plain::Plain;
@@ -173,6 +173,14 @@ const BITMAPS_TEXT: [u8; 92] = [
     0, 0, 0, 0, 0, 0, 0, 2, 0, 0, 0, 4, 0, 0, 0, 4, 0, 0, 0, 1, 0, 0, 0, 2, 0, 0, 0, 1,
 ];
 
+/// One part in place of two.
+fn appended(whole: BitmapsPart<i64>, next: BitmapsPart<i64>) -> Result<BitmapsPart<i64>, Fail> {
+    if !<Bitmaps as Encoding<i64>>::can_join(&whole, &next) {
+        return Err(Fail::from("too many cells"));
+    }
+    Ok(<Bitmaps as Encoding<i64>>::join(whole, next)?)
+}
+
 /// The text of the cells, cut in pieces of so many, the last one shorter.
 fn bitmaps_of_pieces(alloc: Global, cells: &[i64; 9], size: usize) -> Result<Vec<u8>, Fail>
     requires { size ≤ 9 }
@@ -182,10 +190,7 @@ fn bitmaps_of_pieces(alloc: Global, cells: &[i64; 9], size: usize) -> Result<Vec
         let from = (i * size).min(9);
         let to = (from + size).min(9);
         let next = <Bitmaps as Encoding<i64>>::encode(alloc, &cells[from..to])?;
-        if !<Bitmaps as Encoding<i64>>::can_join(&whole, &next) {
-            return Err(Fail::from("too many cells"));
-        }
-        whole = <Bitmaps as Encoding<i64>>::join(whole, next)?;
+        whole = appended(whole, next)?;
     }
     Ok(<Bitmaps as Encoding<i64>>::write(alloc, &whole)?)
 }

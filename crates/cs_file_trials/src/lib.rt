@@ -8,6 +8,8 @@ mod cells;
 #[cfg(test)]
 mod deltas;
 #[cfg(test)]
+mod empty_segment;
+#[cfg(test)]
 mod encodings;
 #[cfg(test)]
 mod explanations;

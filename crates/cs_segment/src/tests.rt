@@ -1,3 +1,5 @@
+mod hostile;
+
 ghost use Rattle.std.specs.Prelude.{◌≡◌, ◌<◌, length, IfOk};
 ghost use Rattle.cs_segment.specs.SegmentFile.{IsBase};
 ghost use Rattle.cs_segment.specs.SegmentData.{kinds_at};
@@ -236,31 +238,6 @@ fn rows_are_read(rt: HostRuntime) -> Result<(), Fail> {
     for (p, s) in [(1, 0), (0, 1)] {
         let other = read_segment(alloc, &catalog, p, s, &bytes);
         assert_eq!(rt; other.err(), Some(FileFault::Damaged));
-    }
-    Ok(())
-}
-
-/// The bytes with four of them the highest.
-fn with_a_high_count(alloc: Global, bytes: &[u8], at: usize) -> Result<Vec<u8>, AllocError> {
-    let mut out = Vec::new(alloc);
-    for (i, byte) in bytes.iter().enumerate() {
-        out.push(if i.wrapping_sub(at) < 4 { 0xff } else { *byte })?;
-    }
-    Ok(out)
-}
-
-#[test]
-fn hostile_bytes_are_damaged(rt: HostRuntime) -> Result<(), Fail> {
-    let alloc = rt.alloc();
-    let catalog = read_catalog(alloc, TWO_ORDERS.as_bytes())?;
-    assert_eq!(rt; catalog.projection_count(), 2);
-    let mut left_over = PLAIN.to_vec(alloc)?;
-    left_over.push(0)?;
-    let many_rows = with_a_high_count(alloc, PLAIN, 12)?;
-    let long_body = with_a_high_count(alloc, PLAIN, 20)?;
-    for body in [&left_over, &many_rows, &long_body] {
-        let segment = read_segment(alloc, &catalog, 0, 0, &sealed(alloc, body)?);
-        assert_eq!(rt; segment.err(), Some(FileFault::Damaged));
     }
     Ok(())
 }

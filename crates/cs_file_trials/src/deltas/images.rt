@@ -18,7 +18,7 @@ const TWO_ROWS: &[u8] = b"CSSEG001\0\0\0\0\0\0\0\x02\0\x01\x04\x01\0\0\0\x10\
 \0\0\0\0\0\0\0\x0a\0\0\0\0\0\0\0\x14";
 
 /// The image of a segment and a delta that stand in files without their digests.
-fn image_of(
+pub fn image_of(
     alloc: Global,
     catalog: &Catalog,
     segment: &[u8],
