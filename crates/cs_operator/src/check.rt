@@ -64,8 +64,15 @@ fn safe_k(catalog: &Catalog, k: Option<u8>) -> Result<u8, Fault>
     };
     match ksafe(catalog, k) {
         Ok(()) => Ok(k),
-        Err(SafetyFault::BadK) => Err(Fault::BadK),
-        Err(SafetyFault::Unsafe(loss)) => Err(Fault::Unsafe(loss)),
+        Err(fault) => Err(refusal(fault)),
+    }
+}
+
+/// How a check answers that a store is not safe.
+fn refusal(fault: SafetyFault) -> Fault {
+    match fault {
+        SafetyFault::BadK => Fault::BadK,
+        SafetyFault::Unsafe(loss) => Fault::Unsafe(loss),
     }
 }
 

@@ -41,7 +41,9 @@ impl<R: Files + Copy> Places for Folders<R> {
     ghost fault_count = { λ s. s.faults };
 
     fn catalog(&mut self, path: &str) -> Result<Vec<u8>, StoreFault> {
-        let mut store = StoreFolder::new(self.alloc, self.rt, path, FileLimits::Fixed)?;
+        let Ok(mut store) = StoreFolder::new(self.alloc, self.rt, path, FileLimits::Fixed) else {
+            return Err(StoreFault::Memory);
+        };
         match store.catalog() {
             Ok(Some(catalog)) => Ok(catalog),
             Ok(None) | Err(StoreFault::Device) => {
