@@ -1,7 +1,7 @@
 //! A segment of no rows, with a column in each code.
 use crate::deltas::images::image_of;
 use crate::deltas::sealed;
-use cs_schema::read_catalog;
+use cs_catalog::read_catalog;
 use cs_segment::segment::read_segment;
 use std::test::Fail;
 
