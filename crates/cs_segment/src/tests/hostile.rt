@@ -2,7 +2,7 @@
 use super::{PLAIN, sealed};
 use crate::fault::FileFault;
 use crate::segment::read_segment;
-use cs_schema::read_catalog;
+use cs_catalog::read_catalog;
 use cs_schema::samples::TWO_ORDERS;
 use std::alloc::{AllocError, Global};
 use std::test::Fail;
