@@ -1,6 +1,6 @@
 ghost use Rattle.std.specs.Prelude.{◌≡◌, ◌≤◌, ◌++◌, IfOk};
 
-use cs_codec::bitmaps::{Bitmaps, BitmapsPart};
+use cs_codec::bitmaps::Bitmaps;
 use cs_codec::differences::{Differences, DifferencesPart};
 use cs_codec::encoding::{CodecFault, Encoding};
 use cs_codec::plain::Plain;
@@ -173,28 +173,6 @@ const BITMAPS_TEXT: [u8; 92] = [
     0, 0, 0, 0, 0, 0, 0, 2, 0, 0, 0, 4, 0, 0, 0, 4, 0, 0, 0, 1, 0, 0, 0, 2, 0, 0, 0, 1,
 ];
 
-/// One part in place of two.
-fn appended(whole: BitmapsPart<i64>, next: BitmapsPart<i64>) -> Result<BitmapsPart<i64>, Fail> {
-    if !<Bitmaps as Encoding<i64>>::can_join(&whole, &next) {
-        return Err(Fail::from("too many cells"));
-    }
-    Ok(<Bitmaps as Encoding<i64>>::join(whole, next)?)
-}
-
-/// The text of the cells, cut in pieces of so many, the last one shorter.
-fn bitmaps_of_pieces(alloc: Global, cells: &[i64; 9], size: usize) -> Result<Vec<u8>, Fail>
-    requires { size ≤ 9 }
-{
-    let mut whole = <Bitmaps as Encoding<i64>>::encode(alloc, &[])?;
-    for i in 0..9usize {
-        let from = (i * size).min(9);
-        let to = (from + size).min(9);
-        let next = <Bitmaps as Encoding<i64>>::encode(alloc, &cells[from..to])?;
-        whole = appended(whole, next)?;
-    }
-    Ok(<Bitmaps as Encoding<i64>>::write(alloc, &whole)?)
-}
-
 #[test]
 fn bitmaps_know_no_cut_with_ample_memory(rt: HostRuntime) -> Result<(), Fail> {
     let cells = BITMAPS_CELLS;
@@ -204,15 +182,6 @@ fn bitmaps_know_no_cut_with_ample_memory(rt: HostRuntime) -> Result<(), Fail> {
     }
     let back = <Bitmaps as Encoding<i64>>::read(rt.alloc(), &BITMAPS_TEXT, 9)?;
     assert_eq!(rt; back.as_slice(), cells.as_slice());
-    Ok(())
-}
-
-#[test]
-fn bitmaps_know_no_size_of_pieces(rt: HostRuntime) -> Result<(), Fail> {
-    for size in 1..=9usize {
-        let out = bitmaps_of_pieces(rt.alloc(), &BITMAPS_CELLS, size)?;
-        assert_eq!(rt; out.as_slice(), BITMAPS_TEXT.as_slice(), "pieces of {size}");
-    }
     Ok(())
 }
 
