@@ -6,6 +6,7 @@
 mod folders;
 mod places;
 mod program;
+mod reading;
 mod request;
 mod sample;
 mod stop;

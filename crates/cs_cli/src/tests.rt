@@ -6,6 +6,7 @@ mod stores;
 mod streams;
 
 use crate::program::run;
+use crate::reading::read_bounded;
 use cs_store::StoreFault;
 use cs_store::memory::Failure;
 use places::{MemoryPlaces, places};
@@ -123,5 +124,17 @@ fn fails_where_standard_error_is_full(rt: HostRuntime) -> Result<(), Fail> {
     );
     assert_eq!(rt; got, 4);
     assert!(rt; out.is_empty());
+    Ok(())
+}
+
+#[test]
+fn reads_up_to_a_bound(rt: HostRuntime) -> Result<(), Fail> {
+    let alloc = rt.alloc();
+    let mut file: &[u8] = b"abc";
+    let read = read_bounded(alloc, &mut file, 3);
+    assert_eq!(rt; read, Ok(Vec::from_slice(alloc, b"abc")?));
+    let mut file: &[u8] = b"abc";
+    let read = read_bounded(alloc, &mut file, 2);
+    assert_eq!(rt; read, Err(StoreFault::Device));
     Ok(())
 }

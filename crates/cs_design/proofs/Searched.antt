@@ -15,7 +15,7 @@ use Rattle.cs_schema.proofs.Ascending.{false≢true, in_filter, filter_in}
 use Rattle.cs_schema.proofs.Lists.{member_in, in_member, in_at, at_in, append_left, append_right, in_append}
 use Rattle.cs_schema.proofs.Surviving.{append_sorted}
 use Rattle.cs_safety.specs.Safety.{IsSafe}
-use Rattle.cs_safety.specs.SafetyLaws.{IsWithin}
+use Rattle.cs_safety.specs.Within.{IsWithin}
 use Rattle.cs_safety.proofs.WithinSafe.{safe_within}
 use Rattle.cs_design.specs.Fatal.{either, IsApart, IsFatal, HoldsOne, AreFatalLosses}
 use Rattle.cs_design.specs.Order.{AreAllLosses}

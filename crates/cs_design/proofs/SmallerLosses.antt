@@ -11,7 +11,7 @@ use Rattle.cs_schema.specs.Losses.{Sites, loss_cmp}
 use Rattle.cs_schema.proofs.Ascending.{less≢greater, All-in}
 use Rattle.cs_schema.proofs.Lists.{member_in, in_member}
 use Rattle.cs_safety.proofs.LossTails.{less_lt}
-use Rattle.cs_safety.specs.SafetyLaws.{IsWithin}
+use Rattle.cs_safety.specs.Within.{IsWithin}
 
 abbrev AreAmong : Sites → Sites → Type 0
 AreAmong L M = (x : ℕ) → IsIn x L → IsIn x M

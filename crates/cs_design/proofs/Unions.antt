@@ -11,7 +11,7 @@ use Rattle.cs_schema.specs.Order.{placed}
 use Rattle.std.proofs.lemmas.Bool.{cases_lt}
 use Rattle.cs_schema.proofs.Ascending.{false≢true, same_ascending, ascending_sorted, in_ascending, ascending_in, placed_sorted, placed_in, in_placed}
 use Rattle.cs_schema.proofs.Lists.{member_in, in_member, append_left, append_right, in_append}
-use Rattle.cs_safety.specs.SafetyLaws.{IsWithin}
+use Rattle.cs_safety.specs.Within.{IsWithin}
 use Rattle.cs_design.specs.Fatal.{either}
 
 module _ (L M : Sites) where

@@ -9,7 +9,7 @@ use Rattle.cs_schema.specs.FileNames.{HasName, name_cmp, projection_of, segment_
 use Rattle.cs_schema.specs.Losses.{Sites, IsLoss, loss_cmp}
 use Rattle.cs_schema.specs.Order.{ascending}
 use Rattle.cs_safety.specs.Safety.{IsSafe}
-use Rattle.cs_safety.specs.SafetyLaws.{IsWithin}
+use Rattle.cs_safety.specs.Within.{IsWithin}
 
 -- the sites of either loss, ascending
 abbrev pub either : Sites → Sites → Sites

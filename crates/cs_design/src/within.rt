@@ -1,6 +1,6 @@
 //! Losses as sets: within another, apart from another, and together with another.
 ghost use Rattle.std.specs.Prelude.{◌≡◌, ◌↔◌, IsTrue, MatchBool};
-ghost use Rattle.cs_safety.specs.SafetyLaws.{IsWithin};
+ghost use Rattle.cs_safety.specs.Within.{IsWithin};
 ghost use Rattle.cs_design.specs.Fatal.{either, HoldsOne, SharesSite, IsApart};
 
 use cs_schema::Loss;

@@ -1,8 +1,6 @@
-//! Trials of safety, designs and plans, of walks, and of the orders of their rows.
+//! Trials of safety and plans, of walks, and of the orders of their rows.
 #![tactic(auto)]
 
-#[cfg(test)]
-mod designs;
 #[cfg(test)]
 mod safety;
 #[cfg(test)]

@@ -3,7 +3,7 @@ use Rattle.std.proofs.lemmas.Option.{slice_get_within}
 use Rattle.cs_schema.specs.Losses.{Sites}
 use Rattle.cs_schema.proofs.Ascending.{false≢true}
 use Rattle.cs_schema.proofs.Lists.{in_at, at_in}
-use Rattle.cs_safety.specs.SafetyLaws.{IsWithin}
+use Rattle.cs_safety.specs.Within.{IsWithin}
 use Rattle.cs_design.proofs.Items.{item_at, below_next}
 use Rattle.cs_design.proofs.within.holds_one.Goals as goal
 

@@ -1,7 +1,7 @@
 use Rattle.std.proofs.Common.{◌≡◌, ℕ, ◌<◌, Some}
 use Rattle.std.specs.List.{slice_get}
 use Rattle.cs_schema.specs.Losses.{Sites}
-use Rattle.cs_safety.specs.SafetyLaws.{IsWithin}
+use Rattle.cs_safety.specs.Within.{IsWithin}
 use Rattle.cs_design.proofs.within.holds_one.Given as goal
 
 abbrev pub invariant-loop-each : goal.invariant-loop-each
