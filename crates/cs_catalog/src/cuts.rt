@@ -16,7 +16,7 @@ use cs_schema::{Cells, Text, Word};
 use std::alloc::Global;
 use toml::Value;
 
-fn integer_cut(value: &Value) -> Option<i64>
+pub fn integer_cut(value: &Value) -> Option<i64>
     ensures { option_map Cell.Int result ≡ cut_integer (cut_of (view value.now)) }
 {
     value.as_integer()
@@ -36,7 +36,7 @@ fn integer_cuts(alloc: Global, values: &[Value]) -> Result<Vec<i64>, CatalogFaul
     Ok(found)
 }
 
-fn text_cut(value: &Value) -> Option<Word>
+pub fn text_cut(value: &Value) -> Option<Word>
     ensures { option_map Cell.Text result ≡ cut_text (cut_of (view value.now)) }
 {
     match value.as_str() {

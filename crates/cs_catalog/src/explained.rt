@@ -4,8 +4,8 @@ ghost use Rattle.toml.specs.View.{table_view};
 ghost use Rattle.cs_catalog.specs.Reading.{least_broken_rule, BreaksRule};
 
 use crate::CatalogFault;
-use crate::document_words::rule_words;
-use crate::key_words::{key_words, version_words};
+use crate::document_problems::rule_words;
+use crate::key_problems::{key_words, version_words};
 use crate::read::table_catalog;
 use std::alloc::{AllocError, Global};
 use toml::Table;

@@ -7,13 +7,13 @@
 mod build;
 mod cuts;
 mod document;
-mod document_words;
+mod document_problems;
 mod explained;
 mod fault;
-mod key_words;
+mod key_problems;
 mod lookups;
 mod names;
-mod projection_words;
+mod projection_problems;
 mod read;
 mod rules;
 

@@ -63,7 +63,10 @@ fn are_names(names: Vec<&str>) -> bool
     all_names(&names) && are_distinct_sorted(names)
 }
 
-fn column_names<'a>(alloc: Global, columns: &[ColumnEntry<'a>]) -> Result<Vec<&'a str>, AllocError>
+pub fn column_names<'a>(
+    alloc: Global,
+    columns: &[ColumnEntry<'a>],
+) -> Result<Vec<&'a str>, AllocError>
     ensures { IfOk result (λ v. texts v.items ≡ map (λ c. c.name) columns.now) }
 {
     let mut names = Vec::new(alloc);
@@ -73,7 +76,7 @@ fn column_names<'a>(alloc: Global, columns: &[ColumnEntry<'a>]) -> Result<Vec<&'
     Ok(names)
 }
 
-fn projection_names<'a>(
+pub fn projection_names<'a>(
     alloc: Global,
     projections: &[ProjectionEntry<'a>],
 ) -> Result<Vec<&'a str>, AllocError>

@@ -118,7 +118,7 @@ pub fn sorts_hold(document: &Document) -> bool
         .all(|projection| has_sort(projection))
 }
 
-fn may_have_code(columns: &[ColumnEntry], first: &str, name: &str, code: i64) -> bool
+pub fn may_have_code(columns: &[ColumnEntry], first: &str, name: &str, code: i64) -> bool
     ensures { result ≡ may_have_code columns.now first.now name.now code }
 {
     !is_from_to(3, 3, code) || (name == first && is_int_column(columns, first))
@@ -214,7 +214,7 @@ pub fn joins_hold(document: &Document) -> bool
         .all(|projection| has_joins(projections, projection))
 }
 
-fn is_stored(projections: &[ProjectionEntry], column: &ColumnEntry) -> bool
+pub fn is_stored(projections: &[ProjectionEntry], column: &ColumnEntry) -> bool
     ensures { result ≡ is_stored projections.now column.now }
 {
     projections

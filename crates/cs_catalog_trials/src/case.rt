@@ -1,7 +1,7 @@
 //! A case: a sample catalog, an edit of it, and what is read of that.
 use crate::description::describe;
 use anyhow::{Result, anyhow};
-use cs_catalog::read_catalog;
+use cs_catalog::{Explanation, explain, read_catalog};
 use cs_schema::samples::{CITIES, SPLIT_COLUMNS, THREE_PROJECTIONS, TWO_ORDERS};
 use std::alloc::{AllocError, Global};
 
@@ -23,15 +23,40 @@ fn push_line(text: &mut String, line: &str) -> Result<(), AllocError> {
 }
 
 /// A sample catalog by its name.
-fn sample(name: &str) -> Result<&'static str> {
+fn sample(name: &str) -> Option<&'static str> {
     match name {
-        "nothing" => Ok(""),
-        "two_orders" => Ok(TWO_ORDERS),
-        "cities" => Ok(CITIES),
-        "three_projections" => Ok(THREE_PROJECTIONS),
-        "split_columns" => Ok(SPLIT_COLUMNS),
-        _ => Err(anyhow!("no such sample")),
+        "nothing" => Some(""),
+        "two_orders" => Some(TWO_ORDERS),
+        "cities" => Some(CITIES),
+        "three_projections" => Some(THREE_PROJECTIONS),
+        "split_columns" => Some(SPLIT_COLUMNS),
+        _ => None,
     }
+}
+
+/// What a catalog's text says, or the rule that it breaks.
+fn read(alloc: Global, text: &str) -> Result<String> {
+    match read_catalog(alloc, text.as_bytes()) {
+        Ok(catalog) => {
+            let said = describe(alloc, &catalog)?;
+            Ok(format!(in alloc; "read\n{said}")?)
+        }
+        Err(fault) => Ok(format!(in alloc; "{fault}\n")?),
+    }
+}
+
+/// The rule that a catalog's text breaks, and in words how.
+fn explained(alloc: Global, text: &str) -> Result<String> {
+    let line = match explain(alloc, text.as_bytes())? {
+        Some(found) => line_of(alloc, &found),
+        None => "breaks no rule\n".to_string(alloc),
+    };
+    Ok(line?)
+}
+
+fn line_of(alloc: Global, found: &Explanation) -> Result<String, AllocError> {
+    let (rule, words) = (found.rule, found.words.as_str());
+    format!(in alloc; "{rule}: {words}\n")
 }
 
 impl Case {
@@ -55,24 +80,27 @@ impl Case {
         }
     }
 
-    /// The title, and what the edited catalog says or the rule that it breaks.
-    pub fn answer(&self, alloc: Global) -> Result<String> {
-        let (base, title) = self
-            .head
-            .as_str()
-            .split_once(": ")
-            .ok_or(anyhow!("a case begins with its base"))?;
-        let (before, after) = sample(base)?
-            .split_once(self.old.as_str())
-            .ok_or(anyhow!("the sample has no such lines"))?;
+    /// The sample of this name, edited.
+    fn edited(&self, alloc: Global, name: &str) -> Result<String> {
+        let Some(sample) = sample(name) else {
+            return Err(anyhow!("no such sample"));
+        };
+        let Some((before, after)) = sample.split_once(self.old.as_str()) else {
+            return Err(anyhow!("the sample has no such lines"));
+        };
         let new = self.new.as_str();
-        let text = format!(in alloc; "{before}{new}{after}")?;
-        match read_catalog(alloc, text.as_bytes()) {
-            Ok(catalog) => {
-                let said = describe(alloc, &catalog)?;
-                Ok(format!(in alloc; "{title}: read\n{said}")?)
-            }
-            Err(fault) => Ok(format!(in alloc; "{title}: {fault}\n")?),
-        }
+        Ok(format!(in alloc; "{before}{new}{after}")?)
+    }
+
+    /// The title, and what is asked of the edited catalog.
+    pub fn answer(&self, alloc: Global) -> Result<String> {
+        let Some((base, title)) = self.head.as_str().split_once(": ") else {
+            return Err(anyhow!("a case begins with its base"));
+        };
+        let said = match base.strip_prefix("explain ") {
+            Some(name) => explained(alloc, self.edited(alloc, name)?.as_str())?,
+            None => read(alloc, self.edited(alloc, base)?.as_str())?,
+        };
+        Ok(format!(in alloc; "{title}: {said}")?)
     }
 }

@@ -45,54 +45,60 @@ fn read(rt: &HostRuntime, text: &[u8]) -> Result<String, Fail> {
     }
 }
 
+/// Texts, and the columns that they are read as.
+const READ: [(&str, &str); 15] = [
+    ("id,city,v\n", "|||"),
+    ("id,city,v", "|||"),
+    ("id,city,v\n1,a,2\n3,b,4\n", "1,3,|<a><b>|2,4,|"),
+    ("id,city,v\n1,a,2", "1,|<a>|2,|"),
+    ("v,id,city\n2,1,a\n", "1,|<a>|2,|"),
+    ("id,city,v\r\n1,a,2\r\n", "1,|<a>|2,|"),
+    ("\u{feff}id,city,v\n1,a,2\n", "1,|<a>|2,|"),
+    ("\"id\",\"city\",\"v\"\n\"1\",\"a\",\"2\"\n", "1,|<a>|2,|"),
+    ("id,city,v\n1,\"a,b\",2\n", "1,|<a,b>|2,|"),
+    ("id,city,v\n1,\"a \"\"b\"\"\",2\n", "1,|<a \"b\">|2,|"),
+    ("id,city,v\n1,\"a\nb\",2\n", "1,|<a\nb>|2,|"),
+    ("id,city,v\n1,,2\n", "1,|<>|2,|"),
+    ("id,city,v\n\n1,a,2\n\n", "1,|<a>|2,|"),
+    ("id,city,v\n+1,a,007\n", "1,|<a>|7,|"),
+    (
+        "id,city,v\n-9223372036854775808,a,9223372036854775807\n",
+        "-9223372036854775808,|<a>|9223372036854775807,|",
+    ),
+];
+
 #[test]
 fn reads_rows_with_ample_memory(rt: HostRuntime) -> Result<(), Fail> {
-    for (text, wanted) in [
-        ("id,city,v\n", "|||"),
-        ("id,city,v", "|||"),
-        ("id,city,v\n1,a,2\n3,b,4\n", "1,3,|<a><b>|2,4,|"),
-        ("id,city,v\n1,a,2", "1,|<a>|2,|"),
-        ("v,id,city\n2,1,a\n", "1,|<a>|2,|"),
-        ("id,city,v\r\n1,a,2\r\n", "1,|<a>|2,|"),
-        ("\u{feff}id,city,v\n1,a,2\n", "1,|<a>|2,|"),
-        ("\"id\",\"city\",\"v\"\n\"1\",\"a\",\"2\"\n", "1,|<a>|2,|"),
-        ("id,city,v\n1,\"a,b\",2\n", "1,|<a,b>|2,|"),
-        ("id,city,v\n1,\"a \"\"b\"\"\",2\n", "1,|<a \"b\">|2,|"),
-        ("id,city,v\n1,\"a\nb\",2\n", "1,|<a\nb>|2,|"),
-        ("id,city,v\n1,,2\n", "1,|<>|2,|"),
-        ("id,city,v\n\n1,a,2\n\n", "1,|<a>|2,|"),
-        ("id,city,v\n+1,a,007\n", "1,|<a>|7,|"),
-        (
-            "id,city,v\n-9223372036854775808,a,9223372036854775807\n",
-            "-9223372036854775808,|<a>|9223372036854775807,|",
-        ),
-    ] {
+    for (text, wanted) in READ {
         assert_eq!(rt; read(&rt, text.as_bytes())?.as_str(), wanted);
     }
     Ok(())
 }
 
+/// Texts, and their faults.
+const REFUSED: [(&str, &str); 11] = [
+    ("", "Header"),
+    ("id,city\n", "Header"),
+    ("id,city,w\n", "Header"),
+    ("id,city,city\n", "Header"),
+    ("id,city,v\n1,a\n", "Width { record: 0 }"),
+    ("id,city,v\n1,a,2,3\n", "Width { record: 0 }"),
+    ("id,city,v\n1,\"a,2\n", "Width { record: 0 }"),
+    (
+        "id,city,v\n1,a,2\n1,a,x\n",
+        "NotInt { record: 1, column: 2 }",
+    ),
+    ("id,city,v\n 1,a,2\n", "NotInt { record: 0, column: 0 }"),
+    ("id,city,v\n,a,2\n", "NotInt { record: 0, column: 0 }"),
+    (
+        "id,city,v\n9223372036854775808,a,2\n",
+        "NotInt { record: 0, column: 0 }",
+    ),
+];
+
 #[test]
 fn refuses_by_the_first_fault(rt: HostRuntime) -> Result<(), Fail> {
-    for (text, wanted) in [
-        ("", "Header"),
-        ("id,city\n", "Header"),
-        ("id,city,w\n", "Header"),
-        ("id,city,city\n", "Header"),
-        ("id,city,v\n1,a\n", "Width { record: 0 }"),
-        ("id,city,v\n1,a,2,3\n", "Width { record: 0 }"),
-        ("id,city,v\n1,\"a,2\n", "Width { record: 0 }"),
-        (
-            "id,city,v\n1,a,2\n1,a,x\n",
-            "NotInt { record: 1, column: 2 }",
-        ),
-        ("id,city,v\n 1,a,2\n", "NotInt { record: 0, column: 0 }"),
-        ("id,city,v\n,a,2\n", "NotInt { record: 0, column: 0 }"),
-        (
-            "id,city,v\n9223372036854775808,a,2\n",
-            "NotInt { record: 0, column: 0 }",
-        ),
-    ] {
+    for (text, wanted) in REFUSED {
         assert_eq!(rt; read(&rt, text.as_bytes())?.as_str(), wanted);
     }
     assert_eq!(rt;
@@ -102,37 +108,48 @@ fn refuses_by_the_first_fault(rt: HostRuntime) -> Result<(), Fail> {
     Ok(())
 }
 
+/// What a text of one row with this city is read as.
+fn read_city(rt: &HostRuntime, city: &str) -> Result<String, Fail> {
+    let text = format!(in rt.alloc(); "id,city,v\n1,{city},2\n")?;
+    read(rt, text.as_bytes())
+}
+
 #[test]
 fn texts_end_at_255_bytes(rt: HostRuntime) -> Result<(), Fail> {
-    let alloc = rt.alloc();
-    let longest = "a".repeat(alloc, 255)?;
-    let text = format!(in alloc; "id,city,v\n1,{longest},2\n")?;
-    let wanted = format!(in alloc; "1,|<{longest}>|2,|")?;
-    assert_eq!(rt; read(&rt, text.as_bytes())?.as_str(), wanted.as_str());
-    let text = format!(in alloc; "id,city,v\n1,{longest}a,2\n")?;
-    assert_eq!(rt;
-        read(&rt, text.as_bytes())?.as_str(),
-        "TooLong { record: 0, column: 1 }"
-    );
+    let longest = "a".repeat(rt.alloc(), 255)?;
+    let wanted = format!(in rt.alloc(); "1,|<{longest}>|2,|")?;
+    let read = read_city(&rt, longest.as_str())?;
+    assert_eq!(rt; read.as_str(), wanted.as_str());
     Ok(())
 }
+
+#[test]
+fn texts_of_256_bytes_are_too_long(rt: HostRuntime) -> Result<(), Fail> {
+    let longer = "a".repeat(rt.alloc(), 256)?;
+    let read = read_city(&rt, longer.as_str())?;
+    assert_eq!(rt; read.as_str(), "TooLong { record: 0, column: 1 }");
+    Ok(())
+}
+
+/// Texts, and what is written of their rows.
+const WRITTEN: [(&str, &str); 4] = [
+    ("id,city,v\n", "id,city,v\n"),
+    (
+        "v,city,id\r\n2,a,1\r\n-4,\"b\nc\",3\r\n",
+        "id,city,v\n1,a,2\n3,\"b\nc\",-4\n",
+    ),
+    (
+        "id,city,v\n1,\"a \"\"b\"\", c\",2\n",
+        "id,city,v\n1,\"a \"\"b\"\", c\",2\n",
+    ),
+    ("id,city,v\n1,,2\n", "id,city,v\n1,,2\n"),
+];
 
 #[test]
 fn writes_rows_with_ample_memory(rt: HostRuntime) -> Result<(), Fail> {
     let alloc = rt.alloc();
     let catalog = cities(&rt)?;
-    for (text, wanted) in [
-        ("id,city,v\n", "id,city,v\n"),
-        (
-            "v,city,id\r\n2,a,1\r\n-4,\"b\nc\",3\r\n",
-            "id,city,v\n1,a,2\n3,\"b\nc\",-4\n",
-        ),
-        (
-            "id,city,v\n1,\"a \"\"b\"\", c\",2\n",
-            "id,city,v\n1,\"a \"\"b\"\", c\",2\n",
-        ),
-        ("id,city,v\n1,,2\n", "id,city,v\n1,,2\n"),
-    ] {
+    for (text, wanted) in WRITTEN {
         let Ok(columns) = read_rows(alloc, &catalog, text.as_bytes()) else {
             return Err(Fail::from("read"));
         };

@@ -1,5 +1,5 @@
 //! Cells, and lists of them.
-ghost use Rattle.std.specs.Prelude.{◌≡◌, ◌==◌, ◌<◌, ◌≤◌, ◌-◌, [], ◌∷◌, ◌++◌, take, drop, length, slice_get, Some, refl, IfOk, IsTrue, ◌↔◌, OnOk, OnErr};
+ghost use Rattle.std.specs.Prelude.{◌≡◌, ◌==◌, ◌<◌, ◌≤◌, ◌-◌, [], ◌∷◌, ◌++◌, take, drop, length, slice_get, Some, refl, IfOk, IsTrue, ◌↔◌, OnOk, OnErr, vec_len};
 ghost use Rattle.std.specs.Option.{option_cmp};
 ghost use Rattle.std.specs.Ordering.{as_partial_cmp, eq_by_cmp};
 ghost use Rattle.std.specs.Cmp.{eq_by_cmp_equiv, partial_equiv_from_equiv, partial_order_from_total};
@@ -232,14 +232,15 @@ impl Cells {
         }
     }
 
-    /// Adds copies of another column's cells of this kind at the end, from one place up to another. After a refusal some may
-    /// have been added.
+    /// Adds copies of another column's cells of this kind at the end, from one place up to another. A refusal changes
+    /// nothing.
     #[tactic(auto, using(crate::proofs::MappedRanges::map_range))]
     pub fn extend(&mut self, other: &Cells, from: usize, to: usize) -> Result<(), AllocError>
         requires kinds { kind_of self.old ≡ kind_of other.now }
         requires order { from ≤ to }
         requires within { to ≤ length (values other.now) }
         ensures values { OnOk result (values self.new ≡ values self.old ++ take (to - from) (drop from (values other.now))) }
+        ensures err { OnErr result (values self.new ≡ values self.old) }
         ensures kind { kind_of self.new ≡ kind_of self.old }
     {
         match (self, other) {
@@ -273,9 +274,23 @@ impl Cells {
     }
 }
 
-/// Adds copies of texts at the end.
+/// Adds copies of texts at the end. A refusal changes nothing.
 fn extend_texts(texts: &mut Vec<Text>, others: &[Text]) -> Result<(), AllocError>
-    ensures { OnOk result (texts.new.items ≡ texts.old.items ++ others.now) }
+    ensures ok { OnOk result (texts.new.items ≡ texts.old.items ++ others.now) }
+    ensures err { OnErr result (texts.new.items ≡ texts.old.items) }
+{
+    let count = texts.len();
+    let added = push_texts(texts, others);
+    if added.is_err() {
+        texts.truncate(count);
+    }
+    added
+}
+
+/// Adds copies of texts at the end. After a refusal some of them stand there.
+fn push_texts(texts: &mut Vec<Text>, others: &[Text]) -> Result<(), AllocError>
+    ensures all { OnOk result (texts.new.items ≡ texts.old.items ++ others.now) }
+    ensures kept { take (vec_len texts.old) texts.new.items ≡ texts.old.items }
 {
     let alloc = *texts.allocator();
     texts.reserve(others.len())?;

@@ -1,0 +1,146 @@
+//! What of a document breaks a rule.
+use crate::document::{Document, is_from_to, read_document};
+use crate::names::{column_names, is_name, projection_names};
+use crate::projection_problems::{Problem as ProjectionProblem, projection_problem};
+use crate::rules::{is_kind, is_stored};
+use std::alloc::{AllocError, Global};
+use std::fmt;
+use toml::Table;
+
+const NAME: &str = "a name has 1 to 32 bytes, the first a to z, the others a to z, 0 to 9 or _";
+
+/// What of a document breaks a rule from 3 on. Its text says so.
+#[derive(Clone, Copy)]
+enum Problem<'a> {
+    Said(&'static str),
+    /// The table's name.
+    Table,
+    /// The name of the column or projection at a place.
+    Name(&'static str, usize),
+    /// A name of two columns, or of two projections.
+    Twice(&'static str, &'a str),
+    Sites(i64),
+    /// How many there are of what, and how many are wanted.
+    Count(usize, &'static str),
+    Column(&'a str, &'static str),
+    Projection(&'a str, ProjectionProblem<'a>),
+}
+
+impl fmt::Display for Problem<'_> {
+    fn fmt<W: fmt::Write>(&self, f: &mut fmt::Formatter<W>) -> fmt::Result {
+        match self {
+            Problem::Said(words) => f.write_str(words),
+            Problem::Table => write!(f, "table: {NAME}"),
+            Problem::Name(list, at) => write!(f, "{list} {at}: {NAME}"),
+            Problem::Twice(list, name) => write!(f, "{list} {name} stands twice"),
+            Problem::Sites(sites) => write!(f, "sites is {sites}, 1 to 16 is wanted"),
+            Problem::Count(found, wanted) => write!(f, "{found} {wanted}"),
+            Problem::Column(name, what) => write!(f, "column {name}{what}"),
+            Problem::Projection(name, problem) => write!(f, "projection {name}: {problem}"),
+        }
+    }
+}
+
+/// A name that is none, or that stands twice, found by a sort: the list may have any length.
+fn names_problem<'a>(list: &'static str, names: Vec<&'a str>) -> Option<Problem<'a>> {
+    let mut names = names;
+    for (at, name) in names.iter().enumerate() {
+        if !is_name(name) {
+            return Some(Problem::Name(list, at));
+        }
+    }
+    names.sort_unstable();
+    for at in 1..names.len() {
+        if names[at - 1] == names[at] {
+            return Some(Problem::Twice(list, names[at]));
+        }
+    }
+    None
+}
+
+fn name_problem<'a>(
+    alloc: Global,
+    document: &Document<'a>,
+) -> Result<Option<Problem<'a>>, AllocError> {
+    if !is_name(document.table) {
+        return Ok(Some(Problem::Table));
+    }
+    let columns = column_names(alloc, &document.columns)?;
+    if let Some(problem) = names_problem("column", columns) {
+        return Ok(Some(problem));
+    }
+    let projections = projection_names(alloc, &document.projections)?;
+    Ok(names_problem("projection", projections))
+}
+
+fn size_problem(document: &Document) -> Problem<'static> {
+    let (columns, projections) = (document.columns.len(), document.projections.len());
+    if !is_from_to(1, 16, document.sites) {
+        Problem::Sites(document.sites)
+    } else if columns < 1 || 32 < columns {
+        Problem::Count(columns, "columns, 1 to 32 are wanted")
+    } else {
+        Problem::Count(projections, "projections, 1 to 8 are wanted")
+    }
+}
+
+fn kind_problem<'a>(document: &Document<'a>) -> Option<Problem<'a>> {
+    for column in &document.columns {
+        if !is_kind(column.kind) {
+            return Some(Problem::Column(column.name, ": kind is neither int nor text"));
+        }
+    }
+    None
+}
+
+fn stored_problem<'a>(document: &Document<'a>) -> Option<Problem<'a>> {
+    for column in &document.columns {
+        if !is_stored(&document.projections, column) {
+            return Some(Problem::Column(column.name, " is in no projection"));
+        }
+    }
+    None
+}
+
+fn of_projections<'a>(
+    alloc: Global,
+    rule: u8,
+    document: &Document<'a>,
+) -> Result<Option<Problem<'a>>, AllocError> {
+    for projection in &document.projections {
+        match projection_problem(alloc, rule, document, projection) {
+            Ok(None) => {}
+            Ok(Some(problem)) => return Ok(Some(Problem::Projection(projection.name, problem))),
+            Err(_) => return Err(AllocError),
+        }
+    }
+    Ok(None)
+}
+
+fn document_problem<'a>(
+    alloc: Global,
+    rule: u8,
+    document: &Document<'a>,
+) -> Result<Option<Problem<'a>>, AllocError> {
+    match rule {
+        3 => name_problem(alloc, document),
+        4 => Ok(Some(size_problem(document))),
+        5 => Ok(kind_problem(document)),
+        6 => Ok(Some(Problem::Said("key names no column"))),
+        14 => Ok(stored_problem(document)),
+        15 => Ok(Some(Problem::Said("safety is neither whole nor rows"))),
+        _ => of_projections(alloc, rule, document),
+    }
+}
+
+/// How a tree's document breaks a rule from 3 on.
+pub fn rule_words(alloc: Global, rule: u8, table: &Table) -> Result<String, AllocError> {
+    let Ok(document) = read_document(alloc, table) else {
+        return Err(AllocError);
+    };
+    match document_problem(alloc, rule, &document) {
+        Ok(Some(problem)) => format!(in alloc; "{problem}"),
+        Ok(None) => format!(in alloc; "a projection breaks it"),
+        Err(_) => Err(AllocError),
+    }
+}
