@@ -1,6 +1,7 @@
 pub mod Cells
 pub mod Texts
 pub mod ColumnText
+pub mod TextMaps
 pub mod CellLaws
 pub mod Encodings
 pub mod Runs

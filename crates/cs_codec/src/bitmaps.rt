@@ -6,6 +6,8 @@ ghost use Rattle.cs_codec.specs.Bitmaps.{entry_text, total, or_empty};
 ghost use Rattle.cs_codec.specs.BitmapParts.{IsBitmapsPart, Keeps, Follows, AreBitmaps, HasRoom, CanFollow, GoOn};
 ghost use Rattle.std.specs.BTreeMap.{get, IsOrdered};
 ghost use Rattle.cs_codec.specs.BitmapLaws.{bitmaps_have_one_list};
+ghost use Rattle.cs_schema.specs.declared.kinds.Code.{Code};
+ghost use Rattle.cs_codec.specs.TextMaps.{bitmaps_of_code};
 
 use crate::bitmap::Bitmap;
 use crate::bitmap_reading::{candidate, names_all_rows};
@@ -190,6 +192,8 @@ pub struct Bitmaps;
 impl<C: Cell> Encoding<C> for Bitmaps {
     const CODE: Code = Code::Bitmaps;
 
+    ghost CODE = { Code.Bitmaps };
+
     type Part = BitmapsPart<C>;
 
     ghost text = { bitmaps_text C.bytes C.eq C.cmp };
@@ -242,4 +246,6 @@ impl<C: Cell> Encoding<C> for Bitmaps {
 
     ghost one_list = { bitmaps_have_one_list C.bytes C.is_cell C.eq C.cmp
         (record { itself = C.Eq.laws.refl; exact = C.exact }) C.matches_eq C.begins_one };
+
+    ghost of_code = { bitmaps_of_code C.value C.bytes C.eq C.cmp C.is_value };
 }

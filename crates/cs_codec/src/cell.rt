@@ -1,8 +1,10 @@
 //! Cells as bytes: an integer in eight, in two's complement, the highest first; a text as its length and its bytes.
 ghost use Rattle.std.specs.Prelude.{◌≡◌, ℕ, ◌+◌, ◌≤◌, List, ◌++◌, OnOk, OnErr, IfSome, IfNone, true, IfOk, length, ◌<◌, [], ◌∷◌};
 ghost use Rattle.std.specs.Int.{w64, to_be_bytes, cast_signed};
+ghost use Rattle.cs_schema.specs.declared.cells.Value.{Value};
 ghost use Rattle.cs_codec.specs.Cells.{number, int_cell, IsInt, text_cell, IsText, StandsAt, NoneStandsAt, BeginsOne};
 ghost use Rattle.cs_codec.specs.Texts.{plain_text};
+ghost use Rattle.cs_codec.specs.TextMaps.{IsValueOf, ints_are_values, texts_are_values};
 ghost use Rattle.cs_codec.specs.CellLaws.{int_exact, int_begins_one, text_exact, text_begins_one, int_some_bytes, text_some_bytes};
 
 use crate::numbers::u64_at;
@@ -17,6 +19,9 @@ pub trait Cell: Ord + Drop {
 
     /// Holds of the values of the type.
     ghost is_cell: { Self → Type 0 };
+
+    /// The cell as a value of a column.
+    ghost value: { Self → Value };
 
     /// The cell that a number stands for, where the cells are such numbers.
     ghost of_bits: { ℕ → Self };
@@ -53,6 +58,9 @@ pub trait Cell: Ord + Drop {
 
     /// No two cells begin one text.
     ghost begins_one: { BeginsOne bytes is_cell };
+
+    /// Bytes, equality and order of a cell are those of its value.
+    ghost is_value: { IsValueOf value bytes Self.eq Self.cmp };
 }
 
 /// The cell's number, where there is one cell and it has one.
@@ -81,6 +89,8 @@ impl Cell for i64 {
     ghost bytes = { int_cell };
 
     ghost is_cell = { IsInt };
+
+    ghost value = { Value.Int };
 
     ghost of_bits = { cast_signed w64 };
 
@@ -115,12 +125,16 @@ impl Cell for i64 {
     ghost some_bytes = { int_some_bytes };
 
     ghost begins_one = { int_begins_one };
+
+    ghost is_value = { ints_are_values };
 }
 
 impl Cell for Text {
     ghost bytes = { text_cell };
 
     ghost is_cell = { IsText };
+
+    ghost value = { Value.Text };
 
     ghost of_bits = { λ _. [] };
 
@@ -175,4 +189,6 @@ impl Cell for Text {
     ghost some_bytes = { text_some_bytes };
 
     ghost begins_one = { text_begins_one };
+
+    ghost is_value = { texts_are_values };
 }

@@ -5,6 +5,8 @@ ghost use Rattle.cs_codec.specs.Cells.{IsInt};
 ghost use Rattle.cs_codec.specs.Texts.{groups, short, differences_text};
 ghost use Rattle.cs_codec.specs.Differences.{item, NeverFallsShort, GroupsStandAt, NoGroupsStandAt, ValueStandsAt, NoValueStandsAt};
 ghost use Rattle.cs_codec.specs.DifferenceLaws.{differences_one_list};
+ghost use Rattle.cs_schema.specs.declared.kinds.Code.{Code};
+ghost use Rattle.cs_codec.specs.TextMaps.{differences_of_code};
 
 use crate::cell::{Cell, read_int};
 use crate::encoding::{CodecFault, Encoding};
@@ -247,6 +249,8 @@ pub struct Differences;
 impl Encoding<i64> for Differences {
     const CODE: Code = Code::Differences;
 
+    ghost CODE = { Code.Differences };
+
     type Part = DifferencesPart;
 
     ghost text = { differences_text };
@@ -291,4 +295,6 @@ impl Encoding<i64> for Differences {
     }
 
     ghost one_list = { differences_one_list };
+
+    ghost of_code = { differences_of_code };
 }

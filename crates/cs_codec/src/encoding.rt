@@ -2,6 +2,8 @@
 ghost use Rattle.std.specs.Prelude.{◌≡◌, ℕ, ◌≤◌, List, ◌++◌, length, IfOk, OnErr, IsErrOf};
 ghost use Rattle.std.specs.List.{AllByRecursion};
 ghost use Rattle.cs_codec.specs.Encodings.{JoinFits, TellsJoin, IsColumn, NoColumn, HasOneText, JoinsTo, Writes};
+ghost use Rattle.cs_codec.specs.TextMaps.{IsTextOfCode};
+ghost use Rattle.cs_schema.specs.declared.kinds.Code.{Code};
 ghost use Rattle.cs_codec.specs.declared.encoding.CodecFault.TheVariants.{Memory};
 
 use crate::cell::Cell;
@@ -35,8 +37,10 @@ impl<T: Drop> From<AllocFailed<T>> for CodecFault {
 
 /// One code at one kind of cell.
 pub trait Encoding<C: Cell> {
-    /// The code's number in a catalog.
+    /// The code as a catalog names it.
     const CODE: Code;
+
+    ghost CODE: { Code };
 
     /// What stands for some cells of a column, and is joined with what stands for the next ones.
     type Part: Drop;
@@ -76,4 +80,7 @@ pub trait Encoding<C: Cell> {
 
     /// No two lists have one text.
     ghost one_list: { HasOneText text fits C.is_cell };
+
+    /// The text of a list is that of the column of its values under the code.
+    ghost of_code: { IsTextOfCode C.value CODE text };
 }

@@ -4,6 +4,8 @@ ghost use Rattle.cs_codec.specs.Encodings.{IsShort};
 ghost use Rattle.cs_codec.specs.Texts.{plain_text};
 ghost use Rattle.cs_codec.specs.Plain.{kept_bytes, IsPlainPart};
 ghost use Rattle.cs_codec.specs.PlainLaws.{plain_one_list};
+ghost use Rattle.cs_schema.specs.declared.kinds.Code.{Code};
+ghost use Rattle.cs_codec.specs.TextMaps.{plain_of_code};
 
 use crate::cell::{Cell, lone_bits};
 use crate::encoding::{CodecFault, Encoding};
@@ -60,6 +62,8 @@ pub struct Plain;
 
 impl<C: Cell> Encoding<C> for Plain {
     const CODE: Code = Code::Plain;
+
+    ghost CODE = { Code.Plain };
 
     type Part = PlainPart;
 
@@ -126,4 +130,6 @@ impl<C: Cell> Encoding<C> for Plain {
     }
 
     ghost one_list = { plain_one_list C.bytes C.is_cell C.begins_one C.some_bytes };
+
+    ghost of_code = { plain_of_code C.value C.bytes C.eq C.cmp C.is_value };
 }

@@ -6,6 +6,8 @@ ghost use Rattle.cs_codec.specs.RunTexts.{RunStandsAt, NoRunStandsAt, AreRunsOf,
 ghost use Rattle.cs_codec.specs.RunLaws.{runs_one_list};
 ghost use Rattle.std.specs.Prelude.{IfSome, IfNone, IsTrue, false};
 ghost use Rattle.cs_codec.specs.Runs.{expand, IsProper};
+ghost use Rattle.cs_schema.specs.declared.kinds.Code.{Code};
+ghost use Rattle.cs_codec.specs.TextMaps.{runs_of_code};
 
 use crate::cell::{Cell, lone_bits};
 use crate::encoding::{CodecFault, Encoding};
@@ -261,6 +263,8 @@ pub struct Runs;
 impl<C: Cell> Encoding<C> for Runs {
     const CODE: Code = Code::Runs;
 
+    ghost CODE = { Code.Runs };
+
     type Part = RunsPart<C>;
 
     ghost text = { runs_text C.bytes C.eq };
@@ -292,4 +296,6 @@ impl<C: Cell> Encoding<C> for Runs {
 
     ghost one_list = { runs_one_list C.bytes C.is_cell C.eq
         (record { itself = C.Eq.laws.refl; exact = C.exact }) C.begins_one };
+
+    ghost of_code = { runs_of_code C.value C.bytes C.eq C.cmp C.is_value };
 }

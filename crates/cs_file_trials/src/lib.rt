@@ -6,6 +6,8 @@ mod catalogs;
 #[cfg(test)]
 mod cells;
 #[cfg(test)]
+mod cut_bitmaps;
+#[cfg(test)]
 mod deltas;
 #[cfg(test)]
 mod empty_segment;
@@ -13,6 +15,8 @@ mod empty_segment;
 mod encodings;
 #[cfg(test)]
 mod explanations;
+#[cfg(test)]
+mod full_images;
 #[cfg(test)]
 mod join_indexes;
 #[cfg(test)]

@@ -22,7 +22,7 @@ use Rattle.cs_codec.specs.RunLaws.{runs_one_list}
 use Rattle.cs_codec.specs.BitmapLaws.{bitmaps_have_one_list}
 use Rattle.cs_codec.specs.ColumnText.{cell_bytes, int_of, column_text, FitsColumn}
 use Rattle.cs_piece.specs.Columns.{CanEncode, IsColumnOf, HaveOneColumn}
-use Rattle.cs_piece.proofs.TextMaps.{IsSame, plain_text-map, runs_text-map, bitmaps_text-map}
+use Rattle.cs_codec.specs.TextMaps.{IsSame, plain_text-map, runs_text-map, bitmaps_text-map}
 use Rattle.cs_piece.specs.Pieces.{StandsFor, FitTogether}
 
 -- ---- ints and texts as values

@@ -6,4 +6,4 @@ pub mod BodyLists
 pub mod Heads
 pub mod OneText
 pub mod PieceColumns
-mod SegmentColumns
+pub mod SegmentColumns

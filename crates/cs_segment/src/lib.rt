@@ -11,11 +11,9 @@ pub mod laws;
 pub mod parallel;
 pub mod seal;
 pub mod segment;
-#[cfg(test)]
-mod tests;
 pub mod writing;
 
 pub use fault::FileFault;
 pub use parallel::par_read_segment;
 pub use segment::{Segment, read_segment};
-pub use writing::write_segment;
+pub use writing::{write_segment, write_segment_owned};

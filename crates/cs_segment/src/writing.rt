@@ -4,7 +4,8 @@ ghost use Rattle.cs_schema.specs.declared.cells.Value.{Value};
 ghost use Rattle.cs_codec.specs.ColumnText.{FitsColumn};
 ghost use Rattle.cs_piece.specs.Pieces.{IsPieceOf};
 ghost use Rattle.cs_segment.specs.SegmentFile.{Base, segment_text};
-ghost use Rattle.cs_segment.specs.Parts.{part_text};
+ghost use Rattle.cs_schema.specs.CatalogData.{projection};
+ghost use Rattle.cs_segment.specs.Parts.{part_text, head_text};
 ghost use Rattle.cs_segment.specs.SegmentPieces.{ArePiecesOf, AreOfSomeBase};
 
 use crate::seal::{DIGEST, seal};
@@ -48,8 +49,53 @@ fn put_part(
     write_part(alloc, out, code, kind, &piece)
 }
 
-/// The file of the segment whose columns, of so many rows, the pieces are. Each piece is let go once it stands there.
+/// The head of a segment's file.
+fn head_of(
+    alloc: Global,
+    catalog: &Catalog,
+    p: u16,
+    s: u16,
+    rows: u32,
+) -> Result<Vec<u8>, AllocError>
+    requires { p < length catalog.now.projections }
+    ensures { IfOk result (λ out. out.items ≡ head_text p s rows (length (projection catalog.now p).columns)) }
+{
+    let width = catalog.width(p);
+    let mut out = Vec::new(alloc);
+    out.extend_from_slice(b"CSSEG001")?;
+    out.extend_from_slice(&p.to_be_bytes())?;
+    out.extend_from_slice(&s.to_be_bytes())?;
+    out.extend_from_slice(&rows.to_be_bytes())?;
+    out.extend_from_slice(&(width as u16).to_be_bytes())?;
+    Ok(out)
+}
+
+/// The file of the segment whose columns, of so many rows, the pieces are.
 pub fn write_segment(
+    alloc: Global,
+    catalog: &Catalog,
+    p: u16,
+    s: u16,
+    rows: u32,
+    pieces: &[Piece],
+) -> Result<Vec<u8>, AllocError>
+    requires projection { p < length catalog.now.projections }
+    requires pieces { AreOfSomeBase catalog.now p rows pieces.now }
+    ensures { IfOk result (λ out. (b : Base) → ArePiecesOf catalog.now p rows pieces.now b → out.items ≡ segment_text catalog.now p s b) }
+{
+    let mut out = head_of(alloc, catalog, p, s, rows)?;
+    for (j, piece) in pieces.iter().enumerate() {
+        let code = catalog.code(p, j);
+        let kind = catalog.column_kind(p, j);
+        write_part(alloc, &mut out, code, kind, piece)?;
+    }
+    seal(&mut out)?;
+    Ok(out)
+}
+
+/// The same file, of pieces of which each is let go once it stands there: so its text and the piece are there together for one
+/// column alone.
+pub fn write_segment_owned(
     alloc: Global,
     catalog: &Catalog,
     p: u16,
@@ -61,13 +107,7 @@ pub fn write_segment(
     requires pieces { AreOfSomeBase catalog.now p rows pieces.items }
     ensures { IfOk result (λ out. (b : Base) → ArePiecesOf catalog.now p rows pieces.items b → out.items ≡ segment_text catalog.now p s b) }
 {
-    let width = catalog.width(p);
-    let mut out = Vec::new(alloc);
-    out.extend_from_slice(b"CSSEG001")?;
-    out.extend_from_slice(&p.to_be_bytes())?;
-    out.extend_from_slice(&s.to_be_bytes())?;
-    out.extend_from_slice(&rows.to_be_bytes())?;
-    out.extend_from_slice(&(width as u16).to_be_bytes())?;
+    let mut out = head_of(alloc, catalog, p, s, rows)?;
     let mut pieces = pieces;
     for j in 0..pieces.len() {
         // they are few: so it takes no time that those behind move up

@@ -1,3 +1,4 @@
+//! Segments' files: vectors, each byte of them changed, and long files that several threads read.
 mod hostile;
 
 ghost use Rattle.std.specs.Prelude.{◌≡◌, ◌<◌, length, IfOk};
@@ -5,15 +6,12 @@ ghost use Rattle.cs_segment.specs.SegmentFile.{IsBase};
 ghost use Rattle.cs_segment.specs.SegmentData.{kinds_at};
 ghost use Rattle.cs_segment.specs.SegmentPieces.{ArePiecesOf};
 
-use crate::fault::FileFault;
-use crate::parallel::par_read_segment;
-use crate::seal::{seal, unseal};
-use crate::segment::{Segment, read_segment};
-use crate::writing::write_segment;
 use cs_catalog::read_catalog;
 use cs_piece::{Piece, encode_piece};
 use cs_schema::samples::{CITIES, SPLIT_COLUMNS, THREE_PROJECTIONS, TWO_ORDERS};
 use cs_schema::{Catalog, Value};
+use cs_segment::seal::{seal, unseal};
+use cs_segment::{FileFault, Segment, par_read_segment, read_segment, write_segment};
 use std::alloc::{AllocError, Global};
 use std::test::Fail;
 
@@ -45,6 +43,13 @@ const PLAIN: &[u8; 94] = b"CSSEG001\0\0\0\0\0\0\0\x04\0\x02\
 const EMPTY: &[u8; 42] = b"CSSEG001\0\0\0\0\0\0\0\0\0\x04\
 \x03\x01\0\0\0\0\x01\x01\0\0\0\0\x02\x02\0\0\0\0\x04\x02\0\0\0\0";
 
+/// Three rows under each code: 1, 2, 3 as differences, 5, 5, 6 in runs, x, x, y in bitmaps, and an empty text, ab and c, plain.
+const FULL: &[u8; 122] = b"CSSEG001\0\0\0\0\0\0\0\x03\0\x04\
+\x03\x01\0\0\0\x0e\0\0\0\x01\0\0\0\0\0\0\0\x01\x01\x01\
+\x01\x01\0\0\0\x20\0\0\0\0\0\0\0\x05\0\0\0\x01\0\0\0\x02\0\0\0\0\0\0\0\x06\0\0\0\x03\0\0\0\x01\
+\x02\x02\0\0\0\x1c\x01x\0\0\0\x02\0\0\0\0\0\0\0\x02\x01y\0\0\0\x02\0\0\0\x02\0\0\0\x01\
+\x04\x02\0\0\0\x06\0\x02ab\x01c";
+
 /// Runs of texts.
 const RUNS: &[u8; 57] = b"CSSEG001\0\x01\0\0\0\0\0\x02\0\x02\
 \x01\x02\0\0\0\x0b\x02la\0\0\0\x01\0\0\0\x02\
@@ -74,7 +79,7 @@ struct Vector {
     body: &'static [u8],
 }
 
-const VECTORS: [Vector; 6] = [
+const VECTORS: [Vector; 7] = [
     Vector {
         catalog: TWO_ORDERS,
         p: 0,
@@ -86,6 +91,12 @@ const VECTORS: [Vector; 6] = [
         p: 0,
         s: 0,
         body: EMPTY,
+    },
+    Vector {
+        catalog: FOUR_CODES,
+        p: 0,
+        s: 0,
+        body: FULL,
     },
     Vector {
         catalog: CITIES,
@@ -160,7 +171,7 @@ fn again(
 {
     let segment = read_segment(alloc, catalog, p, s, bytes)?;
     let pieces = pieces_of(alloc, catalog, p, &segment)?;
-    Ok(write_segment(alloc, catalog, p, s, segment.rows, pieces)?)
+    Ok(write_segment(alloc, catalog, p, s, segment.rows, &pieces)?)
 }
 
 /// Whether each proper prefix of the file, and the file with any byte changed, is damaged.

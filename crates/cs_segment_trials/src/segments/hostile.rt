@@ -1,9 +1,8 @@
 //! Bytes that are no segment.
 use super::{PLAIN, sealed};
-use crate::fault::FileFault;
-use crate::segment::read_segment;
 use cs_catalog::read_catalog;
 use cs_schema::samples::TWO_ORDERS;
+use cs_segment::{FileFault, read_segment};
 use std::alloc::{AllocError, Global};
 use std::test::Fail;
 

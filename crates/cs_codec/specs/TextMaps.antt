@@ -1,10 +1,16 @@
--- The texts of a list whose values stand for those of another list.
-use Rattle.std.proofs.Common.{◌≡◌, ℕ, suc, Bool, false, not, if◌then◌else◌, List, [], ◌∷◌, ◌++◌, length, map, Option, Some, None, refl, ap, ◌∙◌}
-use Rattle.std.specs.Prelude.{flat_map}
+-- The texts of a list whose values stand for those of another list, and the text of cells as that of a column under a code.
+use Rattle.std.proofs.Common.{◌≡◌, ℕ, ℤ, suc, Bool, false, not, if◌then◌else◌, List, [], ◌∷◌, ◌++◌, length, map, Option, Some, None, refl, sym, ap, ◌∙◌}
+use Rattle.std.specs.Prelude.{flat_map, nat_eq}
+use Rattle.std.specs.Ordering.{nat_cmp, int_eq, int_cmp}
+use Rattle.std.specs.Cmp.Lexicographic.{pointwise, slice_cmp, texts_ties}
 use Rattle.std.specs.declared.cmp.Ordering.{Ordering}
 use Rattle.std.specs.declared.cmp.Ordering.TheVariants.{Less, Equal, Greater}
-use Rattle.cs_codec.specs.Cells.{number}
-use Rattle.cs_codec.specs.Texts.{plain_text, differs, kept, runs_text_from, runs_text, place_value, insert_value, distinct_values, run_lengths, bitmap_lengths, bitmap_text, bitmaps_text}
+use Rattle.cs_schema.specs.declared.kinds.Code.{Code}
+use Rattle.cs_schema.specs.declared.cells.Value.{Value}
+use Rattle.cs_schema.specs.Values.{value_eq, value_cmp}
+use Rattle.cs_codec.specs.Cells.{number, int_cell, text_cell}
+use Rattle.cs_codec.specs.Texts.{plain_text, differs, kept, runs_text_from, runs_text, place_value, insert_value, distinct_values, run_lengths, bitmap_lengths, bitmap_text, bitmaps_text, differences_text}
+use Rattle.cs_codec.specs.ColumnText.{cell_bytes, int_of, column_text}
 
 -- bytes, equality and order are the same on both sides
 pub record IsSame {C D : Type 0} (f : C → D) (bytes : C → List ℕ) (eq : C → C → Bool) (cmp : C → C → Ordering) (bytes' : D → List ℕ) (eq' : D → D → Bool) (cmp' : D → D → Ordering) : Type 0 where
@@ -74,3 +80,36 @@ module _ {C D : Type 0} (f : C → D) (bytes : C → List ℕ) (eq : C → C →
 
   pub bitmaps_text-map : (xs : List C) → bitmaps_text bytes' eq' cmp' (map f xs) ≡ bitmaps_text bytes eq cmp xs
   bitmaps_text-map xs = ap (λ (zs : List D). flat_map (bitmap_text bytes' eq' (map f xs)) zs) (distinct-map xs) ∙ each-map xs (distinct_values cmp xs)
+
+-- ---- cells as values
+
+-- the value of a cell has its bytes, and is equal and in order as the cell is
+abbrev pub IsValueOf : {C : Type 0} → (C → Value) → (C → List ℕ) → (C → C → Bool) → (C → C → Ordering) → Type 0
+IsValueOf {C} value bytes eq cmp = IsSame value bytes eq cmp cell_bytes value_eq value_cmp
+
+-- the text of a list is that of the column of its values under the code
+abbrev pub IsTextOfCode : {C : Type 0} → (C → Value) → Code → (List C → List ℕ) → Type 0
+IsTextOfCode {C} value code text = (cells : List C) → text cells ≡ column_text code (map value cells)
+
+module _ {C : Type 0} (value : C → Value) (bytes : C → List ℕ) (eq : C → C → Bool) (cmp : C → C → Ordering) (s : IsValueOf value bytes eq cmp) where
+  pub plain_of_code : IsTextOfCode value Code.Plain (plain_text bytes)
+  plain_of_code cells = sym (plain_text-map value bytes eq cmp cell_bytes value_eq value_cmp s cells)
+
+  pub runs_of_code : IsTextOfCode value Code.Runs (runs_text bytes eq)
+  runs_of_code cells = sym (runs_text-map value bytes eq cmp cell_bytes value_eq value_cmp s cells)
+
+  pub bitmaps_of_code : IsTextOfCode value Code.Bitmaps (bitmaps_text bytes eq cmp)
+  bitmaps_of_code cells = sym (bitmaps_text-map value bytes eq cmp cell_bytes value_eq value_cmp s cells)
+
+ints_back : (xs : List ℤ) → map int_of (map Value.Int xs) ≡ xs
+ints_back [] = refl
+ints_back (x ∷ xs) = ap (λ (z : List ℤ). x ∷ z) (ints_back xs)
+
+pub differences_of_code : IsTextOfCode Value.Int Code.Differences differences_text
+differences_of_code cells = ap differences_text (sym (ints_back cells))
+
+pub ints_are_values : IsValueOf Value.Int int_cell int_eq int_cmp
+ints_are_values = record { same_bytes = λ x. refl; same_eq = λ x y. refl; same_cmp = λ x y. refl }
+
+pub texts_are_values : IsValueOf Value.Text text_cell (pointwise nat_eq) (slice_cmp nat_cmp)
+texts_are_values = record { same_bytes = λ x. refl; same_eq = λ x y. sym (texts_ties x y); same_cmp = λ x y. refl }

@@ -8,7 +8,7 @@ use Rattle.cs_segment.specs.SegmentFile.{base_column}
 use Rattle.cs_segment.specs.SegmentData.{SegmentData}
 use Rattle.cs_segment.proofs.PartLists.{all-push}
 use Rattle.cs_segment.proofs.SegmentColumns.{cells_at, kind_is, fits_encoding}
-use Rattle.cs_segment.proofs.tests.pieces_of.Goals as goal
+use Rattle.cs_segment_trials.proofs.segments.pieces_of.Goals as goal
 
 pub encode_piece-requires : goal.encode_piece-requires
 encode_piece-requires c =

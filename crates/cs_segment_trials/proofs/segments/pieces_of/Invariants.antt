@@ -3,7 +3,7 @@ use Rattle.cs_schema.specs.CatalogData.{code_at, kind_at}
 use Rattle.cs_piece.specs.Pieces.{IsPieceOf}
 use Rattle.cs_segment.specs.SegmentFile.{base_column}
 use Rattle.cs_segment.specs.Parts.{AllFrom}
-use Rattle.cs_segment.proofs.tests.pieces_of.Given as goal
+use Rattle.cs_segment_trials.proofs.segments.pieces_of.Given as goal
 
 abbrev pub invariant-loop-j : goal.invariant-loop-j
 invariant-loop-j l = record {

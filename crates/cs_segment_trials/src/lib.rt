@@ -1,0 +1,5 @@
+//! Trials of segments' files.
+#![tactic(auto)]
+
+#[cfg(test)]
+mod segments;
