@@ -7,12 +7,12 @@
 mod limits;
 mod output;
 mod paths;
+mod picture;
 mod reading;
 mod store;
-#[cfg(test)]
-mod tests;
 
 pub use limits::{CATALOG_LIMIT, FileLimits};
 pub use output::OutputFolder;
-pub use reading::read_bounded;
+pub use picture::write_picture;
+pub use reading::{read_bounded, read_catalog_file};
 pub use store::StoreFolder;

@@ -1,6 +1,8 @@
 //! Reading one file, up to a bound.
 ghost use Rattle.std.specs.Prelude.{◌≡◌, ◌<◌, ◌≤◌, ◌^◌, IfOk, IfSome, vec_len};
 
+use crate::limits::CATALOG_LIMIT;
+use crate::paths::path_in;
 use cs_store::StoreFault;
 use std::alloc::Global;
 use std::io::Read;
@@ -66,5 +68,27 @@ pub fn read_file<R: Files>(
         },
         Err(e) if e.kind() == io::ErrorKind::NotFound => Ok(None),
         Err(_) => Err(StoreFault::Device),
+    }
+}
+
+/// The bytes of a catalog, or `None` where there is none: of the file at this path, or where a folder is there, of the
+/// store in it.
+pub fn read_catalog_file<R: Files>(
+    alloc: Global,
+    rt: &R,
+    path: &str,
+) -> Result<Option<Vec<u8>>, StoreFault>
+    ensures { IfOk result (λ file. IfSome file (λ bytes. vec_len bytes ≤ CATALOG_LIMIT)) }
+{
+    let is_folder = match fs::metadata(rt, path) {
+        Ok(found) => found.is_dir(),
+        Err(_) => false,
+    };
+    if !is_folder {
+        return read_file(alloc, rt, path, CATALOG_LIMIT);
+    }
+    match path_in(alloc, path, "catalog.toml") {
+        Ok(path) => read_file(alloc, rt, path.as_str(), CATALOG_LIMIT),
+        Err(_) => Err(StoreFault::Memory),
     }
 }
