@@ -16,3 +16,4 @@ pub mod Ties
 pub mod PassLemmas
 pub mod WordLemmas
 pub mod Sides
+pub mod KeyOrder

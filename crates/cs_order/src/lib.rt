@@ -5,6 +5,7 @@
 //! order. Where a row stands in a projection takes two reads.
 #![tactic(auto)]
 
+mod by_key;
 mod fault;
 mod item;
 mod lead;
@@ -18,6 +19,7 @@ mod sort;
 mod words;
 mod writing;
 
+pub use by_key::key_order;
 pub use fault::OrderFault;
 pub use parallel::orders;
 pub use places::Orders;

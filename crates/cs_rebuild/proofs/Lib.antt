@@ -7,7 +7,7 @@ pub mod Cuts
 pub mod Encodings
 pub mod Entries
 pub mod Firsts
-pub mod GroundFacts
+pub mod StoreFacts
 pub mod Indexes
 pub mod Keeping
 pub mod Names
@@ -21,3 +21,7 @@ pub mod Verdicts
 pub mod UnwrittenFiles
 pub mod WalkPieces
 pub mod WrittenFiles
+pub mod OneKind
+pub mod BuiltFiles
+pub mod PickedColumns
+pub mod FewRows

@@ -12,7 +12,7 @@ use Rattle.cs_schema.proofs.Ascending.{false≢true}
 use Rattle.cs_schema.proofs.Lists.{slice_get_map}
 use Rattle.cs_order.specs.Orders.{OrdersData, numbers_in, row_at}
 use Rattle.cs_order.specs.Tables.{table_of}
-use Rattle.cs_rebuild.specs.Ground.{HaveOrders, AreInOrder, HaveRoomInRanges}
+use Rattle.cs_rebuild.specs.StoreFacts.{HaveOrders, AreInOrder, HaveRoomInRanges}
 
 module _ (C : CatalogData) (rows : List Row) (o : OrdersData) (room : HaveOrders C o) (each : AreInOrder C rows o) where
   -- a place is one of a segment that there is

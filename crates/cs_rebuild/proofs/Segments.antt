@@ -21,7 +21,7 @@ use Rattle.cs_schema.specs.Lists.{IsIn, numbers_below}
 use Rattle.cs_schema.specs.Losses.{Sites, lost}
 use Rattle.cs_recovery.specs.Verdicts.{IsFirstBadFile, surviving_segments}
 use Rattle.cs_order.specs.Tables.{all_segments}
-use Rattle.cs_board.specs.Pieces.{IsLeastFault}
+use Rattle.cs_rebuild.specs.Rounds.{IsFirstFault}
 use Rattle.cs_rebuild.specs.Reading.{IsNameOf, FilesFaultAt}
 use Rattle.cs_rebuild.proofs.Names.{key_tail, tail_of}
 
@@ -111,12 +111,12 @@ segment_there C (FileName.Del p s) h = h
 segment_there C (FileName.Jix p s q) h = h.0
 
 -- the least bad file of the first segment with a bad file is the least bad file
-pub least_bad : (C : CatalogData) (F : FileContents) (L : Sites) (segs : List (ℕ × ℕ)) → segs ≡ surviving_segments C L → (count i : ℕ) (f : Fault) → IsLeastFault (FilesFaultAt C F segs) count i f → (n : FileName) × IsFirstBadFile C F L n f
-least_bad C F L segs all count i f h =
+pub least_bad : (C : CatalogData) (F : FileContents) (L : Sites) (segs : List (ℕ × ℕ)) → segs ≡ surviving_segments C L → (count : ℕ) (f : Fault) → IsFirstFault (FilesFaultAt C F segs) count f → (n : FileName) × IsFirstBadFile C F L n f
+least_bad C F L segs all count f h =
     let a = h.here.0 in
     let first = h.here.2 in
     let order : InOrder segs = subst InOrder (sym all) (survivors_in_order C L) in
-    let stays : lost C L a.0 a.1 ≡ false = (survivors_survive C L a (subst (IsIn a) all (in_at segs i a h.here.1))).1 in (
+    let stays : lost C L a.0 a.1 ≡ false = (survivors_survive C L a (subst (IsIn a) all (in_at segs h.at a h.here.1))).1 in (
       first.name,
       record {
         survives = (first.has, ap (λ p. lost C L p (segment_of first.name)) first.of.0 ∙ ap (λ s. lost C L a.0 s) first.of.1 ∙ stays);
@@ -126,8 +126,8 @@ least_bad C F L segs all count i f h =
             elim (before_or m first.name a first.of less) [
               | inl l ↦
                   let there : IsIn (projection_of m, segment_of m) segs = subst (IsIn (projection_of m, segment_of m)) (sym all) (in_survivors C L (projection_of m) (segment_of m) (segment_there C m has.0, has.1)) in
-                  let k = place_before segs order i a (projection_of m, segment_of m) h.here.1 there l in
-                  let sound = h.least k.0 k.1 in
+                  let k = place_before segs order h.at a (projection_of m, segment_of m) h.here.1 there l in
+                  let sound = h.before k.0 k.1 in
                   let same : sound.0 ≡ (projection_of m, segment_of m) = same_Some sound.0 (projection_of m, segment_of m) (sym sound.1 ∙ k.2) in
                   sound.2 m has.0 (ap (λ (z : ℕ × ℕ). z.0) (sym same), ap (λ (z : ℕ × ℕ). z.1) (sym same))
               | inr of ↦ first.before m has.0 of less

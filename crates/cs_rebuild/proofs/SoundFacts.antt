@@ -34,8 +34,8 @@ use Rattle.cs_recovery.proofs.Read.{layers}
 use Rattle.cs_recovery.proofs.RowKinds.{rows_keep_kinds}
 use Rattle.cs_recovery.proofs.Whole.{entries_file}
 use Rattle.cs_rebuild.specs.Encoding.{Rises, values_at}
-use Rattle.cs_rebuild.specs.Ground.{AreInOrder}
-use Rattle.cs_rebuild.specs.Steps.{AreSound}
+use Rattle.cs_rebuild.specs.StoreFacts.{AreInOrder}
+use Rattle.cs_rebuild.specs.Steps.{AreSound, HoldsTable}
 use Rattle.cs_rebuild.proofs.Counts.{none_twice}
 use Rattle.cs_rebuild.proofs.Rests.{all_from}
 
@@ -53,24 +53,25 @@ module _ (C : CatalogData) (p : ℕ) (rows : List Row) (j : ℕ) (below : j < le
   values_are [] = refl
   values_are (n ∷ ns) = ap (λ v. v ∷ map (λ x. cell x j) (map (project C p) (map (row_at rows) ns))) (kept_cell (row_at rows n)) ∙ ap (λ l. cell (row_at rows n) (slice_index (projection C p).columns j) ∷ l) (values_are ns)
 
+-- a sound store holds the table of its walked rows
 module _ (C : CatalogData) (cat : IsCatalog C) (F : FileContents) (L : Sites) (v : SurvivorsData) (w : WalkedData) (o : OrdersData) (sound : AreSound C F L v w o) where
+  none_full : full C (table_of C w.rows) ≡ None
+  none_full = second_none (twice C w.rows) (full C (table_of C w.rows)) sound.rows_sound
+
+  pub holds_table : HoldsTable C F L v w
+  holds_table = record {
+    table = table_of_rows C w.rows (walked_are_rows C F L (walk_keeps_kinds C cat F L) (rows_keep_kinds C cat F L) (contents_of v) sound.read.reads C.safety w.rows sound.walked.walk);
+    fits = full_fits C (table_of C w.rows) none_full;
+    reads = sound.read.reads;
+    same = judged_contents C cat L (contents_of v) w.rows (table_of C w.rows) (record { is = refl; once = none_twice C w.rows sound.rows_sound; full = none_full; misplaced = sound.placed; misled = sound.led });
+  }
+
+module _ (C : CatalogData) (cat : IsCatalog C) (F : FileContents) (L : Sites) (v : SurvivorsData) (w : WalkedData) (o : OrdersData) (sound : HoldsTable C F L v w) where
   abbrev T : List Row
   T = table_of C w.rows
 
-  pub table : IsTable C T
-  table = table_of_rows C w.rows (walked_are_rows C F L (walk_keeps_kinds C cat F L) (rows_keep_kinds C cat F L) (contents_of v) sound.read.reads C.safety w.rows sound.walked.walk)
-
-  none_full : full C T ≡ None
-  none_full = second_none (twice C w.rows) (full C T) sound.rows_sound
-
-  pub fits : Fits C T
-  fits = full_fits C T none_full
-
-  pub same : AreContentsOf C L (contents_of v) T
-  same = judged_contents C cat L (contents_of v) w.rows T (record { is = refl; once = none_twice C w.rows sound.rows_sound; full = none_full; misplaced = sound.placed; misled = sound.led })
-
   pub entries_are : (p s q : ℕ) → HasSegment C p s → q < length C.projections → IsJoinIndexFile p s q (join_index_text p s q (entries_for C L (contents_of v) T p s q)) (entries_for C L (contents_of v) T p s q)
-  entries_are p s q h k = entries_file C cat (layers C cat) F L (contents_of v) sound.read.reads T table fits same p s q h k
+  entries_are p s q h k = entries_file C cat (layers C cat) F L (contents_of v) sound.reads T sound.table sound.fits sound.same p s q h k
 
   module _ (p s : ℕ) (there : HasSegment C p s) (each : AreInOrder C w.rows o) where
     abbrev cells_of : ℕ → List Value
@@ -80,7 +81,7 @@ module _ (C : CatalogData) (cat : IsCatalog C) (F : FileContents) (L : Sites) (v
     column_values j l = ap (λ x. map (λ x. cell x j) (map (project C p) x)) (sym (each p s there.0)) ∙ values_are C p w.rows j l (numbers_in o p s)
 
     pub rises : (j : ℕ) → j < length (projection C p).columns → code_at C p j ≡ Code.Differences → (kind_at C p j ≡ Kind.Int) × Rises (values_at C p w.rows j (numbers_in o p s))
-    rises j l e = let r = never_falls C cat T table fits p s there j l e in (r.0, subst Rises (column_values j l) r.1)
+    rises j l e = let r = never_falls C cat T sound.table sound.fits p s there j l e in (r.0, subst Rises (column_values j l) r.1)
 
     -- pieces of all columns are those of the segment's base
     pub pieces_of_base : (pieces : List Piece) → length pieces ≡ length (projection C p).columns
@@ -90,11 +91,11 @@ module _ (C : CatalogData) (cat : IsCatalog C) (F : FileContents) (L : Sites) (v
         let xs : List (List Value) = map (project C p) (rows_of C T p s) in
         let P : ℕ → Piece → Type 0 = λ j piece. IsPieceOf piece (code_at C p j) (kind_at C p j) (base_column (base_of C p xs) j) in
         record {
-          base = base_is C cat T table fits p s there;
-          rows_are = count_is C cat T table fits p s there;
+          base = base_is C cat T sound.table sound.fits p s there;
+          rows_are = count_is C cat T sound.table sound.fits p s there;
           width = width ∙ sym (length-map-range_with_len (λ j. map (λ x. cell x j) xs) 0 (length (projection C p).columns));
           pieces_are = all_from P pieces 0 (λ j piece at.
               let l : j < length (projection C p).columns = subst (λ n. j < n) width (slice_get_within pieces j piece at) in
               let start : j ≡ 0 + j = omega arith in
-              subst (λ n. P n piece) start (subst (IsPieceOf piece (code_at C p j) (kind_at C p j)) (sym (column_is C cat T table fits p s there j l ∙ column_values j l)) (h j piece at)));
+              subst (λ n. P n piece) start (subst (IsPieceOf piece (code_at C p j) (kind_at C p j)) (sym (column_is C cat T sound.table sound.fits p s there j l ∙ column_values j l)) (h j piece at)));
         }

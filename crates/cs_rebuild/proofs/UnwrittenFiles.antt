@@ -18,9 +18,9 @@ use Rattle.cs_schema.proofs.Lists.{append_left, append_right, in_append, range_i
 use Rattle.cs_rows.specs.Walk.{Contents}
 use Rattle.cs_store.specs.FileSet.{Files}
 use Rattle.cs_recovery.specs.Expected.{written, is_segment, is_lost, is_affected}
-use Rattle.cs_rebuild.specs.declared.ground.Ground.{Ground}
+use Rattle.cs_rebuild.specs.declared.ordered_store.OrderedStore.{OrderedStore}
 use Rattle.cs_rebuild.specs.declared.unwritten.Unwritten.{Unwritten}
-use Rattle.cs_rebuild.specs.OnGround.{written_on}
+use Rattle.cs_rebuild.specs.OnStore.{written_on}
 use Rattle.cs_rebuild.specs.Unwritten.{IsToWrite, IsFileOf, name_of, base_names, if_affected, join_names, names_at, names_in, names_below}
 use Rattle.cs_rebuild.specs.Writing.{HasWritten, KeepsWritten}
 use Rattle.cs_rebuild.proofs.WrittenFiles.{kept_join, kept_base, kept_delta}
@@ -35,7 +35,7 @@ one_pushed f n old now new so_far e =
     e ∙ ap (λ l. l ++ f n) so_far ∙ append_assoc old (flat_map f (numbers_below n)) (f n) ∙ ap (λ l. old ++ l) (sym more)
 
 -- one file more
-module _ (g : Ground) (old new : List Unwritten) (file : Unwritten) (pushed : new ≡ old ++ file ∷ []) where
+module _ (g : OrderedStore) (old new : List Unwritten) (file : Unwritten) (pushed : new ≡ old ++ file ∷ []) where
   pub each_pushed : All (IsToWrite g) old → IsToWrite g file → All (IsToWrite g) new
   each_pushed each one = subst (All (IsToWrite g)) (sym pushed) (All-append (IsToWrite g) old (file ∷ []) each (All-cons (IsToWrite g) file [] one (All-nil (IsToWrite g))))
 
@@ -119,7 +119,7 @@ module _ {A X : Type 0} (R : A → X → Type 0) where
   each_there {E} items froms results (Ok v) zipped there = subst (AllZip R froms) (sym there.2) (all_ok E froms there.0 (subst (AllZip (λ a o. IfOk o (R a)) froms) there.1 zipped))
   each_there items froms results (Err x) zipped there = tt
 
-module _ {X : Type 0} (name : X → FileName) (text : X → List ℕ) (g : Ground) where
+module _ {X : Type 0} (name : X → FileName) (text : X → List ℕ) (g : OrderedStore) where
   abbrev pub IsFile : Unwritten → X → Type 0
   IsFile a x = IsFileOf g a (name x) (text x)
 

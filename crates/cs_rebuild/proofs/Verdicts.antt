@@ -26,8 +26,10 @@ use Rattle.cs_recovery.specs.Expected.{written}
 use Rattle.cs_recovery.specs.Verdicts.{IsVerdict, IsWalkedBy, IsRebuildVerdict, IsCheckVerdict, NamesItsSites, unless_refused, twice, full, misplaced, misled}
 use Rattle.cs_recovery.specs.Claims.{IsRebuildAnswer, IsCheckAnswer}
 use Rattle.cs_recovery.specs.Laws.{RebuildClauses, CheckClauses}
+use Rattle.cs_recovery.specs.TableAnswers.{Columns, IsTableAnswer, TableClauses}
 use Rattle.cs_recovery.proofs.Read.{layers}
 use Rattle.cs_recovery.proofs.Suffice.{rebuild_clauses, check_clauses}
+use Rattle.cs_recovery.proofs.TableClauses.{table_clauses}
 use Rattle.cs_rebuild.specs.Steps.{IsBadFile, IsStray, row_fault, AreSound, safety_refusal}
 
 -- what the exit of a `?` answers
@@ -35,13 +37,18 @@ pub passed : {T E : Type 0} (r : Result T E) (f : E) (Q : E → Type 0) → IsEr
 passed (Ok x) f Q h q = tt
 passed (Err e) f Q h q = subst Q (sym h) q
 
--- what is known of a ground is known of what it was made of
-pub on_ground : (X : CatalogData → Sites → SurvivorsData → WalkedData → Type 0) {C D : CatalogData} {L M : Sites} {v u : SurvivorsData} {w t : WalkedData} → D ≡ C → M ≡ L → u ≡ v → t ≡ w → X D M u t → X C L v w
-on_ground X {C} {D} {L} {M} {v} {u} {w} {t} a b d e h = subst (λ c. X c L v w) a (subst (λ l. X D l v w) b (subst (λ s. X D M s w) d (subst (λ r. X D M u r) e h)))
+-- what is known of a store is known of what it was made of
+pub on_store : (X : CatalogData → Sites → SurvivorsData → WalkedData → Type 0) {C D : CatalogData} {L M : Sites} {v u : SurvivorsData} {w t : WalkedData} → D ≡ C → M ≡ L → u ≡ v → t ≡ w → X D M u t → X C L v w
+on_store X {C} {D} {L} {M} {v} {u} {w} {t} a b d e h = subst (λ c. X c L v w) a (subst (λ l. X D l v w) b (subst (λ s. X D M s w) d (subst (λ r. X D M u r) e h)))
 
 pub memory_or : (f : Fault) {P Q : Type 0} → MemoryOr f P → (P → Q) → MemoryOr f Q
 memory_or f (inl m) g = inl m
 memory_or f (inr p) g = inr (g p)
+
+-- a fault that is none of a task
+pub only_memory : (f : Fault) {P : Type 0} → MemoryOr f P → (P → ⊥) → f ≡ Fault.Memory
+only_memory f (inl m) never = m
+only_memory f (inr p) never = absurd (never p)
 
 first_two : {X : Type 0} (a b c : Option X) (x : X) → option_or a b ≡ Some x → option_or a (option_or b c) ≡ Some x
 first_two (Some y) b c x e = e
@@ -129,3 +136,6 @@ rebuild_ends C cat F L sites r a = rebuild_clauses C cat (layers C cat) F L (is_
 
 pub check_ends : (C : CatalogData) → IsCatalog C → (F : FileContents) (k : ℕ) (r : Result ℕ Fault) → IsCheckAnswer C F k r → CheckClauses C F k r
 check_ends C cat F k r a = check_clauses C cat (layers C cat) F k r a
+
+pub table_ends : (C : CatalogData) → IsCatalog C → (F : FileContents) (L : Sites) → IsSites L → (r : Result Columns Fault) → IsTableAnswer C F L r → TableClauses C F L r
+table_ends C cat F L sites r a = table_clauses C cat (layers C cat) F L (is_loss C L sites) r a

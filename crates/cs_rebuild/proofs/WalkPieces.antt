@@ -5,11 +5,12 @@ use Rattle.std.specs.Option.{option_map, option_map_or}
 use Rattle.std.proofs.Math.Seq.{take-add}
 use Rattle.std.proofs.lemmas.List.{drop-take, take_all}
 use Rattle.std.proofs.lemmas.Option.{none-some, same_Some}
-use Rattle.cs_board.specs.Pieces.{IsLeastFault, AllSound, AnswersInOrder}
+use Rattle.cs_board.specs.Pieces.{AllSound, AnswersInOrder}
 use Rattle.cs_schema.specs.Rows.{Row}
 use Rattle.cs_store.specs.declared.fault.Fault.{Fault}
 use Rattle.cs_rows.specs.Walk.{Stray}
 use Rattle.cs_rows.specs.WalkedView.{WalkedData}
+use Rattle.cs_rebuild.specs.Rounds.{IsFirstFault}
 use Rattle.cs_rebuild.specs.Walking.{piece_of}
 use Rattle.cs_rebuild.proofs.Cuts.{first_piece, no_piece}
 
@@ -75,10 +76,10 @@ module _ {X : Type 0} (p : X → Rattle.std.proofs.Common.Bool) (e : X → Stray
     FaultAt i fault = fault ≡ option_map (λ x. fault_of (e x)) (find p (piece_of cut xs i))
 
     -- the first row that is astray, from the first piece that has one
-    pub first_astray : (count i : ℕ) (fault : Fault) → IsLeastFault FaultAt count i fault → (at : Stray) × (among xs ≡ Err at) × (fault ≡ fault_of at)
-    first_astray count i fault h =
-        let s = stray_in (find p (piece_of cut xs i)) fault h.here in
-        let first = first_piece p cut xs i s.0 s.1 (λ k l. none_in (find p (piece_of cut xs k)) (h.least k l)) in
+    pub first_astray : (count : ℕ) (fault : Fault) → IsFirstFault FaultAt count fault → (at : Stray) × (among xs ≡ Err at) × (fault ≡ fault_of at)
+    first_astray count fault h =
+        let s = stray_in (find p (piece_of cut xs h.at)) fault h.here in
+        let first = first_piece p cut xs h.at s.0 s.1 (λ k l. none_in (find p (piece_of cut xs k)) (h.before k l)) in
         (e s.0, ap (λ o. option_map_or (λ x. Err (e x)) o (Ok (f xs))) first, s.2)
 
     module _ (none : f [] ≡ []) (join : (ys zs : List X) → f (ys ++ zs) ≡ f ys ++ f zs) where

@@ -1,5 +1,6 @@
+pub mod Building
 pub mod Encoding
-pub mod Ground
+pub mod StoreFacts
 pub mod Comparing
 pub mod Verifying
 pub mod Walking
@@ -7,6 +8,7 @@ pub mod WorkLaws
 pub mod Steps
 pub mod Surveys
 pub mod Reading
+pub mod Rounds
 pub mod Writing
 pub mod Unwritten
-pub mod OnGround
+pub mod OnStore

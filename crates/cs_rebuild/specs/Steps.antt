@@ -1,37 +1,23 @@
 -- What each step of a recovery finds.
-use Rattle.std.specs.Prelude.{◌≡◌, ◌<◌, ◌^◌, Bool, true, false, List, map, Option, None, Ok, Err, length}
+use Rattle.std.specs.Prelude.{◌≡◌, ◌<◌, ◌^◌, List, map, Option, None, Ok, Err, length}
 use Rattle.std.specs.Option.{option_or}
 use Rattle.cs_schema.specs.declared.file_name.FileName.{FileName}
 use Rattle.cs_schema.specs.CatalogData.{CatalogData}
 use Rattle.cs_schema.specs.FileNames.{FileContents}
 use Rattle.cs_schema.specs.Losses.{Sites}
-use Rattle.cs_schema.specs.Rows.{Row}
+use Rattle.cs_schema.specs.Order.{Fits}
+use Rattle.cs_schema.specs.Rows.{Row, IsTable}
 use Rattle.cs_store.specs.declared.fault.Fault.{Fault}
 use Rattle.cs_safety.specs.declared.ksafety.SafetyFault.{SafetyFault}
 use Rattle.cs_rows.specs.Walk.{Contents, Stray}
 use Rattle.cs_rows.specs.Survivors.{SurvivorsData, HasRoom, HoldsImages, contents_of}
 use Rattle.cs_rows.specs.WalkedView.{WalkedData}
-use Rattle.cs_rebuild.specs.Ground.{AreImagesThere, AreJoinsThere}
+use Rattle.cs_rebuild.specs.StoreFacts.{AreImagesThere, AreJoinsThere}
 use Rattle.cs_order.specs.Orders.{OrdersData, AreOrdersOf}
 use Rattle.cs_recovery.specs.Contents.{Reads}
+use Rattle.cs_recovery.specs.Holding.{AreContentsOf}
 use Rattle.cs_order.specs.Tables.{table_of}
 use Rattle.cs_recovery.specs.Verdicts.{IsFirstBadFile, IsWalkedBy, twice, full, misplaced, misled}
-
--- want of memory, as a test
-abbrev pub is_memory : Fault → Bool
-is_memory Fault.Memory = true
-is_memory Fault.Site = false
-is_memory Fault.BadK = false
-is_memory (Fault.Unsafe L) = false
-is_memory (Fault.Missing n) = false
-is_memory (Fault.Damaged n) = false
-is_memory (Fault.Astray p s row) = false
-is_memory Fault.Twice = false
-is_memory (Fault.Full p s) = false
-is_memory (Fault.Misplaced p s) = false
-is_memory (Fault.Misled p s q) = false
-is_memory (Fault.Read n) = false
-is_memory (Fault.Write n) = false
 
 -- the fault of the least bad file
 abbrev pub IsBadFile : CatalogData → FileContents → Sites → Fault → Type 0
@@ -67,6 +53,13 @@ pub record AreSound (C : CatalogData) (F : FileContents) (L : Sites) (v : Surviv
   pub placed : misplaced C L (contents_of v) (table_of C w.rows) ≡ None
   pub led : misled C L (contents_of v) (table_of C w.rows) ≡ None
   pub orders : AreOrdersOf C w.rows o
+
+-- The rows of a table, of which the files that survive a loss hold what they have to.
+pub record HoldsTable (C : CatalogData) (F : FileContents) (L : Sites) (v : SurvivorsData) (w : WalkedData) : Type 0 where
+  pub table : IsTable C (table_of C w.rows)
+  pub fits : Fits C (table_of C w.rows)
+  pub reads : Reads C F L (contents_of v)
+  pub same : AreContentsOf C L (contents_of v) (table_of C w.rows)
 
 -- how a catalog that is not safe is refused
 abbrev pub safety_refusal : SafetyFault → Fault

@@ -10,8 +10,8 @@ use Rattle.cs_schema.specs.Rows.{project}
 use Rattle.cs_segment.specs.SegmentFile.{base_of}
 use Rattle.cs_segment.specs.SegmentPieces.{ArePiecesOf}
 use Rattle.cs_recovery.specs.Expected.{is_affected}
-use Rattle.cs_rebuild.specs.OnGround.{table_on, written_on}
-use Rattle.cs_rebuild.specs.declared.ground.Ground.{Ground}
+use Rattle.cs_rebuild.specs.OnStore.{table_on, written_on}
+use Rattle.cs_rebuild.specs.declared.ordered_store.OrderedStore.{OrderedStore}
 use Rattle.cs_rebuild.specs.declared.unwritten.Unwritten.{Unwritten}
 
 abbrev pub name_of : Unwritten → FileName
@@ -57,16 +57,16 @@ pub record IsAffectedJoin (C : CatalogData) (L : Sites) (p s q : ℕ) : Type 0 w
   pub target : q < length C.projections
   pub affected : is_affected C L p s q ≡ true
 
-abbrev pub IsMadeFrom : Ground → Unwritten → Type 0
+abbrev pub IsMadeFrom : OrderedStore → Unwritten → Type 0
 IsMadeFrom g (Unwritten.Segment p s columns) = IsLostSegment g.catalog.now g.loss p s × ArePiecesOf g.catalog.now p (length (rows_of g.catalog.now (table_on g) p s)) columns.items (base_of g.catalog.now p (map (project g.catalog.now p) (rows_of g.catalog.now (table_on g) p s)))
 IsMadeFrom g (Unwritten.Delta p s) = IsLostSegment g.catalog.now g.loss p s
 IsMadeFrom g (Unwritten.Join p s q) = IsAffectedJoin g.catalog.now g.loss p s q
 
 -- the file has to be written, and this is what it is made from
-pub record IsToWrite (g : Ground) (file : Unwritten) : Type 0 where
+pub record IsToWrite (g : OrderedStore) (file : Unwritten) : Type 0 where
   pub from : IsMadeFrom g file
 
 -- these are its name and its text
-pub record IsFileOf (g : Ground) (file : Unwritten) (name : FileName) (bytes : List ℕ) : Type 0 where
+pub record IsFileOf (g : OrderedStore) (file : Unwritten) (name : FileName) (bytes : List ℕ) : Type 0 where
   pub name_is : name ≡ name_of file
   pub text_is : written_on g name ≡ Some bytes

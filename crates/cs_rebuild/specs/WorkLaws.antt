@@ -18,7 +18,6 @@ use Rattle.cs_rows.specs.WalkByRows.{Reached}
 use Rattle.cs_safety.specs.PlanData.{PlanData}
 use Rattle.cs_recovery.specs.Tables.{when}
 use Rattle.cs_recovery.specs.Verdicts.{FileFault}
-use Rattle.cs_rebuild.specs.Steps.{is_memory}
 use Rattle.cs_rebuild.specs.Reading.{IsFilesFault, IsFirstBadOf, FilesFaultAt}
 use Rattle.cs_rebuild.specs.Walking.{stray_fault, stray_row_fault}
 use Rattle.cs_rebuild.specs.Verifying.{is_misplaced, misplaced_at, is_misled, misled_at}
@@ -27,18 +26,7 @@ use Rattle.cs_rebuild.specs.Verifying.{is_misplaced, misplaced_at, is_misled, mi
 pub one_value : {X : Type 0} (o f g : X) → f ≡ o → g ≡ o → f ≡ g
 one_value o f g a b = a ∙ sym b
 
--- a piece that has no fault
-pub no_fault_is_memory : (f : Fault) → Some f ≡ None → is_memory f ≡ false
-no_fault_is_memory f e = absurd (none-some f (sym e))
-
 -- ---- files
-
-no_memory : (F : FileContents) (n : FileName) (f : Fault) → FileFault F n f → is_memory f ≡ false
-no_memory F n f (inl h) = ap is_memory h.1
-no_memory F n f (inr h) = ap is_memory h.1
-
-pub refused_is_no_memory : (C : CatalogData) (F : FileContents) (a : ℕ × ℕ) (f : Fault) → IsFilesFault C F a (Some f) → is_memory f ≡ false
-refused_is_no_memory C F a f h = no_memory F h.name f h.refused.1
 
 one_file_fault : (F : FileContents) (n : FileName) (f g : Fault) → FileFault F n f → FileFault F n g → f ≡ g
 one_file_fault F n f g (inl h) (inl k) = h.1 ∙ sym k.1
@@ -68,24 +56,4 @@ one_files_fault C F segments i f g h k = one_of C F k.0 f g (subst (λ a. IsFile
 
 -- ---- walks
 
-pub stray_is_no_memory : (P : PlanData) (o : Option At) (f : Fault) → Some f ≡ option_map (stray_fault P) o → is_memory f ≡ false
-stray_is_no_memory P None f e = absurd (none-some f (sym e))
-stray_is_no_memory P (Some at) f e = ap is_memory (same_Some f (stray_fault P at) e)
-
-pub stray_row_is_no_memory : (o : Option Reached) (f : Fault) → Some f ≡ option_map stray_row_fault o → is_memory f ≡ false
-stray_row_is_no_memory None f e = absurd (none-some f (sym e))
-stray_row_is_no_memory (Some x) f e = ap is_memory (same_Some f (stray_row_fault x) e)
-
 -- ---- comparisons
-
-when_no_memory : (b : Bool) (f g : Fault) → Some f ≡ when b g → is_memory g ≡ false → is_memory f ≡ false
-when_no_memory true f g e h = subst (λ x. is_memory x ≡ false) (sym (same_Some f g e)) h
-when_no_memory false f g e h = absurd (none-some f (sym e))
-
-pub misplaced_is_no_memory : (C : CatalogData) (S : Contents) (T : List Row) (o : Option (ℕ × ℕ)) (f : Fault) → Some f ≡ option_and_then (misplaced_at C S T) o → is_memory f ≡ false
-misplaced_is_no_memory C S T None f e = absurd (none-some f (sym e))
-misplaced_is_no_memory C S T (Some a) f e = when_no_memory (is_misplaced C S T a) f (Fault.Misplaced a.0 a.1) e refl
-
-pub misled_is_no_memory : (C : CatalogData) (L : Sites) (S : Contents) (T : List Row) (o : Option (ℕ × ℕ × ℕ)) (f : Fault) → Some f ≡ option_and_then (misled_at C L S T) o → is_memory f ≡ false
-misled_is_no_memory C L S T None f e = absurd (none-some f (sym e))
-misled_is_no_memory C L S T (Some a) f e = when_no_memory (is_misled C L S T a) f (Fault.Misled a.0 a.1 a.2) e refl

@@ -10,13 +10,13 @@ ghost use Rattle.cs_rows.specs.Range.{IsPlanOf, ReadsAnchorAlone};
 ghost use Rattle.cs_rows.specs.RowSteps.{AreRows};
 ghost use Rattle.cs_rows.specs.TableView.{over};
 ghost use Rattle.cs_rows.specs.Walk.{Stray, projection_rows, walked, walked_row};
-ghost use Rattle.cs_rebuild.specs.Steps.{is_memory};
 ghost use Rattle.cs_rebuild.specs.Walking.{AreAnchorColumns, HasTableKinds, IsAnchorColumn, WalkFaultAt};
-ghost use Rattle.cs_rebuild.specs.WorkLaws.{stray_is_no_memory, one_value};
+ghost use Rattle.cs_rebuild.specs.WorkLaws.{one_value};
 
-use crate::crew::Crew;
 use crate::lending::{column_count, lent_columns};
-use cs_board::{Gate, RunFault, Work, run};
+use crate::rounds::Tasks;
+use crate::run::Run;
+use cs_board::{Gate, Round};
 use cs_rows::range::WalkFault;
 use cs_rows::whole::{anchor_column, follow_range};
 use cs_rows::{Lent, Survivors, Table};
@@ -42,24 +42,20 @@ struct FollowWork<'a> {
     ghost cut_range: { cut ≤ 1048576 },
 }
 
-impl Work for FollowWork<'_> {
+impl Tasks for FollowWork<'_> {
     type Out = ();
 
-    type Fault = Fault;
-
-    ghost pieces = { λ work. work.pieces };
+    ghost tasks = { λ work. work.pieces };
 
     ghost fault_at = { λ work i fault. WalkFaultAt work.catalog.now (contents_of work.survivors.now) work.plan.now work.cut i fault };
 
     ghost answers = { λ work i out. Unit {0} };
 
-    ghost of_memory = { is_memory };
-
     fn count(&self) -> u32 {
         self.pieces
     }
 
-    fn piece(&self, i: u32) -> Result<(), Fault> {
+    fn task(&self, i: u32) -> Result<(), Fault> {
         let _rules = self.catalog.projection_count();
         let from = i as usize * self.cut as usize;
         let to = from + self.cut as usize;
@@ -76,17 +72,6 @@ impl Work for FollowWork<'_> {
             Err(WalkFault::Astray { p, s, row }) => Err(Fault::Astray { p, s, row }),
         }
     }
-
-    fn is_memory(fault: &Fault) -> bool
-        ensures { result ≡ is_memory fault.now }
-    {
-        match fault {
-            Fault::Memory => true,
-            _ => false,
-        }
-    }
-
-    ghost never_memory = { λ work i fault below at. stray_is_no_memory work.plan.now _ fault at };
 
     ghost one_fault = { λ work i f g below a b. one_value _ f g a b };
 }
@@ -175,7 +160,7 @@ fn anchor_table<'a, R: Threads + Sync>(
 /// The anchor's rows in the table's columns, where the plan reads each at the anchor. The gate is entered for each of the
 /// pieces, in which the rows are followed.
 pub fn walk_anchored<'a, R: Threads + Sync, G: Gate + Sync>(
-    crew: &Crew<'_, '_, R, G>,
+    run: &Run<'_, R, G>,
     catalog: &Catalog,
     plan: &Plan,
     survivors: &'a Survivors,
@@ -185,25 +170,24 @@ pub fn walk_anchored<'a, R: Threads + Sync, G: Gate + Sync>(
     requires room { HasRoom catalog.now survivors.now }
     requires made { HoldsImages catalog.now survivors.now }
     requires read { ReadsAnchorAlone catalog.now plan.now }
-    requires pieces { length (projection_rows catalog.now (contents_of survivors.now) plan.now.anchor) ≤ pieces * crew.now.cut }
+    requires pieces { length (projection_rows catalog.now (contents_of survivors.now) plan.now.anchor) ≤ pieces * run.now.cut }
     ensures kinds { IfOk result (HasTableKinds catalog.now) }
     ensures rows { IfOk result (λ rows. walked catalog.now (contents_of survivors.now) plan.now ≡ Ok rows.rows) }
     ensures err { IfErr result (λ fault. MemoryOr fault ((at : Stray) × (walked catalog.now (contents_of survivors.now) plan.now ≡ Err at) × (fault ≡ FaultData.Astray at.0 at.1 at.2))) }
 {
     let work = FollowWork {
-        alloc: crew.alloc,
+        alloc: run.alloc,
         catalog,
         plan,
         survivors,
-        cut: crew.cut,
+        cut: run.cut,
         pieces,
     };
-    match run(crew.rt, crew.alloc, crew.workers, &work, crew.gate) {
-        Ok(_done) => match anchor_table(crew.rt, crew.alloc, catalog, plan, survivors) {
+    match run.round(Round::Walk, &work) {
+        Ok(_done) => match anchor_table(run.rt, run.alloc, catalog, plan, survivors) {
             Ok(table) => Ok(table),
             Err(_) => Err(Fault::Memory),
         },
-        Err(RunFault::Memory) => Err(Fault::Memory),
-        Err(RunFault::At(_, fault)) => Err(fault),
+        Err(fault) => Err(fault),
     }
 }

@@ -1,9 +1,12 @@
-//! The columns of a projection, as columns of the table.
-ghost use Rattle.std.specs.Prelude.{◌≡◌, ◌<◌, length, slice_index};
+//! The columns of a projection, as columns of the table, and copies of cells.
+ghost use Rattle.std.specs.Prelude.{◌≡◌, ◌<◌, ℕ, IfOk, length, map, slice_index};
 ghost use Rattle.cs_schema.specs.CatalogData.{projection};
 ghost use Rattle.cs_schema.specs.CatalogRules.{IsCatalog};
+ghost use Rattle.cs_schema.specs.Rows.{cell};
+ghost use Rattle.cs_schema.specs.Values.{kind_of, values};
 
-use cs_schema::Catalog;
+use cs_schema::{Catalog, Cells};
+use std::alloc::{AllocError, Global};
 
 fn column_number(catalog: &Catalog, p: u16, j: usize) -> u8
     requires projection { p < length catalog.now.projections }
@@ -31,4 +34,18 @@ pub fn table_column(catalog: &Catalog, p: u16, j: usize) -> usize
 {
     let _rules = catalog.projection_count();
     column_number(catalog, p, j) as usize
+}
+
+/// Copies of the cells of a column at some places, in their order.
+pub fn cells_at(alloc: Global, column: &Cells, numbers: &[u32]) -> Result<Cells, AllocError>
+    requires { (k : ℕ) → k < length numbers.now → slice_index numbers.now k < length (values column.now) }
+    ensures kind { IfOk result (λ cells. kind_of cells ≡ kind_of column.now) }
+    ensures cells { IfOk result (λ cells. values cells ≡ map (cell (values column.now)) numbers.now) }
+{
+    let mut cells = Cells::new(alloc, column.kind());
+    cells.reserve(numbers.len())?;
+    for k in 0..numbers.len() {
+        cells.push_cell(column, numbers[k] as usize)?;
+    }
+    Ok(cells)
 }

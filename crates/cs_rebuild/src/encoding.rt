@@ -11,15 +11,15 @@ ghost use Rattle.cs_piece.specs.Pieces.{IsPieceOf};
 ghost use Rattle.cs_segment.specs.SegmentFile.{base_of};
 ghost use Rattle.cs_segment.specs.SegmentPieces.{ArePiecesOf};
 ghost use Rattle.cs_store.specs.declared.fault.Fault.{Fault as FaultData};
-ghost use Rattle.cs_rebuild.specs.Steps.{is_memory};
 ghost use Rattle.cs_rebuild.specs.Encoding.{pieces_of, values_at, cut_at, Rises, EncodeAnswerAt};
-ghost use Rattle.cs_rebuild.specs.WorkLaws.{no_fault_is_memory, one_value};
-ghost use Rattle.cs_rebuild.specs.OnGround.{IsSound, table_on};
+ghost use Rattle.cs_rebuild.specs.WorkLaws.{one_value};
+ghost use Rattle.cs_rebuild.specs.OnStore.{IsSound, table_on};
 
-use crate::columns::table_column;
-use crate::crew::Crew;
-use crate::ground::Ground;
-use cs_board::{Gate, RunFault, Work, run};
+use crate::columns::{cells_at, table_column};
+use crate::ordered_store::OrderedStore;
+use crate::rounds::Tasks;
+use crate::run::Run;
+use cs_board::{Gate, Round};
 use cs_piece::{Piece, encode_piece, join_pieces};
 use cs_schema::{Cells, Kind};
 use cs_store::Fault;
@@ -40,20 +40,6 @@ pub fn pieces_in(rows: usize, cut: u32) -> u32
     ((rows + cut as usize - 1) / cut as usize) as u32
 }
 
-/// Copies of the cells of a column at some places, in their order.
-fn cells_at(alloc: Global, column: &Cells, numbers: &[u32]) -> Result<Cells, AllocError>
-    requires { (k : ℕ) → k < length numbers.now → slice_index numbers.now k < length (values column.now) }
-    ensures kind { IfOk result (λ cells. kind_of cells ≡ kind_of column.now) }
-    ensures cells { IfOk result (λ cells. values cells ≡ map (cell (values column.now)) numbers.now) }
-{
-    let mut cells = Cells::new(alloc, column.kind());
-    cells.reserve(numbers.len())?;
-    for k in 0..numbers.len() {
-        cells.push_cell(column, numbers[k] as usize)?;
-    }
-    Ok(cells)
-}
-
 /// The numbers of the k-th piece of `cut` numbers.
 fn cut_of(numbers: &[u32], cut: u32, k: u32) -> &[u32]
     requires { cut ≤ 1048576 }
@@ -67,21 +53,21 @@ fn cut_of(numbers: &[u32], cut: u32, k: u32) -> &[u32]
 /// Encodes copies of the cells of a projection's column at some walked rows.
 fn encode_copies(
     alloc: Global,
-    ground: &Ground<'_, '_>,
+    store: &OrderedStore<'_>,
     p: u16,
     j: usize,
     numbers: &[u32],
 ) -> Result<Piece, AllocError>
-    requires projection { p < length ground.now.catalog.now.projections }
-    requires column { j < length (projection ground.now.catalog.now p).columns }
-    requires below { (k : ℕ) → k < length numbers.now → slice_index numbers.now k < length ground.now.walked.now.rows }
+    requires projection { p < length store.now.catalog.now.projections }
+    requires column { j < length (projection store.now.catalog.now p).columns }
+    requires below { (k : ℕ) → k < length numbers.now → slice_index numbers.now k < length store.now.walked.rows }
     requires few { length numbers.now ≤ row_limit }
-    requires order { FitsCode (code_at ground.now.catalog.now p j) (kind_at ground.now.catalog.now p j) (values_at ground.now.catalog.now p ground.now.walked.now.rows j numbers.now) }
-    ensures { IfOk result (λ piece. IsPieceOf piece (code_at ground.now.catalog.now p j) (kind_at ground.now.catalog.now p j) (values_at ground.now.catalog.now p ground.now.walked.now.rows j numbers.now)) }
+    requires order { FitsCode (code_at store.now.catalog.now p j) (kind_at store.now.catalog.now p j) (values_at store.now.catalog.now p store.now.walked.rows j numbers.now) }
+    ensures { IfOk result (λ piece. IsPieceOf piece (code_at store.now.catalog.now p j) (kind_at store.now.catalog.now p j) (values_at store.now.catalog.now p store.now.walked.rows j numbers.now)) }
 {
-    let column = ground.walked.column(table_column(ground.catalog, p, j));
+    let column = store.walked.column(table_column(store.catalog, p, j));
     let cells = cells_at(alloc, column, numbers)?;
-    encode_piece(alloc, ground.catalog.code(p, j), &cells)
+    encode_piece(alloc, store.catalog.code(p, j), &cells)
 }
 
 /// How many cells are copied at a time to be encoded. Texts are long: so few of them stay in a processor's nearest caches.
@@ -97,25 +83,25 @@ fn cells_at_once(kind: Kind) -> u32
 /// Encodes the cells of a projection's column at some walked rows.
 fn encode_rows(
     alloc: Global,
-    ground: &Ground<'_, '_>,
+    store: &OrderedStore<'_>,
     p: u16,
     j: usize,
     numbers: &[u32],
 ) -> Result<Piece, AllocError>
-    requires projection { p < length ground.now.catalog.now.projections }
-    requires column { j < length (projection ground.now.catalog.now p).columns }
-    requires below { (k : ℕ) → k < length numbers.now → slice_index numbers.now k < length ground.now.walked.now.rows }
+    requires projection { p < length store.now.catalog.now.projections }
+    requires column { j < length (projection store.now.catalog.now p).columns }
+    requires below { (k : ℕ) → k < length numbers.now → slice_index numbers.now k < length store.now.walked.rows }
     requires few { length numbers.now ≤ row_limit }
-    requires rises { code_at ground.now.catalog.now p j ≡ CodeData.Differences → (kind_at ground.now.catalog.now p j ≡ KindData.Int) × Rises (values_at ground.now.catalog.now p ground.now.walked.now.rows j numbers.now) }
-    ensures { IfOk result (λ piece. IsPieceOf piece (code_at ground.now.catalog.now p j) (kind_at ground.now.catalog.now p j) (values_at ground.now.catalog.now p ground.now.walked.now.rows j numbers.now)) }
+    requires rises { code_at store.now.catalog.now p j ≡ CodeData.Differences → (kind_at store.now.catalog.now p j ≡ KindData.Int) × Rises (values_at store.now.catalog.now p store.now.walked.rows j numbers.now) }
+    ensures { IfOk result (λ piece. IsPieceOf piece (code_at store.now.catalog.now p j) (kind_at store.now.catalog.now p j) (values_at store.now.catalog.now p store.now.walked.rows j numbers.now)) }
 {
-    let few = cells_at_once(ground.catalog.column_kind(p, j));
+    let few = cells_at_once(store.catalog.column_kind(p, j));
     let parts = pieces_in(numbers.len(), few);
-    let mut column = encode_copies(alloc, ground, p, j, cut_of(numbers, few, 0))?;
+    let mut column = encode_copies(alloc, store, p, j, cut_of(numbers, few, 0))?;
     // the others are about as long
     column.reserve(parts - 1)?;
     for k in 1..parts {
-        let piece = encode_copies(alloc, ground, p, j, cut_of(numbers, few, k))?;
+        let piece = encode_copies(alloc, store, p, j, cut_of(numbers, few, k))?;
         column = join_pieces(column, piece)?;
     }
     Ok(column)
@@ -125,91 +111,75 @@ fn encode_rows(
 #[derive(Drop)]
 pub struct EncodeWork<'a> {
     pub alloc: Global,
-    pub ground: &'a Ground<'a, 'a>,
+    pub store: &'a OrderedStore<'a>,
     pub p: u16,
     pub numbers: &'a [u32],
     pub cut: u32,
     pub per: u32,
     pub pieces: u32,
-    pub ghost exists: { p < length ground.now.catalog.now.projections },
+    pub ghost exists: { p < length store.now.catalog.now.projections },
     pub ghost cut_range: { (1 ≤ cut) × (cut ≤ 1048576) },
     pub ghost per_is: { per ≡ pieces_of (length numbers.now) cut },
     pub ghost some: { 1 ≤ per },
-    pub ghost pieces_are: { pieces ≡ length (projection ground.now.catalog.now p).columns * per },
-    pub ghost below: { (k : ℕ) → k < length numbers.now → slice_index numbers.now k < length ground.now.walked.now.rows },
+    pub ghost pieces_are: { pieces ≡ length (projection store.now.catalog.now p).columns * per },
+    pub ghost below: { (k : ℕ) → k < length numbers.now → slice_index numbers.now k < length store.now.walked.rows },
     pub ghost few: { length numbers.now ≤ row_limit },
-    pub ghost rises: { (j : ℕ) → j < length (projection ground.now.catalog.now p).columns → code_at ground.now.catalog.now p j ≡ CodeData.Differences → (kind_at ground.now.catalog.now p j ≡ KindData.Int) × Rises (values_at ground.now.catalog.now p ground.now.walked.now.rows j numbers.now) },
+    pub ghost rises: { (j : ℕ) → j < length (projection store.now.catalog.now p).columns → code_at store.now.catalog.now p j ≡ CodeData.Differences → (kind_at store.now.catalog.now p j ≡ KindData.Int) × Rises (values_at store.now.catalog.now p store.now.walked.rows j numbers.now) },
 }
 
-impl Work for EncodeWork<'_> {
+impl Tasks for EncodeWork<'_> {
     type Out = Piece;
 
-    type Fault = Fault;
-
-    ghost pieces = { λ work. work.pieces };
+    ghost tasks = { λ work. work.pieces };
 
     ghost fault_at = { λ work i fault. fault ≡ None };
 
-    ghost answers = { λ work i out. EncodeAnswerAt work.ground.now.catalog.now work.p work.ground.now.walked.now.rows work.numbers.now work.cut i out };
-
-    ghost of_memory = { is_memory };
+    ghost answers = { λ work i out. EncodeAnswerAt work.store.now.catalog.now work.p work.store.now.walked.rows work.numbers.now work.cut i out };
 
     fn count(&self) -> u32 {
         self.pieces
     }
 
-    fn piece(&self, i: u32) -> Result<Piece, Fault> {
+    fn task(&self, i: u32) -> Result<Piece, Fault> {
         let j = (i / self.per) as usize;
         let numbers = cut_of(self.numbers, self.cut, i % self.per);
-        match encode_rows(self.alloc, self.ground, self.p, j, numbers) {
+        match encode_rows(self.alloc, self.store, self.p, j, numbers) {
             Ok(piece) => Ok(piece),
             Err(_) => Err(Fault::Memory),
         }
     }
 
-    fn is_memory(fault: &Fault) -> bool
-        ensures { result ≡ is_memory fault.now }
-    {
-        match fault {
-            Fault::Memory => true,
-            _ => false,
-        }
-    }
-
-    ghost never_memory = { λ work i fault below at. no_fault_is_memory fault at };
-
     ghost one_fault = { λ work i f g below a b. one_value None f g a b };
 }
 
-/// The columns of a lost segment, as the table has them, encoded in pieces by the crew.
+/// The columns of a lost segment, as the table has them, encoded in pieces by the run.
 pub fn encode_columns<R: Threads + Sync, G: Gate + Sync>(
-    crew: &Crew<'_, '_, R, G>,
-    ground: &Ground<'_, '_>,
+    run: &Run<'_, R, G>,
+    store: &OrderedStore<'_>,
     p: u16,
     s: u16,
 ) -> Result<Vec<Piece>, Fault>
-    requires segment { HasSegment ground.now.catalog.now p s }
-    requires sound { IsSound ground.now }
-    ensures ok { IfOk result (λ pieces. ArePiecesOf ground.now.catalog.now p (length (rows_of ground.now.catalog.now (table_on ground.now) p s)) pieces.items (base_of ground.now.catalog.now p (map (project ground.now.catalog.now p) (rows_of ground.now.catalog.now (table_on ground.now) p s)))) }
+    requires segment { HasSegment store.now.catalog.now p s }
+    requires sound { IsSound store.now }
+    ensures ok { IfOk result (λ pieces. ArePiecesOf store.now.catalog.now p (length (rows_of store.now.catalog.now (table_on store.now) p s)) pieces.items (base_of store.now.catalog.now p (map (project store.now.catalog.now p) (rows_of store.now.catalog.now (table_on store.now) p s)))) }
     ensures err { IfErr result (λ fault. fault ≡ FaultData.Memory) }
 {
-    let numbers = ground.orders.segment(p, s);
-    let per = pieces_in(numbers.len(), crew.cut);
+    let numbers = store.orders.segment(p, s);
+    let per = pieces_in(numbers.len(), run.cut);
     let work = EncodeWork {
-        alloc: crew.alloc,
-        ground,
+        alloc: run.alloc,
+        store,
         p,
         numbers,
-        cut: crew.cut,
+        cut: run.cut,
         per,
-        pieces: ground.catalog.width(p) as u32 * per,
+        pieces: store.catalog.width(p) as u32 * per,
     };
-    match run(crew.rt, crew.alloc, crew.workers, &work, crew.gate) {
+    match run.round(Round::Columns, &work) {
         Ok(pieces) => match work.join_columns(pieces) {
             Ok(columns) => Ok(columns),
             Err(_) => Err(Fault::Memory),
         },
-        Err(RunFault::Memory) => Err(Fault::Memory),
-        Err(RunFault::At(_, fault)) => Err(fault),
+        Err(fault) => Err(fault),
     }
 }

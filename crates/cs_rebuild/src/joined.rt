@@ -12,15 +12,15 @@ ghost use Rattle.cs_store.specs.Fault.{MemoryOr};
 ghost use Rattle.cs_recovery.specs.Holding.{agrees};
 ghost use Rattle.cs_recovery.specs.Places.{entries_for};
 ghost use Rattle.cs_recovery.specs.Verdicts.{surviving_joins, misled};
-ghost use Rattle.cs_rebuild.specs.Steps.{is_memory};
 ghost use Rattle.cs_rebuild.specs.Verifying.{JoinedFaultAt, is_misled, misled_at, raw_entry};
-ghost use Rattle.cs_rebuild.specs.WorkLaws.{misled_is_no_memory, one_value};
-ghost use Rattle.cs_rebuild.specs.OnGround.{held_on, table_on};
+ghost use Rattle.cs_rebuild.specs.WorkLaws.{one_value};
+ghost use Rattle.cs_rebuild.specs.OnStore.{held_on, table_on};
 
-use crate::crew::Crew;
-use crate::ground::Ground;
+use crate::ordered_store::OrderedStore;
 use crate::places::Entries;
-use cs_board::{Gate, RunFault, Work, run};
+use crate::rounds::Tasks;
+use crate::run::Run;
+use cs_board::{Gate, Round};
 use cs_jix::JoinIndex;
 use cs_schema::{Catalog, Loss};
 use cs_store::Fault;
@@ -53,26 +53,20 @@ fn agrees(catalog: &Catalog, loss: Loss, q: u16, entry: (u16, u32), place: (u16,
 }
 
 /// Whether a join index of a segment has the expected entries.
-fn leads(ground: &Ground<'_, '_>, p: u16, s: u16, q: u16, join: &JoinIndex) -> bool
-    requires survives { Survives ground.now.catalog.now ground.now.loss (NameData.Jix p s q) }
-    requires target { q < length ground.now.catalog.now.projections }
+fn leads(store: &OrderedStore<'_>, p: u16, s: u16, q: u16, join: &JoinIndex) -> bool
+    requires survives { Survives store.now.catalog.now store.now.loss (NameData.Jix p s q) }
+    requires target { q < length store.now.catalog.now.projections }
     requires entries { (e : Place) → IsIn e join.now → e.1 ≡ 0 → e.0 ≡ 0 }
-    ensures { result ≡ pointwise (agrees ground.now.catalog.now ground.now.loss q) join.now (entries_for ground.now.catalog.now ground.now.loss (held_on ground.now) (table_on ground.now) p s q) }
+    ensures { result ≡ pointwise (agrees store.now.catalog.now store.now.loss q) join.now (entries_for store.now.catalog.now store.now.loss (held_on store.now) (table_on store.now) p s q) }
 {
-    let entries = Entries::new(ground, p, s, q);
+    let entries = Entries::new(store, p, s, q);
     let top = entries.top();
     if join.top() != top {
         return false;
     }
     for i in 0..top {
         let place = entries.at(i + 1);
-        if !agrees(
-            ground.catalog,
-            ground.loss,
-            q,
-            raw_entry(join, i + 1),
-            place,
-        ) {
+        if !agrees(store.catalog, store.loss, q, raw_entry(join, i + 1), place) {
             return false;
         }
     }
@@ -80,13 +74,13 @@ fn leads(ground: &Ground<'_, '_>, p: u16, s: u16, q: u16, join: &JoinIndex) -> b
 }
 
 /// Whether a surviving join index leads to the places of its rows.
-fn is_led(ground: &Ground<'_, '_>, p: u16, s: u16, q: u16) -> bool
-    requires { Survives ground.now.catalog.now ground.now.loss (NameData.Jix p s q) }
-    ensures { result ≡ not (is_misled ground.now.catalog.now ground.now.loss (held_on ground.now) (table_on ground.now) (p, s, q)) }
+fn is_led(store: &OrderedStore<'_>, p: u16, s: u16, q: u16) -> bool
+    requires { Survives store.now.catalog.now store.now.loss (NameData.Jix p s q) }
+    ensures { result ≡ not (is_misled store.now.catalog.now store.now.loss (held_on store.now) (table_on store.now) (p, s, q)) }
 {
-    let _rules = ground.catalog.projection_count();
-    match ground.survivors.join(p as usize, s as usize, q as usize) {
-        Some(join) => leads(ground, p, s, q, join),
+    let _rules = store.catalog.projection_count();
+    match store.survivors.join(p as usize, s as usize, q as usize) {
+        Some(join) => leads(store, p, s, q, join),
         None => unreachable!(),
     }
 }
@@ -94,67 +88,51 @@ fn is_led(ground: &Ground<'_, '_>, p: u16, s: u16, q: u16) -> bool
 /// The comparing of some join indexes with the places of their rows.
 #[derive(Drop)]
 struct JoinedWork<'a> {
-    ground: &'a Ground<'a, 'a>,
+    store: &'a OrderedStore<'a>,
     joins: &'a [(u16, u16, u16)],
     ghost few: { length joins.now ≤ 1024 },
-    ghost survive: { (a : ℕ × ℕ × ℕ) → IsIn a joins.now → Survives ground.now.catalog.now ground.now.loss (NameData.Jix a.0 a.1 a.2) },
+    ghost survive: { (a : ℕ × ℕ × ℕ) → IsIn a joins.now → Survives store.now.catalog.now store.now.loss (NameData.Jix a.0 a.1 a.2) },
 }
 
-impl Work for JoinedWork<'_> {
+impl Tasks for JoinedWork<'_> {
     type Out = ();
 
-    type Fault = Fault;
+    ghost tasks = { λ work. length work.joins.now };
 
-    ghost pieces = { λ work. length work.joins.now };
-
-    ghost fault_at = { λ work i fault. JoinedFaultAt work.ground.now.catalog.now work.ground.now.loss (held_on work.ground.now) (table_on work.ground.now) work.joins.now i fault };
+    ghost fault_at = { λ work i fault. JoinedFaultAt work.store.now.catalog.now work.store.now.loss (held_on work.store.now) (table_on work.store.now) work.joins.now i fault };
 
     ghost answers = { λ work i out. Unit {0} };
-
-    ghost of_memory = { is_memory };
 
     fn count(&self) -> u32 {
         self.joins.len() as u32
     }
 
-    fn piece(&self, i: u32) -> Result<(), Fault> {
+    fn task(&self, i: u32) -> Result<(), Fault> {
         let (p, s, q) = self.joins[i as usize];
-        if is_led(self.ground, p, s, q) {
+        if is_led(self.store, p, s, q) {
             Ok(())
         } else {
             Err(Fault::Misled { p, s, q })
         }
     }
 
-    fn is_memory(fault: &Fault) -> bool
-        ensures { result ≡ is_memory fault.now }
-    {
-        match fault {
-            Fault::Memory => true,
-            _ => false,
-        }
-    }
-
-    ghost never_memory = { λ work i fault below at. misled_is_no_memory work.ground.now.catalog.now work.ground.now.loss (held_on work.ground.now) (table_on work.ground.now) (slice_get work.joins.now i) fault at };
-
-    ghost one_fault = { λ work i f g below a b. one_value (option_and_then (misled_at work.ground.now.catalog.now work.ground.now.loss (held_on work.ground.now) (table_on work.ground.now)) (slice_get work.joins.now i)) f g a b };
+    ghost one_fault = { λ work i f g below a b. one_value (option_and_then (misled_at work.store.now.catalog.now work.store.now.loss (held_on work.store.now) (table_on work.store.now)) (slice_get work.joins.now i)) f g a b };
 }
 
 /// Compares each surviving join index with the places of its rows.
 pub fn verify_joins<R: Threads + Sync, G: Gate + Sync>(
-    crew: &Crew<'_, '_, R, G>,
-    ground: &Ground<'_, '_>,
+    run: &Run<'_, R, G>,
+    store: &OrderedStore<'_>,
     joins: &[(u16, u16, u16)],
 ) -> Result<(), Fault>
     requires few { length joins.now ≤ 1024 }
-    requires joins { joins.now ≡ surviving_joins ground.now.catalog.now ground.now.loss }
-    ensures ok { OnOk result (misled ground.now.catalog.now ground.now.loss (held_on ground.now) (table_on ground.now) ≡ None) }
-    ensures err { IfErr result (λ fault. MemoryOr fault (misled ground.now.catalog.now ground.now.loss (held_on ground.now) (table_on ground.now) ≡ Some fault)) }
+    requires joins { joins.now ≡ surviving_joins store.now.catalog.now store.now.loss }
+    ensures ok { OnOk result (misled store.now.catalog.now store.now.loss (held_on store.now) (table_on store.now) ≡ None) }
+    ensures err { IfErr result (λ fault. MemoryOr fault (misled store.now.catalog.now store.now.loss (held_on store.now) (table_on store.now) ≡ Some fault)) }
 {
-    let work = JoinedWork { ground, joins };
-    match run(crew.rt, crew.alloc, crew.workers, &work, crew.gate) {
+    let work = JoinedWork { store, joins };
+    match run.round(Round::Joins, &work) {
         Ok(_done) => Ok(()),
-        Err(RunFault::Memory) => Err(Fault::Memory),
-        Err(RunFault::At(_, fault)) => Err(fault),
+        Err(fault) => Err(fault),
     }
 }

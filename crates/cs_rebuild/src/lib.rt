@@ -1,33 +1,44 @@
-//! Rebuilding what a loss takes from a store, and checking a store.
+//! Rebuilding what a loss takes from a store, checking a store, handing out its table, and building a new one.
 //!
-//! Both calls run in rounds over a claim board: the surviving files are read, their rows walked to the table's rows, the
-//! table's orders found, images and join indexes compared with them, and for `rebuild` the lost files encoded. What they
-//! answer depends on the bytes alone: not on the number of workers, nor on how the work is cut.
+//! All run in rounds over a claim board: the surviving files are read, their rows walked to the table's rows, the table's
+//! orders found, images and join indexes compared with them, and for `rebuild` the lost files encoded. `build` begins with
+//! the rows, and encodes every file. What they answer depends on the bytes alone: not on the number of workers, nor on how
+//! the work is cut.
 #![tactic(auto)]
 
 mod anchored;
 mod appending;
+mod building;
 mod columns;
+mod columns_of_rows;
 mod comparing;
-mod crew;
 mod encoding;
 mod files_of;
-mod ground;
 mod joined;
 mod joining;
-mod judging;
 mod lending;
+mod ordered_store;
 mod ordering;
 mod placed;
 mod places;
 mod planned;
 mod reading;
 mod recovery;
+mod rounds;
 mod rowwise;
+mod run;
 mod survey;
+mod surviving_table;
 mod unwritten;
+mod verifying;
 mod walking;
 mod writing;
 mod writing_joins;
 
+pub use building::build;
+pub use columns_of_rows::are_columns;
+pub use cs_board::{Gate, OpenGate, Round};
+pub use cs_store::{Fault, FileSet, Sink, Source, StoreFault, load, save};
 pub use recovery::{check, check_gated, rebuild, rebuild_gated};
+pub use run::Run;
+pub use surviving_table::table;

@@ -4,7 +4,7 @@ ghost use Rattle.cs_store.specs.Fault.{MemoryOr};
 ghost use Rattle.cs_order.specs.Orders.{AreOrdersOf};
 ghost use Rattle.cs_rebuild.specs.Steps.{row_fault};
 
-use crate::crew::Crew;
+use crate::run::Run;
 use cs_order::{OrderFault, Orders, orders};
 use cs_rows::Table;
 use cs_schema::Catalog;
@@ -14,7 +14,7 @@ use std::thread::Threads;
 
 /// The orders of the walked rows, unless a key stands twice or a range is too large.
 pub fn orders_of<R: Threads + Sync, G>(
-    crew: &Crew<'_, '_, R, G>,
+    run: &Run<'_, R, G>,
     catalog: &Catalog,
     walked: &Table<'_>,
 ) -> Result<Orders, Fault>
@@ -24,7 +24,7 @@ pub fn orders_of<R: Threads + Sync, G>(
     ensures sound { IfOk result (λ _. row_fault catalog.now walked.now.rows ≡ None) }
     ensures err { IfErr result (λ fault. MemoryOr fault (row_fault catalog.now walked.now.rows ≡ Some fault)) }
 {
-    match orders(crew.rt, crew.alloc, walked, catalog) {
+    match orders(run.rt, run.alloc, walked, catalog) {
         Ok(orders) => Ok(orders),
         Err(OrderFault::Memory) => Err(Fault::Memory),
         Err(OrderFault::Twice) => Err(Fault::Twice),

@@ -7,15 +7,15 @@ ghost use Rattle.cs_delta.specs.Image.{position_of_key};
 ghost use Rattle.cs_rows.specs.Survivors.{images_of, image_at};
 ghost use Rattle.cs_order.specs.Orders.{numbers_in, row_at};
 ghost use Rattle.cs_recovery.specs.Places.{image_after, place_of, entry_for};
-ghost use Rattle.cs_rebuild.specs.OnGround.{held_on, table_on};
+ghost use Rattle.cs_rebuild.specs.OnStore.{held_on, table_on};
 
-use crate::ground::Ground;
+use crate::ordered_store::OrderedStore;
 use cs_delta::Image;
 
 /// The entries of a join index. What is the same for each key is looked up once, as there may be a million keys.
 #[derive(Drop)]
 pub struct Entries<'a> {
-    ground: &'a Ground<'a, 'a>,
+    store: &'a OrderedStore<'a>,
     p: u16,
     s: u16,
     q: u16,
@@ -23,22 +23,22 @@ pub struct Entries<'a> {
     /// The image of the segment, where it isn't lost.
     kept: Option<&'a Image>,
     targets: &'a [Option<Image>],
-    ghost segment: { HasSegment ground.now.catalog.now p s },
-    ghost target: { q < length ground.now.catalog.now.projections },
-    ghost numbers_are: { numbers.now ≡ numbers_in ground.now.orders.now p s },
-    ghost kept_is: { MatchOption kept (lost ground.now.catalog.now ground.now.loss p s ≡ true) (λ m. (lost ground.now.catalog.now ground.now.loss p s ≡ false) × (image_at ground.now.survivors.now p s ≡ Some m.now)) } by { Prim.hlevel props },
-    ghost targets_are: { targets.now ≡ images_of ground.now.survivors.now q },
+    ghost segment: { HasSegment store.now.catalog.now p s },
+    ghost target: { q < length store.now.catalog.now.projections },
+    ghost numbers_are: { numbers.now ≡ numbers_in store.now.orders p s },
+    ghost kept_is: { MatchOption kept (lost store.now.catalog.now store.now.loss p s ≡ true) (λ m. (lost store.now.catalog.now store.now.loss p s ≡ false) × (image_at store.now.survivors.now p s ≡ Some m.now)) } by { Prim.hlevel props },
+    ghost targets_are: { targets.now ≡ images_of store.now.survivors.now q },
 }
 
 /// The image of a segment, where it isn't lost.
-fn kept_image<'a>(ground: &Ground<'a, '_>, p: u16, s: u16) -> Option<&'a Image>
-    requires { HasSegment ground.now.catalog.now p s }
-    ensures { MatchOption result (lost ground.now.catalog.now ground.now.loss p s ≡ true) (λ m. (lost ground.now.catalog.now ground.now.loss p s ≡ false) × (image_at ground.now.survivors.now p s ≡ Some m.now)) }
+fn kept_image<'a>(store: &OrderedStore<'a>, p: u16, s: u16) -> Option<&'a Image>
+    requires { HasSegment store.now.catalog.now p s }
+    ensures { MatchOption result (lost store.now.catalog.now store.now.loss p s ≡ true) (λ m. (lost store.now.catalog.now store.now.loss p s ≡ false) × (image_at store.now.survivors.now p s ≡ Some m.now)) }
 {
-    if ground.catalog.lost(p, s, ground.loss) {
+    if store.catalog.lost(p, s, store.loss) {
         return None;
     }
-    match ground.survivors.image(p as usize, s as usize) {
+    match store.survivors.image(p as usize, s as usize) {
         Some(image) => Some(image),
         None => unreachable!(),
     }
@@ -46,27 +46,27 @@ fn kept_image<'a>(ground: &Ground<'a, '_>, p: u16, s: u16) -> Option<&'a Image>
 
 impl<'a> Entries<'a> {
     /// The entries of the join index of a segment to a projection.
-    pub fn new(ground: &'a Ground<'a, 'a>, p: u16, s: u16, q: u16) -> Self
-        requires segment { HasSegment ground.now.catalog.now p s }
-        requires target { q < length ground.now.catalog.now.projections }
-        ensures ground { result.ground.now ≡ ground.now }
+    pub fn new(store: &'a OrderedStore<'a>, p: u16, s: u16, q: u16) -> Self
+        requires segment { HasSegment store.now.catalog.now p s }
+        requires target { q < length store.now.catalog.now.projections }
+        ensures store { result.store.now ≡ store.now }
         ensures segment { (result.p ≡ p) × (result.s ≡ s) }
         ensures target { result.q ≡ q }
     {
         Entries {
-            ground,
+            store,
             p,
             s,
             q,
-            numbers: ground.orders.segment(p, s),
-            kept: kept_image(ground, p, s),
-            targets: ground.survivors.images(q as usize),
+            numbers: store.orders.segment(p, s),
+            kept: kept_image(store, p, s),
+            targets: store.survivors.images(q as usize),
         }
     }
 
     /// The greatest key of the segment.
     pub fn top(&self) -> u32
-        ensures { result ≡ (image_after self.now.ground.now.catalog.now self.now.ground.now.loss (held_on self.now.ground.now) (table_on self.now.ground.now) self.now.p self.now.s).top }
+        ensures { result ≡ (image_after self.now.store.now.catalog.now self.now.store.now.loss (held_on self.now.store.now) (table_on self.now.store.now) self.now.p self.now.s).top }
     {
         match self.kept {
             Some(image) => image.top(),
@@ -76,7 +76,7 @@ impl<'a> Entries<'a> {
 
     /// The position of a key in the segment.
     fn position(&self, key: u32) -> Option<u32>
-        ensures { result ≡ position_of_key (image_after self.now.ground.now.catalog.now self.now.ground.now.loss (held_on self.now.ground.now) (table_on self.now.ground.now) self.now.p self.now.s) key }
+        ensures { result ≡ position_of_key (image_after self.now.store.now.catalog.now self.now.store.now.loss (held_on self.now.store.now) (table_on self.now.store.now) self.now.p self.now.s) key }
     {
         match self.kept {
             Some(image) => image.position_of(key),
@@ -94,13 +94,13 @@ impl<'a> Entries<'a> {
 
     /// The place of a walked row in the projection: its segment, and the key that it has there.
     fn place(&self, row: u32) -> (u16, u32)
-        requires { row < length self.now.ground.now.walked.now.rows }
-        ensures place { result ≡ place_of self.now.ground.now.catalog.now self.now.ground.now.loss (held_on self.now.ground.now) (table_on self.now.ground.now) self.now.q (row_at self.now.ground.now.walked.now.rows row) }
-        ensures exists { result.0 < segments self.now.ground.now.catalog.now self.now.q }
+        requires { row < length self.now.store.now.walked.rows }
+        ensures place { result ≡ place_of self.now.store.now.catalog.now self.now.store.now.loss (held_on self.now.store.now) (table_on self.now.store.now) self.now.q (row_at self.now.store.now.walked.rows row) }
+        ensures exists { result.0 < segments self.now.store.now.catalog.now self.now.q }
     {
-        let ground = self.ground;
-        let (t, index) = ground.orders.place(self.q, row);
-        if ground.catalog.lost(self.q, t, ground.loss) {
+        let store = self.store;
+        let (t, index) = store.orders.place(self.q, row);
+        if store.catalog.lost(self.q, t, store.loss) {
             return (t, index + 1);
         }
         match &self.targets[t as usize] {
@@ -117,8 +117,8 @@ impl<'a> Entries<'a> {
 
     /// The entry at a key: the place of its row, or none where the key is dead.
     pub fn at(&self, key: u32) -> (u16, u32)
-        ensures entry { result ≡ entry_for self.now.ground.now.catalog.now self.now.ground.now.loss (held_on self.now.ground.now) (table_on self.now.ground.now) self.now.p self.now.s self.now.q key }
-        ensures exists { result.0 < segments self.now.ground.now.catalog.now self.now.q }
+        ensures entry { result ≡ entry_for self.now.store.now.catalog.now self.now.store.now.loss (held_on self.now.store.now) (table_on self.now.store.now) self.now.p self.now.s self.now.q key }
+        ensures exists { result.0 < segments self.now.store.now.catalog.now self.now.q }
     {
         match self.position(key) {
             Some(position) => {

@@ -10,13 +10,14 @@ ghost use Rattle.cs_store.specs.declared.fault.Fault.{Fault as FaultData};
 ghost use Rattle.cs_rows.specs.Survivors.{HasRoom, HoldsImages};
 ghost use Rattle.cs_board.specs.Pieces.{AnswersInOrder};
 ghost use Rattle.cs_recovery.specs.Verdicts.{surviving_segments};
-ghost use Rattle.cs_rebuild.specs.Steps.{is_memory, AreRead, IsBadFile};
+ghost use Rattle.cs_rebuild.specs.Steps.{AreRead, IsBadFile};
 ghost use Rattle.cs_rebuild.specs.Reading.{FilesFaultAt, FilesAnswerAt, AreFilesOf, IsKept, AreOthersKept, joins_of};
-ghost use Rattle.cs_rebuild.specs.WorkLaws.{refused_is_no_memory, one_files_fault};
+ghost use Rattle.cs_rebuild.specs.WorkLaws.{one_files_fault};
 
-use crate::crew::Crew;
 use crate::files_of::read_files;
-use cs_board::{Gate, RunFault, Work, run};
+use crate::rounds::Tasks;
+use crate::run::Run;
+use cs_board::{Gate, Round};
 use cs_delta::Image;
 use cs_jix::JoinIndex;
 use cs_rows::Survivors;
@@ -45,24 +46,20 @@ struct FilesWork<'a, R> {
     ghost exist: { (a : ℕ × ℕ) → IsIn a segments.now → HasSegment catalog.now a.0 a.1 },
 }
 
-impl<R: Threads> Work for FilesWork<'_, R> {
+impl<R: Threads> Tasks for FilesWork<'_, R> {
     type Out = SegmentFiles;
 
-    type Fault = Fault;
-
-    ghost pieces = { λ work. length work.segments.now };
+    ghost tasks = { λ work. length work.segments.now };
 
     ghost fault_at = { λ work i fault. FilesFaultAt work.catalog.now (contents_of work.files.now) work.segments.now i fault };
 
     ghost answers = { λ work i out. FilesAnswerAt work.catalog.now (contents_of work.files.now) work.segments.now i out };
 
-    ghost of_memory = { is_memory };
-
     fn count(&self) -> u32 {
         self.segments.len() as u32
     }
 
-    fn piece(&self, i: u32) -> Result<SegmentFiles, Fault> {
+    fn task(&self, i: u32) -> Result<SegmentFiles, Fault> {
         let (p, s) = self.segments[i as usize];
         match read_files(self.rt, self.alloc, self.catalog, self.files, p, s) {
             Ok(files) => Ok(files),
@@ -70,23 +67,12 @@ impl<R: Threads> Work for FilesWork<'_, R> {
         }
     }
 
-    fn is_memory(fault: &Fault) -> bool
-        ensures { result ≡ is_memory fault.now }
-    {
-        match fault {
-            Fault::Memory => true,
-            _ => false,
-        }
-    }
-
-    ghost never_memory = { λ work i fault below at. refused_is_no_memory work.catalog.now (contents_of work.files.now) _ fault at.2 };
-
     ghost one_fault = { λ work i f g below a b. one_files_fault work.catalog.now (contents_of work.files.now) work.segments.now i f g a b };
 }
 
 /// Reads the files of all segments that survive.
 pub fn read_survivors<R: Threads + Sync, G: Gate + Sync>(
-    crew: &Crew<'_, '_, R, G>,
+    run: &Run<'_, R, G>,
     catalog: &Catalog,
     files: &FileSet,
     loss: Loss,
@@ -98,16 +84,15 @@ pub fn read_survivors<R: Threads + Sync, G: Gate + Sync>(
     ensures err { IfErr result (λ fault. MemoryOr fault (IsBadFile catalog.now (contents_of files.now) loss fault)) }
 {
     let work = FilesWork {
-        rt: crew.rt,
-        alloc: crew.alloc,
+        rt: run.rt,
+        alloc: run.alloc,
         catalog,
         files,
         segments,
     };
-    match run(crew.rt, crew.alloc, crew.workers, &work, crew.gate) {
-        Ok(all) => keep_all(crew.alloc, catalog, files, loss, segments, all),
-        Err(RunFault::Memory) => Err(Fault::Memory),
-        Err(RunFault::At(_, fault)) => Err(fault),
+    match run.round(Round::Files, &work) {
+        Ok(all) => keep_all(run.alloc, catalog, files, loss, segments, all),
+        Err(fault) => Err(fault),
     }
 }
 

@@ -6,9 +6,8 @@ ghost use Rattle.cs_recovery.specs.Claims.{IsRebuildAnswer, IsCheckAnswer};
 ghost use Rattle.cs_recovery.specs.Laws.{RebuildClauses, CheckClauses};
 ghost use Rattle.cs_rebuild.specs.Steps.{safety_refusal as refusal_of};
 
-use crate::crew::Crew;
-use crate::ground::ground_of;
-use crate::judging::{judge, read_store};
+use crate::run::Run;
+use crate::verifying::{read_store, verify_store};
 use crate::writing::write_lost;
 use cs_board::{Gate, OpenGate};
 use cs_safety::{SafetyFault, ksafe, safe};
@@ -65,22 +64,19 @@ pub fn rebuild_gated<R: Threads + Sync, G: Gate + Sync>(
     if !safe(catalog, loss) {
         return Err(Fault::Unsafe(loss));
     }
-    let crew = Crew {
+    let run = Run {
         rt,
         alloc,
         workers,
         cut,
         gate,
     };
-    let survivors = match read_store(&crew, catalog, files, loss) {
+    let survivors = match read_store(&run, catalog, files, loss) {
         Ok(survivors) => survivors,
         Err(fault) => return Err(fault),
     };
-    match judge(&crew, catalog, loss, &survivors) {
-        Ok(store) => {
-            let ground = ground_of(catalog, loss, &survivors, &store.walked, &store.orders);
-            write_lost(&crew, &ground)
-        }
+    match verify_store(&run, catalog, loss, &survivors) {
+        Ok(store) => write_lost(&run, &store),
         Err(fault) => Err(fault),
     }
 }
@@ -126,7 +122,7 @@ pub fn check_gated<R: Threads + Sync, G: Gate + Sync>(
     if let Err(fault) = ksafe(catalog, k) {
         return Err(safety_refusal(fault));
     }
-    let crew = Crew {
+    let run = Run {
         rt,
         alloc,
         workers,
@@ -134,11 +130,11 @@ pub fn check_gated<R: Threads + Sync, G: Gate + Sync>(
         gate,
     };
     let loss = no_loss(catalog, k);
-    let survivors = match read_store(&crew, catalog, files, loss) {
+    let survivors = match read_store(&run, catalog, files, loss) {
         Ok(survivors) => survivors,
         Err(fault) => return Err(fault),
     };
-    match judge(&crew, catalog, loss, &survivors) {
+    match verify_store(&run, catalog, loss, &survivors) {
         Ok(store) => Ok(store.walked.rows() as u64),
         Err(fault) => Err(fault),
     }

@@ -4,12 +4,12 @@ ghost use Rattle.cs_schema.specs.declared.file_name.FileName.{FileName as NameDa
 ghost use Rattle.cs_schema.specs.CatalogData.{HasSegment, segments};
 ghost use Rattle.cs_schema.specs.Lists.{IsIn};
 ghost use Rattle.cs_recovery.specs.Expected.{is_affected};
-ghost use Rattle.cs_rebuild.specs.OnGround.{IsSound, written_on};
+ghost use Rattle.cs_rebuild.specs.OnStore.{IsSound, written_on};
 ghost use Rattle.cs_rebuild.specs.Unwritten.{IsToWrite, name_of, base_names, join_names, names_in};
 
-use crate::crew::Crew;
 use crate::encoding::encode_columns;
-use crate::ground::Ground;
+use crate::ordered_store::OrderedStore;
+use crate::run::Run;
 use cs_board::Gate;
 use cs_piece::Piece;
 use cs_safety::alive;
@@ -31,21 +31,21 @@ pub enum Unwritten {
 /// Encodes the columns of a segment that is lost, and puts it and its delta at the end of a list.
 fn push_base<R: Threads + Sync, G: Gate + Sync>(
     files: &mut Vec<Unwritten>,
-    crew: &Crew<'_, '_, R, G>,
-    ground: &Ground<'_, '_>,
+    run: &Run<'_, R, G>,
+    store: &OrderedStore<'_>,
     p: u16,
     s: u16,
 ) -> Result<(), AllocError>
-    requires segment { HasSegment ground.now.catalog.now p s }
-    requires sound { IsSound ground.now }
-    requires each { All (IsToWrite ground.now) files.old.items }
-    ensures each { OnOk result (All (IsToWrite ground.now) files.new.items) }
-    ensures names { OnOk result (map name_of files.new.items ≡ map name_of files.old.items ++ base_names ground.now.catalog.now ground.now.loss p s) }
+    requires segment { HasSegment store.now.catalog.now p s }
+    requires sound { IsSound store.now }
+    requires each { All (IsToWrite store.now) files.old.items }
+    ensures each { OnOk result (All (IsToWrite store.now) files.new.items) }
+    ensures names { OnOk result (map name_of files.new.items ≡ map name_of files.old.items ++ base_names store.now.catalog.now store.now.loss p s) }
 {
-    if !ground.catalog.lost(p, s, ground.loss) {
+    if !store.catalog.lost(p, s, store.loss) {
         return Ok(());
     }
-    let columns = match encode_columns(crew, ground, p, s) {
+    let columns = match encode_columns(run, store, p, s) {
         Ok(columns) => columns,
         Err(_) => return Err(AllocError),
     };
@@ -55,34 +55,34 @@ fn push_base<R: Threads + Sync, G: Gate + Sync>(
 }
 
 /// Whether the loss affects a join index: its segment is lost, or a segment of its target.
-fn is_affected(ground: &Ground<'_, '_>, p: u16, s: u16, q: u16) -> bool
-    requires segment { HasSegment ground.now.catalog.now p s }
-    requires target { q < length ground.now.catalog.now.projections }
-    ensures { result ≡ is_affected ground.now.catalog.now ground.now.loss p s q }
+fn is_affected(store: &OrderedStore<'_>, p: u16, s: u16, q: u16) -> bool
+    requires segment { HasSegment store.now.catalog.now p s }
+    requires target { q < length store.now.catalog.now.projections }
+    ensures { result ≡ is_affected store.now.catalog.now store.now.loss p s q }
 {
-    if !ground.catalog.has_join(p, q) {
+    if !store.catalog.has_join(p, q) {
         return false;
     }
-    if ground.catalog.lost(p, s, ground.loss) {
+    if store.catalog.lost(p, s, store.loss) {
         return true;
     }
-    !alive(ground.catalog, ground.loss, q)
+    !alive(store.catalog, store.loss, q)
 }
 
 /// Puts the join indexes of a segment that the loss affects at the end of a list.
 fn push_joins(
     files: &mut Vec<Unwritten>,
-    ground: &Ground<'_, '_>,
+    store: &OrderedStore<'_>,
     p: u16,
     s: u16,
 ) -> Result<(), AllocError>
-    requires segment { HasSegment ground.now.catalog.now p s }
-    requires each { All (IsToWrite ground.now) files.old.items }
-    ensures each { OnOk result (All (IsToWrite ground.now) files.new.items) }
-    ensures names { OnOk result (map name_of files.new.items ≡ map name_of files.old.items ++ join_names ground.now.catalog.now ground.now.loss p s (length ground.now.catalog.now.projections)) }
+    requires segment { HasSegment store.now.catalog.now p s }
+    requires each { All (IsToWrite store.now) files.old.items }
+    ensures each { OnOk result (All (IsToWrite store.now) files.new.items) }
+    ensures names { OnOk result (map name_of files.new.items ≡ map name_of files.old.items ++ join_names store.now.catalog.now store.now.loss p s (length store.now.catalog.now.projections)) }
 {
-    for q in 0..ground.catalog.projection_count() {
-        if !is_affected(ground, p, s, q) {
+    for q in 0..store.catalog.projection_count() {
+        if !is_affected(store, p, s, q) {
             continue;
         }
         files.push(Unwritten::Join { p, s, q })?;
@@ -93,19 +93,19 @@ fn push_joins(
 /// Puts what is to be written of a projection at the end of a list.
 fn push_projection<R: Threads + Sync, G: Gate + Sync>(
     files: &mut Vec<Unwritten>,
-    crew: &Crew<'_, '_, R, G>,
-    ground: &Ground<'_, '_>,
+    run: &Run<'_, R, G>,
+    store: &OrderedStore<'_>,
     p: u16,
 ) -> Result<(), AllocError>
-    requires projection { p < length ground.now.catalog.now.projections }
-    requires sound { IsSound ground.now }
-    requires each { All (IsToWrite ground.now) files.old.items }
-    ensures each { OnOk result (All (IsToWrite ground.now) files.new.items) }
-    ensures names { OnOk result (map name_of files.new.items ≡ map name_of files.old.items ++ names_in ground.now.catalog.now ground.now.loss p (segments ground.now.catalog.now p)) }
+    requires projection { p < length store.now.catalog.now.projections }
+    requires sound { IsSound store.now }
+    requires each { All (IsToWrite store.now) files.old.items }
+    ensures each { OnOk result (All (IsToWrite store.now) files.new.items) }
+    ensures names { OnOk result (map name_of files.new.items ≡ map name_of files.old.items ++ names_in store.now.catalog.now store.now.loss p (segments store.now.catalog.now p)) }
 {
-    for s in 0..ground.catalog.segments(p) {
-        push_base(files, crew, ground, p, s)?;
-        push_joins(files, ground, p, s)?;
+    for s in 0..store.catalog.segments(p) {
+        push_base(files, run, store, p, s)?;
+        push_joins(files, store, p, s)?;
     }
     Ok(())
 }
@@ -113,16 +113,16 @@ fn push_projection<R: Threads + Sync, G: Gate + Sync>(
 /// All files that are to be written, segment by segment: so the segments, which are most of the work, are spread over the
 /// list, and over the threads to which its parts go.
 pub fn unwritten_files<R: Threads + Sync, G: Gate + Sync>(
-    crew: &Crew<'_, '_, R, G>,
-    ground: &Ground<'_, '_>,
+    run: &Run<'_, R, G>,
+    store: &OrderedStore<'_>,
 ) -> Result<Vec<Unwritten>, AllocError>
-    requires sound { IsSound ground.now }
-    ensures each { IfOk result (λ files. All (IsToWrite ground.now) files.items) }
-    ensures all { IfOk result (λ files. (n : NameData) → IsIn n (map name_of files.items) ⊎ (written_on ground.now n ≡ None)) }
+    requires sound { IsSound store.now }
+    ensures each { IfOk result (λ files. All (IsToWrite store.now) files.items) }
+    ensures all { IfOk result (λ files. (n : NameData) → IsIn n (map name_of files.items) ⊎ (written_on store.now n ≡ None)) }
 {
-    let mut files = Vec::new(crew.alloc);
-    for p in 0..ground.catalog.projection_count() {
-        push_projection(&mut files, crew, ground, p)?;
+    let mut files = Vec::new(run.alloc);
+    for p in 0..store.catalog.projection_count() {
+        push_projection(&mut files, run, store, p)?;
     }
     Ok(files)
 }

@@ -9,18 +9,18 @@ ghost use Rattle.cs_segment.specs.SegmentPieces.{ArePiecesOf};
 ghost use Rattle.cs_delta.specs.DeltaFile.{delta_text, no_changes};
 ghost use Rattle.cs_store.specs.FileSet.{contents_of};
 ghost use Rattle.cs_store.specs.declared.fault.Fault.{Fault as FaultData};
-ghost use Rattle.cs_rebuild.specs.OnGround.{IsSound, table_on, written_on};
+ghost use Rattle.cs_rebuild.specs.OnStore.{IsSound, table_on, written_on};
 ghost use Rattle.cs_rebuild.specs.Unwritten.{IsToWrite, IsFileOf, name_of};
 
-use crate::crew::Crew;
-use crate::ground::Ground;
+use crate::ordered_store::OrderedStore;
+use crate::run::Run;
 use crate::unwritten::{Unwritten, unwritten_files};
 use crate::writing_joins::{join_bytes, least_entries};
 use cs_board::Gate;
 use cs_delta::write_empty_delta;
 use cs_piece::Piece;
 use cs_schema::FileName;
-use cs_segment::writing::write_segment;
+use cs_segment::writing::write_segment_owned;
 use cs_store::{Fault, FileSet};
 use rayon::prelude::*;
 use std::alloc::{AllocError, Global};
@@ -30,55 +30,55 @@ use std::thread::Threads;
 /// The file of a lost segment.
 fn segment_bytes(
     alloc: Global,
-    ground: &Ground<'_, '_>,
+    store: &OrderedStore<'_>,
     p: u16,
     s: u16,
     columns: Vec<Piece>,
 ) -> Result<Vec<u8>, AllocError>
-    requires segment { HasSegment ground.now.catalog.now p s }
-    requires columns { ArePiecesOf ground.now.catalog.now p (length (rows_of ground.now.catalog.now (table_on ground.now) p s)) columns.items (base_of ground.now.catalog.now p (map (project ground.now.catalog.now p) (rows_of ground.now.catalog.now (table_on ground.now) p s))) }
-    ensures { IfOk result (λ bytes. bytes.items ≡ segment_text ground.now.catalog.now p s (base_of ground.now.catalog.now p (map (project ground.now.catalog.now p) (rows_of ground.now.catalog.now (table_on ground.now) p s)))) }
+    requires segment { HasSegment store.now.catalog.now p s }
+    requires columns { ArePiecesOf store.now.catalog.now p (length (rows_of store.now.catalog.now (table_on store.now) p s)) columns.items (base_of store.now.catalog.now p (map (project store.now.catalog.now p) (rows_of store.now.catalog.now (table_on store.now) p s))) }
+    ensures { IfOk result (λ bytes. bytes.items ≡ segment_text store.now.catalog.now p s (base_of store.now.catalog.now p (map (project store.now.catalog.now p) (rows_of store.now.catalog.now (table_on store.now) p s)))) }
 {
-    let rows = ground.orders.segment(p, s).len() as u32;
-    write_segment(alloc, ground.catalog, p, s, rows, columns)
+    let rows = store.orders.segment(p, s).len() as u32;
+    write_segment_owned(alloc, store.catalog, p, s, rows, columns)
 }
 
 /// The file of a lost segment's delta: it has no changes.
 fn delta_bytes(
     alloc: Global,
-    ground: &Ground<'_, '_>,
+    store: &OrderedStore<'_>,
     p: u16,
     s: u16,
 ) -> Result<Vec<u8>, AllocError>
-    requires segment { HasSegment ground.now.catalog.now p s }
-    ensures { IfOk result (λ bytes. bytes.items ≡ delta_text (no_changes p s (length (rows_of ground.now.catalog.now (table_on ground.now) p s)))) }
+    requires segment { HasSegment store.now.catalog.now p s }
+    ensures { IfOk result (λ bytes. bytes.items ≡ delta_text (no_changes p s (length (rows_of store.now.catalog.now (table_on store.now) p s)))) }
 {
-    let rows = ground.orders.segment(p, s).len() as u32;
+    let rows = store.orders.segment(p, s).len() as u32;
     write_empty_delta(alloc, p, s, rows)
 }
 
 /// A file that is to be written, with its name. What it is made from is free afterwards.
 fn make_file<R: Threads + Sync, G: Gate + Sync>(
-    crew: &Crew<'_, '_, R, G>,
-    ground: &Ground<'_, '_>,
+    run: &Run<'_, R, G>,
+    store: &OrderedStore<'_>,
     file: Unwritten,
     least: usize,
 ) -> Result<(FileName, Vec<u8>), AllocError>
-    requires file { IsToWrite ground.now file }
-    requires sound { IsSound ground.now }
-    ensures { IfOk result (λ made. IsFileOf ground.now file made.0 made.1.items) }
+    requires file { IsToWrite store.now file }
+    requires sound { IsSound store.now }
+    ensures { IfOk result (λ made. IsFileOf store.now file made.0 made.1.items) }
 {
     match file {
         Unwritten::Segment { p, s, columns } => {
-            let bytes = segment_bytes(crew.alloc, ground, p, s, columns)?;
+            let bytes = segment_bytes(run.alloc, store, p, s, columns)?;
             Ok((FileName::Seg { p, s }, bytes))
         }
         Unwritten::Delta { p, s } => {
-            let bytes = delta_bytes(crew.alloc, ground, p, s)?;
+            let bytes = delta_bytes(run.alloc, store, p, s)?;
             Ok((FileName::Del { p, s }, bytes))
         }
         Unwritten::Join { p, s, q } => {
-            let bytes = join_bytes(crew, ground, p, s, q, least)?;
+            let bytes = join_bytes(run, store, p, s, q, least)?;
             Ok((FileName::Jix { p, s, q }, bytes))
         }
     }
@@ -87,41 +87,41 @@ fn make_file<R: Threads + Sync, G: Gate + Sync>(
 /// The files that are to be written, each made in a thread of its own: one thread makes the digest of a file, which is most
 /// of the work.
 fn made_files<R: Threads + Sync, G: Gate + Sync>(
-    crew: &Crew<'_, '_, R, G>,
-    ground: &Ground<'_, '_>,
+    run: &Run<'_, R, G>,
+    store: &OrderedStore<'_>,
     files: Vec<Unwritten>,
 ) -> Result<Vec<(FileName, Vec<u8>)>, AllocError>
-    requires files { All (IsToWrite ground.now) files.items }
-    requires sound { IsSound ground.now }
+    requires files { All (IsToWrite store.now) files.items }
+    requires sound { IsSound store.now }
     ensures names { IfOk result (λ made. map (λ file. file.0) made.items ≡ map name_of files.items) }
-    ensures texts { IfOk result (λ made. All (λ file. written_on ground.now file.0 ≡ Some file.1.items) made.items) }
+    ensures texts { IfOk result (λ made. All (λ file. written_on store.now file.0 ≡ Some file.1.items) made.items) }
 {
-    let least = least_entries(crew.workers, files.as_slice());
+    let least = least_entries(run.workers, files.as_slice());
     files
         .into_par_iter()
         // a file is worth a thread
         .with_min_len(1)
         .map(
             |file: Unwritten| -> Result<(FileName, Vec<u8>), AllocError>
-                requires file { IsToWrite ground.now file }
-                requires sound { IsSound ground.now }
-                ensures { IfOk result (λ made. IsFileOf ground.entry.now file made.0 made.1.items) }
-            { make_file(crew, ground, file, least) },
+                requires file { IsToWrite store.now file }
+                requires sound { IsSound store.now }
+                ensures { IfOk result (λ made. IsFileOf store.entry.now file made.0 made.1.items) }
+            { make_file(run, store, file, least) },
         )
-        .collect::<Result<Vec<(FileName, Vec<u8>)>, AllocError>>(crew.rt, crew.alloc)?
+        .collect::<Result<Vec<(FileName, Vec<u8>)>, AllocError>>(run.rt, run.alloc)?
 }
 
 /// The files that are to be written, put together.
 fn write_files<R: Threads + Sync, G: Gate + Sync>(
-    crew: &Crew<'_, '_, R, G>,
-    ground: &Ground<'_, '_>,
+    run: &Run<'_, R, G>,
+    store: &OrderedStore<'_>,
 ) -> Result<FileSet, AllocError>
-    requires sound { IsSound ground.now }
-    ensures { IfOk result (λ out. (n : NameData) → contents_of out n ≡ written_on ground.now n) }
+    requires sound { IsSound store.now }
+    ensures { IfOk result (λ out. (n : NameData) → contents_of out n ≡ written_on store.now n) }
 {
-    let unwritten = unwritten_files(crew, ground)?;
-    let mut made = made_files(crew, ground, unwritten)?;
-    let mut files = FileSet::new(crew.alloc)?;
+    let unwritten = unwritten_files(run, store)?;
+    let mut made = made_files(run, store, unwritten)?;
+    let mut files = FileSet::new(run.alloc)?;
     while let Some((name, bytes)) = made.pop() {
         files.put(name, bytes)?;
     }
@@ -130,14 +130,14 @@ fn write_files<R: Threads + Sync, G: Gate + Sync>(
 
 /// The files of the lost segments, and the join indexes that the loss affects.
 pub fn write_lost<R: Threads + Sync, G: Gate + Sync>(
-    crew: &Crew<'_, '_, R, G>,
-    ground: &Ground<'_, '_>,
+    run: &Run<'_, R, G>,
+    store: &OrderedStore<'_>,
 ) -> Result<FileSet, Fault>
-    requires sound { IsSound ground.now }
-    ensures ok { IfOk result (λ out. (n : NameData) → contents_of out n ≡ written_on ground.now n) }
+    requires sound { IsSound store.now }
+    ensures ok { IfOk result (λ out. (n : NameData) → contents_of out n ≡ written_on store.now n) }
     ensures err { IfErr result (λ fault. fault ≡ FaultData.Memory) }
 {
-    match write_files(crew, ground) {
+    match write_files(run, store) {
         Ok(files) => Ok(files),
         Err(_) => Err(Fault::Memory),
     }

@@ -1,10 +1,12 @@
 pub mod Accepted
 pub mod Afresh
 pub mod Agreeing
+pub mod Built
 pub mod ChangedSites
 pub mod CheckClauses
 pub mod Checked
 pub mod Clauses
+pub mod ColumnRows
 pub mod Covered
 pub mod Covers
 pub mod Exact
@@ -30,6 +32,7 @@ pub mod RowSteps
 pub mod Stores
 pub mod Suffice
 pub mod TableFacts
+pub mod TableClauses
 pub mod WalkedRows
 pub mod WalkedTable
 pub mod Walks

@@ -138,7 +138,7 @@ module _ (C : CatalogData) (cat : IsCatalog C) (layers : Layers C) (F : FileCont
     abbrev G : FileContents
     G = put_over out F
 
-    left_image : (p s : ℕ) → HasSegment C p s → IsImageOf C G p s (image_after C L S T p s)
+    pub left_image : (p s : ℕ) → HasSegment C p s → IsImageOf C G p s (image_after C L S T p s)
     left_image p s h = go (lost C L p s) refl
       where
         go : (b : Bool) → lost C L p s ≡ b → IsImageOf C G p s (image_after C L S T p s)

@@ -1,10 +1,13 @@
 pub mod Contents
+pub mod Columns
 pub mod Places
 pub mod Holding
 pub mod Tables
 pub mod Expected
 pub mod Verdicts
 pub mod Claims
+pub mod TableAnswers
+pub mod BuildAnswers
 pub mod Laws
 pub mod AcceptedLosses
 pub mod Conflicts

@@ -2,6 +2,7 @@
 #![tactic(auto)]
 
 pub mod answer_laws;
+pub mod building_laws;
 pub mod laws;
 pub mod loss_laws;
 pub mod table_laws;

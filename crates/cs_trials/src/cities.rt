@@ -63,7 +63,7 @@ const LOST_WITH_A_DEAD_KEY: [Written; 4] = [
 ];
 
 /// The rows (1, "ny", 7), (2, "la", 5), (3, "la", 3).
-const WHOLE: Parts = Parts {
+pub const WHOLE: Parts = Parts {
     segments: &[
         (
             0,

@@ -4,9 +4,13 @@
 #[cfg(test)]
 mod answers;
 #[cfg(test)]
+mod build;
+#[cfg(test)]
 mod catalogs;
 #[cfg(test)]
 mod cities;
+#[cfg(test)]
+mod crowds;
 #[cfg(test)]
 mod damaged_pairs;
 #[cfg(test)]
@@ -18,6 +22,8 @@ mod gates;
 #[cfg(test)]
 mod joined;
 #[cfg(test)]
+mod last_key;
+#[cfg(test)]
 mod laws;
 #[cfg(test)]
 mod one_segment;
@@ -27,3 +33,7 @@ mod orders_by_ties;
 mod stores;
 #[cfg(test)]
 mod three_orders;
+#[cfg(test)]
+mod told_first;
+#[cfg(test)]
+mod two_marked;

@@ -1,11 +1,9 @@
-use Rattle.std.proofs.Common.{ap, sym, ◌∙◌, List, map, Ok, inr, subst}
-use Rattle.cs_board.specs.Pieces.{IsLeastFault}
-use Rattle.cs_board.specs.RunFault.{IfAt}
+use Rattle.std.proofs.Common.{ap, sym, ◌∙◌, List, map, Ok}
 use Rattle.cs_schema.specs.Rows.{Row}
 use Rattle.cs_rows.specs.Survivors.{contents_of}
 use Rattle.cs_rows.specs.Walk.{At, Stray, is_astray, projection_rows, walked_row}
-use Rattle.cs_rebuild.specs.Walking.{WalkFaultAt}
 use Rattle.cs_rebuild.proofs.AnchoredRows.{all_followed}
+use Rattle.cs_rebuild.proofs.Verdicts.{memory_or}
 use Rattle.cs_rebuild.proofs.WalkPieces.{first_astray}
 use Rattle.cs_rebuild.proofs.anchored.walk_anchored.Goals as goal
 
@@ -14,7 +12,7 @@ returns-in-Ok-anchor_table-clause-rows g c =
     let C = c.args.catalog.now in
     let S = contents_of c.args.survivors.now in
     let P = c.args.plan.now in
-    all_followed C S P c.args.crew.now.cut c.args.pieces c.requires.pieces c.in-Ok.ensures.ok.sound
+    all_followed C S P c.args.run.now.cut c.args.pieces c.requires.pieces c.in-Ok.ensures.ok.sound
     ∙ ap (λ (l : List Row). Ok l) (sym c.in-Ok-anchor_table.ensures.rows)
 
 pub returns-clause-err : goal.returns-clause-err
@@ -24,5 +22,4 @@ returns-clause-err g c =
     let P = c.args.plan.now in
     let e : At → Stray = λ at. (P.anchor, at.0, at.1) in
     let f : List At → List Row = map (walked_row C S P) in
-    let least = subst (λ x. IfAt x (IsLeastFault (WalkFaultAt C S P c.args.crew.now.cut) c.args.pieces)) c.in-Err-At.field-0-is c.in-Err-At.ensures.at in
-    inr (first_astray (is_astray C S P) e f (projection_rows C S P.anchor) c.args.crew.now.cut c.args.pieces c.in-Err-At.field-0-0 c.in-Err-At.fault least)
+    memory_or _ c.in-Err.ensures.err (first_astray (is_astray C S P) e f (projection_rows C S P.anchor) c.args.run.now.cut c.args.pieces c.in-Err.fault)

@@ -12,15 +12,15 @@ use Rattle.cs_rebuild.proofs.encoding.encode_copies.Goals as goal
 
 pub encode_piece-requires : goal.encode_piece-requires
 encode_piece-requires c =
-    let g = c.args.ground.now in
+    let g = c.args.store.now in
     let C = g.catalog.now in
     let p = c.args.p in
     let j = c.args.j in
-    let rows = g.walked.now.rows in
+    let rows = g.walked.rows in
     let n = c.table_column.result in
     let cells = c.in_ok-cells.cells in
     let code : c.code.result ≡ code_at C p j = c.code.ensures in
-    let kind : kind_of cells ≡ kind_at C p j = c.in_ok-cells.ensures.kind ∙ kind_of_column C g.walked.now.kinds n (kind_of c.column-column.result.now) g.kinds c.table_column.ensures.exists c.column-column.ensures.kind ∙ ap (λ m. (column C m).kind) c.table_column.ensures.number in
+    let kind : kind_of cells ≡ kind_at C p j = c.in_ok-cells.ensures.kind ∙ kind_of_column C g.walked.kinds n (kind_of c.column-column.result.now) g.kinds c.table_column.ensures.exists c.column-column.ensures.kind ∙ ap (λ m. (column C m).kind) c.table_column.ensures.number in
     let held : values cells ≡ values_at C p rows j c.args.numbers.now =
     c.in_ok-cells.ensures.cells ∙ ap (λ l. map (cell l) c.args.numbers.now) c.column-column.ensures.cells ∙ cells_are rows n c.args.numbers.now c.requires.below
     ∙ ap (λ m. map (λ r. cell (row_at rows r) m) c.args.numbers.now) c.table_column.ensures.number in
@@ -29,15 +29,15 @@ encode_piece-requires c =
 
 pub returns : goal.returns
 returns c =
-    let g = c.args.ground.now in
+    let g = c.args.store.now in
     let C = g.catalog.now in
     let p = c.args.p in
     let j = c.args.j in
-    let rows = g.walked.now.rows in
+    let rows = g.walked.rows in
     let n = c.table_column.result in
     let cells = c.in_ok-cells.cells in
     let code : c.code.result ≡ code_at C p j = c.code.ensures in
-    let kind : kind_of cells ≡ kind_at C p j = c.in_ok-cells.ensures.kind ∙ kind_of_column C g.walked.now.kinds n (kind_of c.column-column.result.now) g.kinds c.table_column.ensures.exists c.column-column.ensures.kind ∙ ap (λ m. (column C m).kind) c.table_column.ensures.number in
+    let kind : kind_of cells ≡ kind_at C p j = c.in_ok-cells.ensures.kind ∙ kind_of_column C g.walked.kinds n (kind_of c.column-column.result.now) g.kinds c.table_column.ensures.exists c.column-column.ensures.kind ∙ ap (λ m. (column C m).kind) c.table_column.ensures.number in
     let held : values cells ≡ values_at C p rows j c.args.numbers.now =
     c.in_ok-cells.ensures.cells ∙ ap (λ l. map (cell l) c.args.numbers.now) c.column-column.ensures.cells ∙ cells_are rows n c.args.numbers.now c.requires.below
     ∙ ap (λ m. map (λ r. cell (row_at rows r) m) c.args.numbers.now) c.table_column.ensures.number in

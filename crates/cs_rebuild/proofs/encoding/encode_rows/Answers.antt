@@ -9,16 +9,16 @@ use Rattle.cs_rebuild.proofs.encoding.encode_rows.Goals as goal
 
 pub encode_copies-requires-clause-order : goal.encode_copies-requires-clause-order
 encode_copies-requires-clause-order c =
-    let g = c.args.ground.now in
+    let g = c.args.store.now in
     let C = g.catalog.now in
-    subst (λ l. FitsCode (code_at C c.args.p c.args.j) (kind_at C c.args.p c.args.j) (values_at C c.args.p g.walked.now.rows c.args.j l)) (sym c.cut_of.ensures)
-    (cut_fits C c.args.p g.walked.now.rows c.args.j c.args.numbers.now c.requires.rises c.cells_at_once-few.result 0)
+    subst (λ l. FitsCode (code_at C c.args.p c.args.j) (kind_at C c.args.p c.args.j) (values_at C c.args.p g.walked.rows c.args.j l)) (sym c.cut_of.ensures)
+    (cut_fits C c.args.p g.walked.rows c.args.j c.args.numbers.now c.requires.rises c.cells_at_once-few.result 0)
 
 pub loop-k-init : goal.loop-k-init
 loop-k-init c =
-    let g = c.args.ground.now in
+    let g = c.args.store.now in
     let C = g.catalog.now in
-    let rows = g.walked.now.rows in
+    let rows = g.walked.rows in
     let p = c.args.p in
     let j = c.args.j in
     let few = c.cells_at_once-few.result in
@@ -28,24 +28,24 @@ loop-k-init c =
 
 pub encode_copies-requires-in-loop-k-clause-order : goal.encode_copies-requires-in-loop-k-clause-order
 encode_copies-requires-in-loop-k-clause-order c =
-    let g = c.args.ground.now in
+    let g = c.args.store.now in
     let C = g.catalog.now in
-    subst (λ l. FitsCode (code_at C c.args.p c.args.j) (kind_at C c.args.p c.args.j) (values_at C c.args.p g.walked.now.rows c.args.j l)) (sym c.cut_of-in-loop-k.ensures)
-    (cut_fits C c.args.p g.walked.now.rows c.args.j c.args.numbers.now c.requires.rises c.cells_at_once-few.result c.loop-k.k)
+    subst (λ l. FitsCode (code_at C c.args.p c.args.j) (kind_at C c.args.p c.args.j) (values_at C c.args.p g.walked.rows c.args.j l)) (sym c.cut_of-in-loop-k.ensures)
+    (cut_fits C c.args.p g.walked.rows c.args.j c.args.numbers.now c.requires.rises c.cells_at_once-few.result c.loop-k.k)
 
 module _ (c : goal.In_ok-piece) where
   -- the next cells
-  next : IsPieceOf c.in_ok-piece.piece (code_at c.args.ground.now.catalog.now c.args.p c.args.j) (kind_at c.args.ground.now.catalog.now c.args.p c.args.j) (values_at c.args.ground.now.catalog.now c.args.p c.args.ground.now.walked.now.rows c.args.j (cut_at c.cells_at_once-few.result c.args.numbers.now c.loop-k.k))
+  next : IsPieceOf c.in_ok-piece.piece (code_at c.args.store.now.catalog.now c.args.p c.args.j) (kind_at c.args.store.now.catalog.now c.args.p c.args.j) (values_at c.args.store.now.catalog.now c.args.p c.args.store.now.walked.rows c.args.j (cut_at c.cells_at_once-few.result c.args.numbers.now c.loop-k.k))
   next =
-      let g = c.args.ground.now in
+      let g = c.args.store.now in
       let C = g.catalog.now in
-      subst (λ l. IsPieceOf c.in_ok-piece.piece (code_at C c.args.p c.args.j) (kind_at C c.args.p c.args.j) (values_at C c.args.p g.walked.now.rows c.args.j l)) c.cut_of-in-loop-k.ensures c.in_ok-piece.ensures
+      subst (λ l. IsPieceOf c.in_ok-piece.piece (code_at C c.args.p c.args.j) (kind_at C c.args.p c.args.j) (values_at C c.args.p g.walked.rows c.args.j l)) c.cut_of-in-loop-k.ensures c.in_ok-piece.ensures
 
 pub join_pieces-requires : goal.join_pieces-requires
 join_pieces-requires c =
-    let g = c.args.ground.now in
+    let g = c.args.store.now in
     let C = g.catalog.now in
-    let rows = g.walked.now.rows in
+    let rows = g.walked.rows in
     let p = c.args.p in
     let j = c.args.j in
     let k = c.loop-k.k in
@@ -62,9 +62,9 @@ join_pieces-requires c =
 
 pub loop-k-preserved : goal.loop-k-preserved
 loop-k-preserved c =
-    let g = c.args.ground.now in
+    let g = c.args.store.now in
     let C = g.catalog.now in
-    let rows = g.walked.now.rows in
+    let rows = g.walked.rows in
     let p = c.args.p in
     let j = c.args.j in
     let k = c.loop-k.k in
@@ -74,8 +74,8 @@ loop-k-preserved c =
 
 pub returns : goal.returns
 returns c =
-    let g = c.args.ground.now in
+    let g = c.args.store.now in
     let C = g.catalog.now in
     let p = c.args.p in
     let j = c.args.j in
-    subst (IsPieceOf c.loop-k.column (code_at C p j) (kind_at C p j)) (all_cuts C p g.walked.now.rows j c.args.numbers.now c.cells_at_once-few.result c.pieces_in-parts.result c.loop-k.k c.cells_at_once-few.ensures.0 c.pieces_in-parts.ensures.count (omega (arith, c.loop-k-test.false))) c.loop-k.invariant
+    subst (IsPieceOf c.loop-k.column (code_at C p j) (kind_at C p j)) (all_cuts C p g.walked.rows j c.args.numbers.now c.cells_at_once-few.result c.pieces_in-parts.result c.loop-k.k c.cells_at_once-few.ensures.0 c.pieces_in-parts.ensures.count (omega (arith, c.loop-k-test.false))) c.loop-k.invariant

@@ -9,4 +9,4 @@ use Rattle.cs_rebuild.proofs.joined.leads.Given as goal
 -- the entries so far are the expected ones
 abbrev pub invariant-loop-i : goal.invariant-loop-i
 invariant-loop-i l =
-    (m : ℕ) → m < l.i → agrees l.ground.catalog.now l.ground.loss l.q (get_or l.join m no_place) (entry_for l.ground.catalog.now l.ground.loss (contents_of l.ground.survivors.now) (table_of l.ground.catalog.now l.ground.walked.now.rows) l.p l.s l.q (m + 1)) ≡ true
+    (m : ℕ) → m < l.i → agrees l.store.catalog.now l.store.loss l.q (get_or l.join m no_place) (entry_for l.store.catalog.now l.store.loss (contents_of l.store.survivors.now) (table_of l.store.catalog.now l.store.walked.rows) l.p l.s l.q (m + 1)) ≡ true

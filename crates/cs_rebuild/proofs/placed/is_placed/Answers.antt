@@ -14,11 +14,11 @@ use Rattle.cs_rebuild.proofs.placed.is_placed.Goals as goal
 
 pub returns : goal.returns
 returns g c =
-    let C = c.args.ground.now.catalog.now in
+    let C = c.args.store.now.catalog.now in
     let p = c.args.p in
-    let rows = c.args.ground.now.walked.now.rows in
-    let X : List (List Value) = image_rows ((contents_of c.args.ground.now.survivors.now).image p c.args.s) in
+    let rows = c.args.store.now.walked.rows in
+    let X : List (List Value) = image_rows ((contents_of c.args.store.now.survivors.now).image p c.args.s) in
     let Y : List (List Value) = map (project C p) (rows_of C (table_of C rows) p c.args.s) in
     let image = ap (λ o. image_rows (held o)) c.in-Some.ensures in
-    let kept = ap (λ l. map (project C p) (map (row_at rows) l)) c.segment-numbers.ensures ∙ ap (map (project C p)) (c.args.ground.now.each p c.args.s c.requires.0.0) in
+    let kept = ap (λ l. map (project C p) (map (row_at rows) l)) c.segment-numbers.ensures ∙ ap (map (project C p)) (c.args.store.now.each p c.args.s c.requires.0.0) in
     decided c.has_rows.result (pointwise (pointwise value_eq) X Y) (λ t. (rows_decide X Y).1 (image ∙ c.has_rows.ensures.0 t ∙ kept)) (λ t. c.has_rows.ensures.1 (sym image ∙ (rows_decide X Y).0 t ∙ sym kept))

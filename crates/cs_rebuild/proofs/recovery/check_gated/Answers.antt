@@ -24,23 +24,23 @@ returns-in-Err-read_store-clause-answer g c =
 pub returns-in-Err-read_store-clause-clauses : goal.returns-in-Err-read_store-clause-clauses
 returns-in-Err-read_store-clause-clauses g c = check_ends c.args.catalog.now c.projection_count-rules.ensures.rules (contents_of c.args.files.now) c.args.k _ (returns-in-Err-read_store-clause-answer g c)
 
-pub returns-in-Ok-judge-clause-answer : goal.returns-in-Ok-judge-clause-answer
-returns-in-Ok-judge-clause-answer g c =
+pub returns-in-Ok-verify_store-clause-answer : goal.returns-in-Ok-verify_store-clause-answer
+returns-in-Ok-verify_store-clause-answer g c =
     let C = c.args.catalog.now in
     let F = contents_of c.args.files.now in
     let v = c.in-Ok.survivors in
-    let store = c.in-Ok-judge.store in
+    let store = c.in-Ok-verify_store.store in
     let rows = store.walked.rows in
-    let sound = subst (λ L. AreSound C F L v store.walked store.orders) c.no_loss-loss.ensures.none (c.in-Ok-judge.ensures.ok F c.in-Ok.ensures.ok) in
+    let sound = subst (λ L. AreSound C F L v store.walked store.orders) c.no_loss-loss.ensures.none (c.in-Ok-verify_store.ensures.ok F c.in-Ok.ensures.ok) in
     (table_of C rows, checked C F c.args.k c.in_default.ensures.limit c.in_default.ensures.safe v store.walked store.orders sound, c.rows.ensures ∙ sym (length_table C rows (none_twice C rows sound.rows_sound)))
 
-pub returns-in-Ok-judge-clause-clauses : goal.returns-in-Ok-judge-clause-clauses
-returns-in-Ok-judge-clause-clauses g c = check_ends c.args.catalog.now c.projection_count-rules.ensures.rules (contents_of c.args.files.now) c.args.k _ (returns-in-Ok-judge-clause-answer g c)
+pub returns-in-Ok-verify_store-clause-clauses : goal.returns-in-Ok-verify_store-clause-clauses
+returns-in-Ok-verify_store-clause-clauses g c = check_ends c.args.catalog.now c.projection_count-rules.ensures.rules (contents_of c.args.files.now) c.args.k _ (returns-in-Ok-verify_store-clause-answer g c)
 
 pub returns-clause-answer : goal.returns-clause-answer
 returns-clause-answer g c =
-    not_checked c.args.catalog.now (contents_of c.args.files.now) c.args.k c.in_default.ensures.limit c.in_default.ensures.safe c.in-Err-judge.fault
-    (subst (λ L. MemoryOr c.in-Err-judge.fault (IsVerdict c.args.catalog.now (contents_of c.args.files.now) L (Err c.in-Err-judge.fault))) c.no_loss-loss.ensures.none (c.in-Err-judge.ensures.err (contents_of c.args.files.now) c.in-Ok.ensures.ok))
+    not_checked c.args.catalog.now (contents_of c.args.files.now) c.args.k c.in_default.ensures.limit c.in_default.ensures.safe c.in-Err-verify_store.fault
+    (subst (λ L. MemoryOr c.in-Err-verify_store.fault (IsVerdict c.args.catalog.now (contents_of c.args.files.now) L (Err c.in-Err-verify_store.fault))) c.no_loss-loss.ensures.none (c.in-Err-verify_store.ensures.err (contents_of c.args.files.now) c.in-Ok.ensures.ok))
 
 pub returns-clause-clauses : goal.returns-clause-clauses
 returns-clause-clauses g c = check_ends c.args.catalog.now c.projection_count-rules.ensures.rules (contents_of c.args.files.now) c.args.k _ (returns-clause-answer g c)

@@ -6,7 +6,7 @@ use Rattle.cs_rebuild.proofs.unwritten.push_base.Goals as goal
 
 pub returns-clause-each : goal.returns-clause-each
 returns-clause-each g c =
-    let x = c.args.ground.now in
+    let x = c.args.store.now in
     let p = c.args.p in
     let s = c.args.s in
     let base : IsLostSegment x.catalog.now x.loss p s = record { segment = c.requires.segment; is_lost = sym c.lost.ensures ∙ c.if-not-lost.false } in

@@ -6,7 +6,7 @@ use Rattle.cs_rebuild.proofs.unwritten.push_joins.Goals as goal
 
 pub loop-q-preserved-then-not-is_affected : goal.loop-q-preserved-then-not-is_affected
 loop-q-preserved-then-not-is_affected c =
-    let x = c.args.ground.now in
+    let x = c.args.store.now in
     let now = map name_of c.loop-q.files.items in
     let none = not_in_if x.catalog.now x.loss c.args.p c.args.s c.loop-q.q (sym c.is_affected.ensures ∙ c.if-not-is_affected.true) in
     record {
@@ -16,7 +16,7 @@ loop-q-preserved-then-not-is_affected c =
 
 pub loop-q-preserved : goal.loop-q-preserved
 loop-q-preserved c =
-    let x = c.args.ground.now in
+    let x = c.args.store.now in
     let file = Unwritten.Join c.args.p c.args.s c.loop-q.q in
     let old = c.loop-q.files.items in
     let new = c.push.new.self.items in

@@ -4,6 +4,6 @@ use Rattle.cs_rebuild.proofs.unwritten.push_joins.Given as goal
 
 abbrev pub invariant-loop-q : goal.invariant-loop-q
 invariant-loop-q l = record {
-  each : All (IsToWrite l.ground) l.files.items;
-  names : map name_of l.files.items ≡ map name_of l.fn.files.items ++ join_names l.ground.catalog.now l.ground.loss l.p l.s l.q;
+  each : All (IsToWrite l.store) l.files.items;
+  names : map name_of l.files.items ≡ map name_of l.fn.files.items ++ join_names l.store.catalog.now l.store.loss l.p l.s l.q;
 }

@@ -5,7 +5,7 @@ use Rattle.cs_rebuild.proofs.unwritten.push_projection.Goals as goal
 
 pub loop-s-preserved : goal.loop-s-preserved
 loop-s-preserved g c =
-    let x = c.args.ground.now in
+    let x = c.args.store.now in
     let C = x.catalog.now in
     let p = c.args.p in
     let s = c.loop-s.s in

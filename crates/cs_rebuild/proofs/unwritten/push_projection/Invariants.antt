@@ -4,6 +4,6 @@ use Rattle.cs_rebuild.proofs.unwritten.push_projection.Given as goal
 
 abbrev pub invariant-loop-s : goal.invariant-loop-s
 invariant-loop-s g l = record {
-  each : All (IsToWrite l.ground) l.files.items;
-  names : map name_of l.files.items ≡ map name_of l.fn.files.items ++ names_in l.ground.catalog.now l.ground.loss l.p l.s;
+  each : All (IsToWrite l.store) l.files.items;
+  names : map name_of l.files.items ≡ map name_of l.fn.files.items ++ names_in l.store.catalog.now l.store.loss l.p l.s;
 }

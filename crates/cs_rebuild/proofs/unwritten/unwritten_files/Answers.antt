@@ -10,7 +10,7 @@ use Rattle.cs_rebuild.proofs.unwritten.unwritten_files.Goals as goal
 
 pub loop-p-preserved : goal.loop-p-preserved
 loop-p-preserved g c =
-    let x = c.args.ground.now in
+    let x = c.args.store.now in
     record {
       each = c.in_ok-push_projection.ensures.each;
       names = one_pushed (λ p. names_in x.catalog.now x.loss p (segments x.catalog.now p)) c.loop-p.p [] (map name_of c.loop-p.files.items) (map name_of c.push_projection.new.files.items) c.loop-p.invariant.names c.in_ok-push_projection.ensures.names;
@@ -18,9 +18,9 @@ loop-p-preserved g c =
 
 pub returns-clause-all : goal.returns-clause-all
 returns-clause-all g c n =
-    let x = c.args.ground.now in
+    let x = c.args.store.now in
     let C = x.catalog.now in
     let S = contents_of x.survivors.now in
-    let T = table_of C x.walked.now.rows in
+    let T = table_of C x.walked.rows in
     let whole : c.loop-p.p ≡ length C.projections = omega (arith, c.projection_count-p-end.ensures.count) in
     subst (λ l. IsIn n l ⊎ (written C x.loss S T n ≡ None)) (sym (c.loop-p.invariant.names ∙ ap (names_below C x.loss) whole)) (all_names C x.loss c.projection_count-p-end.ensures.rules S T n)

@@ -4,6 +4,6 @@ use Rattle.cs_rebuild.proofs.unwritten.unwritten_files.Given as goal
 
 abbrev pub invariant-loop-p : goal.invariant-loop-p
 invariant-loop-p g l = record {
-  each : All (IsToWrite l.ground) l.files.items;
-  names : map name_of l.files.items ≡ names_below l.ground.catalog.now l.ground.loss l.p;
+  each : All (IsToWrite l.store) l.files.items;
+  names : map name_of l.files.items ≡ names_below l.store.catalog.now l.store.loss l.p;
 }

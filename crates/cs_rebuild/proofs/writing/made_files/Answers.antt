@@ -16,16 +16,16 @@ collect-requires-clause-ready g c κs within =
 
 module _ (g : Over) (c : goal.In_ok-collect g) where
   -- each file is made of what stands at its place
-  made : IfOk c.in_ok-collect.field-0 (λ made. AllZip (IsFile (λ file. file.0) (λ file. file.1.items) c.args.ground.now) c.args.files.items made.items)
+  made : IfOk c.in_ok-collect.field-0 (λ made. AllZip (IsFile (λ file. file.0) (λ file. file.1.items) c.args.store.now) c.args.files.items made.items)
   made =
       let h = c.in_ok-collect.ensures in
       let shown = rw c.map.ensures.base at h.1.1 ∙ (λ i. vec_items (c.with_min_len.ensures.base i)) ∙ c.into_par_iter.ensures in
-      let zipped = zipped_as (λ a r. IfOk r (IsFile (λ file. file.0) (λ file. file.1.items) c.args.ground.now a)) h.1.0 h.0 h.1.2 (λ a r made. rw c.map.ensures.f at made) in
-      each_there (IsFile (λ file. file.0) (λ file. file.1.items) c.args.ground.now) (λ made. made.items) c.args.files.items h.0 c.in_ok-collect.field-0
-      (subst (λ froms. AllZip (λ a r. IfOk r (IsFile (λ file. file.0) (λ file. file.1.items) c.args.ground.now a)) froms h.0) shown zipped) h.2
+      let zipped = zipped_as (λ a r. IfOk r (IsFile (λ file. file.0) (λ file. file.1.items) c.args.store.now a)) h.1.0 h.0 h.1.2 (λ a r made. rw c.map.ensures.f at made) in
+      each_there (IsFile (λ file. file.0) (λ file. file.1.items) c.args.store.now) (λ made. made.items) c.args.files.items h.0 c.in_ok-collect.field-0
+      (subst (λ froms. AllZip (λ a r. IfOk r (IsFile (λ file. file.0) (λ file. file.1.items) c.args.store.now a)) froms h.0) shown zipped) h.2
 
 pub returns-clause-names : goal.returns-clause-names
-returns-clause-names g c = IfOk-then c.in_ok-collect.field-0 _ _ (made g c) (λ made zipped. files_named (λ file. file.0) (λ file. file.1.items) c.args.ground.now c.args.files.items made.items zipped)
+returns-clause-names g c = IfOk-then c.in_ok-collect.field-0 _ _ (made g c) (λ made zipped. files_named (λ file. file.0) (λ file. file.1.items) c.args.store.now c.args.files.items made.items zipped)
 
 pub returns-clause-texts : goal.returns-clause-texts
-returns-clause-texts g c = IfOk-then c.in_ok-collect.field-0 _ _ (made g c) (λ made zipped. texts_made (λ file. file.0) (λ file. file.1.items) c.args.ground.now c.args.files.items made.items zipped)
+returns-clause-texts g c = IfOk-then c.in_ok-collect.field-0 _ _ (made g c) (λ made zipped. texts_made (λ file. file.0) (λ file. file.1.items) c.args.store.now c.args.files.items made.items zipped)

@@ -10,9 +10,9 @@ use Rattle.cs_rebuild.proofs.writing.write_files.Goals as goal
 
 pub loop-name-init : goal.loop-name-init
 loop-name-init g c =
-    let x = c.args.ground.now in
+    let x = c.args.store.now in
     let C = x.catalog.now in
-    let all = written C x.loss (held_by x.survivors.now) (table_of C x.walked.now.rows) in
+    let all = written C x.loss (held_by x.survivors.now) (table_of C x.walked.rows) in
     record {
       texts = c.in_ok-made.ensures.texts;
       left = all_left (λ file. file.0) all (map name_of c.in_ok-unwritten.unwritten.items) c.in_ok-made.made.items c.in_ok-files.files c.in_ok-files.ensures c.in_ok-made.ensures.names c.in_ok-unwritten.ensures.all;
@@ -20,9 +20,9 @@ loop-name-init g c =
 
 pub loop-name-preserved : goal.loop-name-preserved
 loop-name-preserved g c =
-    let x = c.args.ground.now in
+    let x = c.args.store.now in
     let C = x.catalog.now in
-    let all = written C x.loss (held_by x.survivors.now) (table_of C x.walked.now.rows) in
+    let all = written C x.loss (held_by x.survivors.now) (table_of C x.walked.rows) in
     let rest = c.loop-name.made.items in
     let new = c.pop.new.self.items in
     let split = c.in-Some.ensures.items in
@@ -35,7 +35,7 @@ loop-name-preserved g c =
 
 pub returns : goal.returns
 returns g c =
-    let x = c.args.ground.now in
+    let x = c.args.store.now in
     let C = x.catalog.now in
     let none = (no_rest _ c.pop.result c.in_default.not-Some c.pop.ensures.cases).0 in
-    none_left (λ file. file.0) (written C x.loss (held_by x.survivors.now) (table_of C x.walked.now.rows)) c.loop-name.made.items c.loop-name.files (omega (arith, none)) c.loop-name.invariant.left
+    none_left (λ file. file.0) (written C x.loss (held_by x.survivors.now) (table_of C x.walked.rows)) c.loop-name.made.items c.loop-name.files (omega (arith, none)) c.loop-name.invariant.left

@@ -8,8 +8,8 @@ use Rattle.cs_rebuild.proofs.writing.write_files.Given as goal
 -- each name is that of a file that is left to put, or written
 abbrev pub invariant-loop-name : goal.invariant-loop-name
 invariant-loop-name g l = record {
-  texts : All (λ file. written l.ground.catalog.now l.ground.loss (held_by l.ground.survivors.now) (table_of l.ground.catalog.now l.ground.walked.now.rows) file.0 ≡ Some file.1.items) l.made.items;
-  left : IsLeftOrWritten (λ file. file.0) (written l.ground.catalog.now l.ground.loss (held_by l.ground.survivors.now) (table_of l.ground.catalog.now l.ground.walked.now.rows)) l.made.items l.files;
+  texts : All (λ file. written l.store.catalog.now l.store.loss (held_by l.store.survivors.now) (table_of l.store.catalog.now l.store.walked.rows) file.0 ≡ Some file.1.items) l.made.items;
+  left : IsLeftOrWritten (λ file. file.0) (written l.store.catalog.now l.store.loss (held_by l.store.survivors.now) (table_of l.store.catalog.now l.store.walked.rows)) l.made.items l.files;
 }
 
 abbrev pub decreases-loop-name : goal.decreases-loop-name

@@ -3,25 +3,25 @@ use Rattle.cs_schema.specs.Lists.{IsIn}
 use Rattle.cs_rows.specs.Survivors.{contents_of}
 use Rattle.cs_order.specs.Tables.{table_of}
 use Rattle.cs_recovery.specs.Places.{entries_for}
-use Rattle.cs_rebuild.proofs.GroundFacts.{same_entries}
+use Rattle.cs_rebuild.proofs.StoreFacts.{same_entries}
 use Rattle.cs_rebuild.proofs.SoundFacts.{entries_are}
 use Rattle.cs_rebuild.proofs.WrittenFiles.{text_of}
 use Rattle.cs_rebuild.proofs.writing_joins.join_bytes.Goals as goal
 
 pub write_jix-requires-clause-count : goal.write_jix-requires-clause-count
 write_jix-requires-clause-count g c =
-    let x = c.args.ground.now in
-    let file = entries_are x.catalog.now c.projection_count-rules.ensures.rules c.requires.sound.0 x.loss x.survivors.now x.walked.now x.orders.now c.requires.sound.1 c.args.p c.args.s c.args.q c.requires.segment c.requires.target in
-    subst (λ l. length l ≤ 4194304) (sym (c.as_slice.ensures.value ∙ c.in_ok-entries.ensures ∙ same_entries x c.new.result.ground.now c.new.ensures.ground c.args.p c.args.s c.args.q c.new.result.p c.new.result.s c.new.result.q c.new.ensures.segment.0 c.new.ensures.segment.1 c.new.ensures.target)) file.count
+    let x = c.args.store.now in
+    let file = entries_are x.catalog.now c.projection_count-rules.ensures.rules c.requires.sound.0 x.loss x.survivors.now x.walked x.orders c.requires.sound.1 c.args.p c.args.s c.args.q c.requires.segment c.requires.target in
+    subst (λ l. length l ≤ 4194304) (sym (c.as_slice.ensures.value ∙ c.in_ok-entries.ensures ∙ same_entries x c.new.result.store.now c.new.ensures.store c.args.p c.args.s c.args.q c.new.result.p c.new.result.s c.new.result.q c.new.ensures.segment.0 c.new.ensures.segment.1 c.new.ensures.target)) file.count
 
 pub write_jix-requires-clause-each : goal.write_jix-requires-clause-each
 write_jix-requires-clause-each g c e i =
-    let x = c.args.ground.now in
-    let file = entries_are x.catalog.now c.projection_count-rules.ensures.rules c.requires.sound.0 x.loss x.survivors.now x.walked.now x.orders.now c.requires.sound.1 c.args.p c.args.s c.args.q c.requires.segment c.requires.target in
-    file.each e (subst (IsIn e) (c.as_slice.ensures.value ∙ c.in_ok-entries.ensures ∙ same_entries x c.new.result.ground.now c.new.ensures.ground c.args.p c.args.s c.args.q c.new.result.p c.new.result.s c.new.result.q c.new.ensures.segment.0 c.new.ensures.segment.1 c.new.ensures.target) i)
+    let x = c.args.store.now in
+    let file = entries_are x.catalog.now c.projection_count-rules.ensures.rules c.requires.sound.0 x.loss x.survivors.now x.walked x.orders c.requires.sound.1 c.args.p c.args.s c.args.q c.requires.segment c.requires.target in
+    file.each e (subst (IsIn e) (c.as_slice.ensures.value ∙ c.in_ok-entries.ensures ∙ same_entries x c.new.result.store.now c.new.ensures.store c.args.p c.args.s c.args.q c.new.result.p c.new.result.s c.new.result.q c.new.ensures.segment.0 c.new.ensures.segment.1 c.new.ensures.target) i)
 
 pub returns : goal.returns
 returns g c =
-    let x = c.args.ground.now in
+    let x = c.args.store.now in
     let C = x.catalog.now in
-    text_of (λ b. b.items) c.args.p c.args.s c.args.q c.as_slice.result.now (entries_for C x.loss (contents_of x.survivors.now) (table_of C x.walked.now.rows) c.args.p c.args.s c.args.q) c.write_jix.result (c.as_slice.ensures.value ∙ c.in_ok-entries.ensures ∙ same_entries x c.new.result.ground.now c.new.ensures.ground c.args.p c.args.s c.args.q c.new.result.p c.new.result.s c.new.result.q c.new.ensures.segment.0 c.new.ensures.segment.1 c.new.ensures.target) c.write_jix.ensures
+    text_of (λ b. b.items) c.args.p c.args.s c.args.q c.as_slice.result.now (entries_for C x.loss (contents_of x.survivors.now) (table_of C x.walked.rows) c.args.p c.args.s c.args.q) c.write_jix.result (c.as_slice.ensures.value ∙ c.in_ok-entries.ensures ∙ same_entries x c.new.result.store.now c.new.ensures.store c.args.p c.args.s c.args.q c.new.result.p c.new.result.s c.new.result.q c.new.ensures.segment.0 c.new.ensures.segment.1 c.new.ensures.target) c.write_jix.ensures

@@ -9,8 +9,8 @@ use Rattle.cs_rebuild.proofs.encoding.EncodeWork.join_column.Goals as goal
 pub loop-k-init : goal.loop-k-init
 loop-k-init c =
     let w = c.args.self.now in
-    let C = w.ground.now.catalog.now in
-    let rows = w.ground.now.walked.now.rows in
+    let C = w.store.now.catalog.now in
+    let rows = w.store.now.walked.rows in
     let j = c.args.j in
     record {
       left = c.take_cut-column.ensures.left;
@@ -22,8 +22,8 @@ loop-k-init c =
 pub join_pieces-requires : goal.join_pieces-requires
 join_pieces-requires c =
     let w = c.args.self.now in
-    let C = w.ground.now.catalog.now in
-    let rows = w.ground.now.walked.now.rows in
+    let C = w.store.now.catalog.now in
+    let rows = w.store.now.walked.rows in
     let j = c.args.j in
     let k = c.loop-k.k in
     record {
@@ -39,8 +39,8 @@ join_pieces-requires c =
 pub loop-k-preserved : goal.loop-k-preserved
 loop-k-preserved c =
     let w = c.args.self.now in
-    let C = w.ground.now.catalog.now in
-    let rows = w.ground.now.walked.now.rows in
+    let C = w.store.now.catalog.now in
+    let rows = w.store.now.walked.rows in
     let j = c.args.j in
     let k = c.loop-k.k in
     record {
@@ -53,8 +53,8 @@ loop-k-preserved c =
 pub returns-clause-column : goal.returns-clause-column
 returns-clause-column c =
     let w = c.args.self.now in
-    let C = w.ground.now.catalog.now in
-    let rows = w.ground.now.walked.now.rows in
+    let C = w.store.now.catalog.now in
+    let rows = w.store.now.walked.rows in
     let j = c.args.j in
     let k = c.loop-k.k in
     subst (IsPieceOf c.loop-k.column (code_at C w.p j) (kind_at C w.p j)) (all_cuts C w.p rows j w.numbers.now w.cut w.per k w.cut_range.0 w.per_is (omega (arith, c.loop-k-test.false))) c.loop-k.invariant.column

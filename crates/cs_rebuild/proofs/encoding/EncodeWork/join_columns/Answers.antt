@@ -15,7 +15,7 @@ loop-j-init c =
     let long : length c.reverse.new.self.items ≡ length c.args.pieces.items = sym c.reverse.new.self.ok.0 ∙ c.reverse.ensures.len ∙ count in
     record {
       left = omega (arith, none, long, c.requires.long);
-      rest = all_left (EncodeAnswerAt w.ground.now.catalog.now w.p w.ground.now.walked.now.rows w.numbers.now w.cut) w.pieces c.args.pieces.items c.reverse.new.self.items c.requires.long long (subst (ReversedBelow c.args.pieces.items c.reverse.new.self.items) count c.reverse.ensures.by_index) c.requires.each;
+      rest = all_left (EncodeAnswerAt w.store.now.catalog.now w.p w.store.now.walked.rows w.numbers.now w.cut) w.pieces c.args.pieces.items c.reverse.new.self.items c.requires.long long (subst (ReversedBelow c.args.pieces.items c.reverse.new.self.items) count c.reverse.ensures.by_index) c.requires.each;
       width = ap length c.new-columns.ensures.items;
       each = λ j piece at. absurd (Rattle.std.proofs.lemmas.Option.none-some piece (sym (ap (λ l. slice_get l j) c.new-columns.ensures.items) ∙ at));
     }
@@ -23,8 +23,8 @@ loop-j-init c =
 pub loop-j-preserved : goal.loop-j-preserved
 loop-j-preserved c =
     let w = c.args.self.now in
-    let C = w.ground.now.catalog.now in
-    let P : ℕ → Piece → Type 0 = λ j piece. IsPieceOf piece (code_at C w.p j) (kind_at C w.p j) (values_at C w.p w.ground.now.walked.now.rows j w.numbers.now) in
+    let C = w.store.now.catalog.now in
+    let P : ℕ → Piece → Type 0 = λ j piece. IsPieceOf piece (code_at C w.p j) (kind_at C w.p j) (values_at C w.p w.store.now.walked.rows j w.numbers.now) in
     let pushed = c.in_ok-push.ensures.items in
     let long = ap length pushed ∙ length-append c.loop-j.columns.items (c.in_ok-column.column ∷ []) in
     let width = c.loop-j.invariant.width in

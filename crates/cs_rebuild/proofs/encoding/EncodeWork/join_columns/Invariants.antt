@@ -9,7 +9,7 @@ use Rattle.cs_rebuild.proofs.encoding.EncodeWork.join_columns.Given as goal
 abbrev pub invariant-loop-j : goal.invariant-loop-j
 invariant-loop-j l = record {
   left : length l.rest.items + l.j * l.self.per ≡ l.self.pieces;
-  rest : IsRestOf l.self.ground.now.catalog.now l.self.p l.self.ground.now.walked.now.rows l.self.numbers.now l.self.cut l.self.pieces l.rest.items;
+  rest : IsRestOf l.self.store.now.catalog.now l.self.p l.self.store.now.walked.rows l.self.numbers.now l.self.cut l.self.pieces l.rest.items;
   width : length l.columns.items ≡ l.j;
-  each : (j : ℕ) (piece : Piece) → slice_get l.columns.items j ≡ Some piece → IsPieceOf piece (code_at l.self.ground.now.catalog.now l.self.p j) (kind_at l.self.ground.now.catalog.now l.self.p j) (values_at l.self.ground.now.catalog.now l.self.p l.self.ground.now.walked.now.rows j l.self.numbers.now);
+  each : (j : ℕ) (piece : Piece) → slice_get l.columns.items j ≡ Some piece → IsPieceOf piece (code_at l.self.store.now.catalog.now l.self.p j) (kind_at l.self.store.now.catalog.now l.self.p j) (values_at l.self.store.now.catalog.now l.self.p l.self.store.now.walked.rows j l.self.numbers.now);
 }

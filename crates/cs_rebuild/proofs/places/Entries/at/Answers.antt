@@ -11,21 +11,21 @@ use Rattle.cs_rebuild.proofs.places.Entries.at.Goals as goal
 
 pub returns-then-position-self-clause-entry : goal.returns-then-position-self-clause-entry
 returns-then-position-self-clause-entry c =
-    let g = c.args.self.now.ground.now in
+    let g = c.args.self.now.store.now in
     let C = g.catalog.now in
-    let rows = g.walked.now.rows in
+    let rows = g.walked.rows in
     let i = c.in-Some.position in
     let n : ℕ = get_or c.args.self.now.numbers.now i 0 in
     let at = ap (λ l. slice_get l i) (sym c.args.self.now.numbers_are) ∙ slice_get-get_or c.args.self.now.numbers.now i 0 c.if-position-self.true in
-    let there = row_there C rows g.orders.now g.order_room g.each c.args.self.now.p c.args.self.now.s i n c.args.self.now.segment.0 at in
+    let there = row_there C rows g.orders g.order_room g.each c.args.self.now.p c.args.self.now.s i n c.args.self.now.segment.0 at in
     c.place.ensures.place ∙ sym (entry_there C rows g.loss (contents_of g.survivors.now) c.args.self.now.p c.args.self.now.s c.args.self.now.q c.args.key i (sym c.position.ensures ∙ c.in-Some.is) (row_at rows n) there)
 
 pub returns-else-position-self-clause-entry : goal.returns-else-position-self-clause-entry
 returns-else-position-self-clause-entry c =
-    let g = c.args.self.now.ground.now in
+    let g = c.args.self.now.store.now in
     let C = g.catalog.now in
-    let rows = g.walked.now.rows in
+    let rows = g.walked.rows in
     let i = c.in-Some.position in
-    let count = count_there C rows g.orders.now g.order_room g.each c.args.self.now.p c.args.self.now.s c.args.self.now.segment.0 in
+    let count = count_there C rows g.orders g.order_room g.each c.args.self.now.p c.args.self.now.s c.args.self.now.segment.0 in
     let numbers = ap length c.args.self.now.numbers_are in
     sym (entry_past C rows g.loss (contents_of g.survivors.now) c.args.self.now.p c.args.self.now.s c.args.self.now.q c.args.key i (sym c.position.ensures ∙ c.in-Some.is) (slice_get_past (rows_of C (table_of C rows) c.args.self.now.p c.args.self.now.s) i (omega (arith, count, numbers, c.if-position-self.false))))

@@ -14,35 +14,35 @@ use Rattle.cs_rebuild.proofs.places.Entries.place.Goals as goal
 
 pub overflow_add-result : goal.overflow_add-result
 overflow_add-result c =
-    let g = c.args.self.now.ground.now in
-    let low = index_limit g.catalog.now g.walked.now.rows g.orders.now g.order_room g.each g.ranges c.args.self.now.q c.place-t.result.0 c.place-t.result.1 c.args.row c.args.self.now.target c.place-t.ensures in
+    let g = c.args.self.now.store.now in
+    let low = index_limit g.catalog.now g.walked.rows g.orders g.order_room g.each g.ranges c.args.self.now.q c.place-t.result.0 c.place-t.result.1 c.args.row c.args.self.now.target c.place-t.ensures in
     omega (arith, low)
 
 pub returns-then-lost-clause-place : goal.returns-then-lost-clause-place
 returns-then-lost-clause-place c =
-    let g = c.args.self.now.ground.now in
+    let g = c.args.self.now.store.now in
     let C = g.catalog.now in
-    let rows = g.walked.now.rows in
+    let rows = g.walked.rows in
     let S = contents_of g.survivors.now in
     let q = c.args.self.now.q in
     let t = c.place-t.result.0 in
     let i = c.place-t.result.1 in
     let cells = map (project C q) (rows_of C (table_of C rows) q t) in
-    let at = row_there C rows g.orders.now g.order_room g.each q t i c.args.row c.args.self.now.target c.place-t.ensures in
+    let at = row_there C rows g.orders g.order_room g.each q t i c.args.row c.args.self.now.target c.place-t.ensures in
     let inside = slice_get_within (rows_of C (table_of C rows) q t) i (row_at rows c.args.row) at in
     let long : length cells ≡ length (rows_of C (table_of C rows) q t) = length-map (rows_of C (table_of C rows) q t) (project C q) in
     sym (place_there C rows g.loss S q t i (row_at rows c.args.row) at ∙ ap (λ m. (t, slice_index (image_keys m) i)) (is_fresh C rows g.loss S q t (sym c.lost.ensures ∙ c.if-lost.true)) ∙ ap (λ k. (t, k)) (fresh_key cells i (omega (arith, inside, long))))
 
 pub returns-then-index-rows-clause-place : goal.returns-then-index-rows-clause-place
 returns-then-index-rows-clause-place c =
-    let g = c.args.self.now.ground.now in
+    let g = c.args.self.now.store.now in
     let C = g.catalog.now in
-    let rows = g.walked.now.rows in
+    let rows = g.walked.rows in
     let S = contents_of g.survivors.now in
     let t = c.place-t.result.0 in
     let i = c.place-t.result.1 in
-    let at = row_there C rows g.orders.now g.order_room g.each c.args.self.now.q t i c.args.row c.args.self.now.target c.place-t.ensures in
-    let inside = segment_there C rows g.orders.now g.order_room g.each c.args.self.now.q t i c.args.row c.args.self.now.target c.place-t.ensures in
+    let at = row_there C rows g.orders g.order_room g.each c.args.self.now.q t i c.args.row c.args.self.now.target c.place-t.ensures in
+    let inside = segment_there C rows g.orders g.order_room g.each c.args.self.now.q t i c.args.row c.args.self.now.target c.place-t.ensures in
     let long_there = ap length c.args.self.now.targets_are in
     let room = (g.image_room c.args.self.now.q t (c.args.self.now.target, inside)).1 in
     let there : image_at g.survivors.now c.args.self.now.q t ≡ Some c.in-Some.image = ap (λ l. get_or l t None) (sym c.args.self.now.targets_are) ∙ get_or_default c.args.self.now.targets.now t None c.index-self-t.result (omega (arith, room, long_there)) ∙ c.in-Some.is in
@@ -50,16 +50,16 @@ returns-then-index-rows-clause-place c =
 
 pub returns-else-index-rows-clause-place : goal.returns-else-index-rows-clause-place
 returns-else-index-rows-clause-place c =
-    let g = c.args.self.now.ground.now in
+    let g = c.args.self.now.store.now in
     let C = g.catalog.now in
-    let rows = g.walked.now.rows in
+    let rows = g.walked.rows in
     let S = contents_of g.survivors.now in
     let t = c.place-t.result.0 in
     let i = c.place-t.result.1 in
     let m = c.in-Some.image.image in
-    let at = row_there C rows g.orders.now g.order_room g.each c.args.self.now.q t i c.args.row c.args.self.now.target c.place-t.ensures in
+    let at = row_there C rows g.orders g.order_room g.each c.args.self.now.q t i c.args.row c.args.self.now.target c.place-t.ensures in
     let long = length-map m.pairs (λ (x : Pair). x.0) in
-    let inside = segment_there C rows g.orders.now g.order_room g.each c.args.self.now.q t i c.args.row c.args.self.now.target c.place-t.ensures in
+    let inside = segment_there C rows g.orders g.order_room g.each c.args.self.now.q t i c.args.row c.args.self.now.target c.place-t.ensures in
     let long_there = ap length c.args.self.now.targets_are in
     let room = (g.image_room c.args.self.now.q t (c.args.self.now.target, inside)).1 in
     let there : image_at g.survivors.now c.args.self.now.q t ≡ Some c.in-Some.image = ap (λ l. get_or l t None) (sym c.args.self.now.targets_are) ∙ get_or_default c.args.self.now.targets.now t None c.index-self-t.result (omega (arith, room, long_there)) ∙ c.in-Some.is in
@@ -67,10 +67,10 @@ returns-else-index-rows-clause-place c =
     ∙ ap (λ k. (t, k)) (get_or_past (image_keys m) i 0 (omega (arith, long, c.if-index-rows.false, c.rows.ensures))))
 
 pub returns-then-lost-clause-exists : goal.returns-then-lost-clause-exists
-returns-then-lost-clause-exists c = let g = c.args.self.now.ground.now in segment_there g.catalog.now g.walked.now.rows g.orders.now g.order_room g.each c.args.self.now.q c.place-t.result.0 c.place-t.result.1 c.args.row c.args.self.now.target c.place-t.ensures
+returns-then-lost-clause-exists c = let g = c.args.self.now.store.now in segment_there g.catalog.now g.walked.rows g.orders g.order_room g.each c.args.self.now.q c.place-t.result.0 c.place-t.result.1 c.args.row c.args.self.now.target c.place-t.ensures
 
 pub returns-then-index-rows-clause-exists : goal.returns-then-index-rows-clause-exists
-returns-then-index-rows-clause-exists c = let g = c.args.self.now.ground.now in segment_there g.catalog.now g.walked.now.rows g.orders.now g.order_room g.each c.args.self.now.q c.place-t.result.0 c.place-t.result.1 c.args.row c.args.self.now.target c.place-t.ensures
+returns-then-index-rows-clause-exists c = let g = c.args.self.now.store.now in segment_there g.catalog.now g.walked.rows g.orders g.order_room g.each c.args.self.now.q c.place-t.result.0 c.place-t.result.1 c.args.row c.args.self.now.target c.place-t.ensures
 
 pub returns-else-index-rows-clause-exists : goal.returns-else-index-rows-clause-exists
-returns-else-index-rows-clause-exists c = let g = c.args.self.now.ground.now in segment_there g.catalog.now g.walked.now.rows g.orders.now g.order_room g.each c.args.self.now.q c.place-t.result.0 c.place-t.result.1 c.args.row c.args.self.now.target c.place-t.ensures
+returns-else-index-rows-clause-exists c = let g = c.args.self.now.store.now in segment_there g.catalog.now g.walked.rows g.orders g.order_room g.each c.args.self.now.q c.place-t.result.0 c.place-t.result.1 c.args.row c.args.self.now.target c.place-t.ensures

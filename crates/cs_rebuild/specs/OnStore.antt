@@ -1,0 +1,40 @@
+-- What stands on a store, in the words of a recovery.
+use Rattle.std.specs.Prelude.{◌≡◌, ℕ, List}
+use Rattle.cs_schema.specs.CatalogData.{CatalogData}
+use Rattle.cs_schema.specs.FileNames.{FileContents}
+use Rattle.cs_schema.specs.Losses.{Sites}
+use Rattle.cs_schema.specs.Rows.{Row}
+use Rattle.cs_rows.specs.Survivors.{SurvivorsData, contents_of}
+use Rattle.cs_rows.specs.Walk.{Contents}
+use Rattle.cs_order.specs.Tables.{table_of}
+use Rattle.cs_jix.specs.JoinIndex.{Place}
+use Rattle.cs_recovery.specs.Expected.{written}
+use Rattle.cs_recovery.specs.Places.{entry_for}
+use Rattle.cs_rebuild.specs.Steps.{HoldsTable}
+use Rattle.cs_rebuild.specs.declared.ordered_store.OrderedStore.{OrderedStore}
+
+-- what the survivors hold
+abbrev pub held_on : OrderedStore → Contents
+held_on g = contents_of g.survivors.now
+
+-- the table of the walked rows
+abbrev pub table_on : OrderedStore → List Row
+table_on g = table_of g.catalog.now g.walked.rows
+
+-- the files that a recovery writes
+abbrev pub written_on : OrderedStore → FileContents
+written_on g = written g.catalog.now g.loss (held_on g) (table_on g)
+
+-- its rows are a table's, which is held as far as anything survives
+abbrev pub IsSound : OrderedStore → Type 0
+IsSound g = (F : FileContents) × HoldsTable g.catalog.now F g.loss g.survivors.now g.walked
+
+-- what survives a loss of a catalog's sites is its own
+pub record IsStoreOf (C : CatalogData) (L : Sites) (v : SurvivorsData) (g : OrderedStore) : Type 0 where
+  pub catalog : g.catalog.now ≡ C
+  pub loss : g.loss ≡ L
+  pub survivors : g.survivors.now ≡ v
+
+-- the entry at a key of a join index after the recovery
+pub record IsEntryOn (g : OrderedStore) (p s q key : ℕ) (entry : Place) : Type 0 where
+  pub entry_is : entry ≡ entry_for g.catalog.now g.loss (held_on g) (table_on g) p s q key

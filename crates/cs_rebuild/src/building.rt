@@ -1,0 +1,65 @@
+//! A new store from rows.
+ghost use Rattle.std.specs.Prelude.{◌≡◌};
+ghost use Rattle.cs_store.specs.FileSet.{contents_of};
+ghost use Rattle.cs_recovery.specs.BuildAnswers.{BuildClauses, IsBuildAnswer, every_site as sites_of};
+ghost use Rattle.cs_recovery.specs.Columns.{AreTableColumns, rows_in};
+
+use crate::columns_of_rows::{lend_columns, see_columns};
+use crate::ordered_store::store_of;
+use crate::ordering::orders_of;
+use crate::run::Run;
+use crate::writing::write_lost;
+use cs_board::Gate;
+use cs_rows::Survivors;
+use cs_schema::{Catalog, Cells, Loss};
+use cs_store::{Fault, FileSet};
+use std::marker::Sync;
+use std::thread::Threads;
+
+/// Each site of a catalog.
+fn every_site(catalog: &Catalog) -> Loss
+    ensures { result ≡ sites_of catalog.now }
+{
+    let _rules = catalog.projection_count();
+    let mut loss = Loss::none();
+    for site in 0..catalog.sites {
+        loss = loss.with(site + 1);
+    }
+    loss
+}
+
+/// The files of a new store that holds the table of some rows, which come in any order, as a column of cells for each column
+/// of the table (`are_columns` tells whether they are that). No column is copied.
+///
+/// The first refusal that applies comes: `Twice` where a primary key stands twice, `Full` of the least range with more than
+/// 1,048,576 rows. `Memory` may take the place of any answer, and does where there are more than 4,294,967,295 rows: no
+/// catalog has room for so many.
+pub fn build<R: Threads + Sync, G: Gate + Sync>(
+    run: &Run<'_, R, G>,
+    catalog: &Catalog,
+    rows: &[Cells],
+) -> Result<FileSet, Fault>
+    requires { AreTableColumns catalog.now rows.now }
+    ensures answer { IsBuildAnswer catalog.now (rows_in rows.now) result }
+    ensures clauses { BuildClauses catalog.now (rows_in rows.now) result }
+{
+    let _rules = catalog.projection_count();
+    see_columns(rows);
+    let walked = match lend_columns(run.alloc, rows) {
+        Ok(walked) => walked,
+        Err(_) => return Err(Fault::Memory),
+    };
+    if walked.rows() > u32::MAX as usize {
+        return Err(Fault::Memory);
+    }
+    let survivors = match Survivors::new(run.alloc, catalog) {
+        Ok(survivors) => survivors,
+        Err(_) => return Err(Fault::Memory),
+    };
+    let orders = match orders_of(run, catalog, &walked) {
+        Ok(orders) => orders,
+        Err(fault) => return Err(fault),
+    };
+    let store = store_of(catalog, every_site(catalog), &survivors, walked, orders);
+    write_lost(run, &store)
+}

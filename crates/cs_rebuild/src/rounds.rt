@@ -1,0 +1,98 @@
+//! Rounds of tasks whose faults are those of a store.
+ghost use Rattle.std.specs.Prelude.{◌≡◌, ◌<◌, ℕ, Option, Some, None, IfOk, IfErr};
+ghost use Rattle.cs_board.specs.Pieces.{IsAnswered};
+ghost use Rattle.cs_store.specs.Fault.{MemoryOr};
+ghost use Rattle.cs_store.specs.declared.fault.Fault.{Fault as FaultData};
+ghost use Rattle.cs_rebuild.specs.Rounds.{is_memory, IsNoMemory, IsFirstFault};
+
+use crate::run::Run;
+use cs_board::{Gate, Round, RunFault, Work, run};
+use cs_store::Fault;
+use std::marker::{Send, Sync};
+use std::thread::Threads;
+
+/// Tasks with numbers from 0, which are done in any order and by several threads at once.
+pub trait Tasks {
+    /// What a sound task answers.
+    type Out: Send + Drop;
+
+    /// The number of tasks.
+    ghost tasks: { Self → ℕ };
+
+    /// What is stated of a task: `None`, it is sound, or `Some`, it has this fault.
+    ghost fault_at: { Self → ℕ → Option FaultData → Type 0 };
+
+    /// What an answer at a task meets.
+    ghost answers: { Self → ℕ → Self.Out → Type 0 };
+
+    /// The number of tasks.
+    fn count(&self) -> u32
+        ensures { result ≡ tasks self.now };
+
+    /// Does one task.
+    fn task(&self, i: u32) -> Result<Self::Out, Fault>
+        requires { i < tasks self.now }
+        ensures ok { IfOk result (λ out. fault_at self.now i None × answers self.now i out) }
+        ensures err { IfErr result (λ fault. MemoryOr fault (fault_at self.now i (Some fault))) };
+
+    /// A task is sound or has one fault, and not both.
+    ghost one_fault: { (tasks_of : Self) (i : ℕ) (f g : Option FaultData) → i < tasks tasks_of → fault_at tasks_of i f → fault_at tasks_of i g → f ≡ g };
+}
+
+/// Tasks as a work of the claim board.
+#[derive(Drop)]
+struct TasksWork<'a, T> {
+    tasks: &'a T,
+}
+
+impl<'a, T: Tasks> Work for TasksWork<'a, T> {
+    type Out = T::Out;
+
+    type Fault = Fault;
+
+    ghost pieces = { λ work. T.tasks work.tasks.now };
+
+    ghost fault_at = { λ work i fault. T.fault_at work.tasks.now i fault × IsNoMemory fault };
+
+    ghost answers = { λ work i out. T.answers work.tasks.now i out };
+
+    ghost of_memory = { is_memory };
+
+    fn count(&self) -> u32 {
+        self.tasks.count()
+    }
+
+    fn piece(&self, i: u32) -> Result<T::Out, Fault> {
+        self.tasks.task(i)
+    }
+
+    fn is_memory(fault: &Fault) -> bool
+        ensures { result ≡ is_memory fault.now }
+    {
+        match fault {
+            Fault::Memory => true,
+            _ => false,
+        }
+    }
+
+    ghost never_memory = { λ work i fault below at. at.1 };
+
+    ghost one_fault = { λ work i f g below a b. T.one_fault work.tasks.now i f g below a.0 b.0 };
+}
+
+impl<'a, R: Threads + Sync, G: Gate + Sync> Run<'a, R, G> {
+    /// Opens a round and does its tasks: their answers in order, or the fault of the first task that has one. `Memory` may
+    /// take the place of either.
+    pub fn round<T: Tasks + Sync>(&self, round: Round, tasks: &T) -> Result<Vec<T::Out>, Fault>
+        ensures ok { IfOk result (λ outs. IsAnswered (T.fault_at tasks.now) (T.answers tasks.now) (T.tasks tasks.now) outs.items) }
+        ensures err { IfErr result (λ fault. MemoryOr fault (IsFirstFault (T.fault_at tasks.now) (T.tasks tasks.now) fault)) }
+    {
+        let work = TasksWork { tasks };
+        self.gate.opened(round, tasks.count());
+        match run(self.rt, self.alloc, self.workers, &work, self.gate) {
+            Ok(outs) => Ok(outs),
+            Err(RunFault::Memory) => Err(Fault::Memory),
+            Err(RunFault::At(_, fault)) => Err(fault),
+        }
+    }
+}

@@ -1,0 +1,85 @@
+//! What the surviving files of a store come to.
+ghost use Rattle.std.specs.Prelude.{Err, IfOk, IfErr};
+ghost use Rattle.cs_schema.specs.FileNames.{FileContents};
+ghost use Rattle.cs_store.specs.FileSet.{contents_of};
+ghost use Rattle.cs_store.specs.Fault.{MemoryOr};
+ghost use Rattle.cs_safety.specs.Safety.{IsSafe};
+ghost use Rattle.cs_recovery.specs.Verdicts.{IsVerdict};
+ghost use Rattle.cs_rebuild.specs.OnStore.{IsStoreOf};
+ghost use Rattle.cs_rebuild.specs.Steps.{AreRead, AreSound};
+
+use crate::joined::verify_joins;
+use crate::ordered_store::{OrderedStore, store_of};
+use crate::ordering::orders_of;
+use crate::placed::verify_images;
+use crate::reading::read_survivors;
+use crate::run::Run;
+use crate::survey::{joins_of, surviving_segments};
+use crate::walking::walk_all;
+use cs_board::Gate;
+use cs_rows::Survivors;
+use cs_schema::{Catalog, Loss};
+use cs_store::{Fault, FileSet};
+use std::marker::Sync;
+use std::thread::Threads;
+
+/// What the surviving files hold, or the refusal of the least bad one.
+pub fn read_store<R: Threads + Sync, G: Gate + Sync>(
+    run: &Run<'_, R, G>,
+    catalog: &Catalog,
+    files: &FileSet,
+    loss: Loss,
+) -> Result<Survivors, Fault>
+    ensures ok { IfOk result (AreRead catalog.now (contents_of files.now) loss) }
+    ensures err { IfErr result (λ fault. MemoryOr fault (IsVerdict catalog.now (contents_of files.now) loss (Err fault))) }
+{
+    let segments = match surviving_segments(run.alloc, catalog, loss) {
+        Ok(segments) => segments,
+        Err(_) => return Err(Fault::Memory),
+    };
+    match read_survivors(run, catalog, files, loss, segments.as_slice()) {
+        Ok(survivors) => Ok(survivors),
+        Err(fault) => Err(fault),
+    }
+}
+
+/// What a store comes to of which this was read: the first refusal that applies, or the table's rows in their orders.
+pub fn verify_store<'a, R: Threads + Sync, G: Gate + Sync>(
+    run: &Run<'_, R, G>,
+    catalog: &'a Catalog,
+    loss: Loss,
+    survivors: &'a Survivors,
+) -> Result<OrderedStore<'a>, Fault>
+    requires safe { IsSafe catalog.now loss }
+    requires read { (F : FileContents) × AreRead catalog.now F loss survivors.now }
+    ensures ok { IfOk result (λ store. (F : FileContents) → AreRead catalog.now F loss survivors.now → AreSound catalog.now F loss survivors.now store.walked store.orders) }
+    ensures of { IfOk result (IsStoreOf catalog.now loss survivors.now) }
+    ensures err { IfErr result (λ fault. (F : FileContents) → AreRead catalog.now F loss survivors.now → MemoryOr fault (IsVerdict catalog.now F loss (Err fault))) }
+{
+    let segments = match surviving_segments(run.alloc, catalog, loss) {
+        Ok(segments) => segments,
+        Err(_) => return Err(Fault::Memory),
+    };
+    let walked = match walk_all(run, catalog, loss, survivors) {
+        Ok(walked) => walked,
+        Err(fault) => return Err(fault),
+    };
+    let orders = match orders_of(run, catalog, &walked) {
+        Ok(orders) => orders,
+        Err(fault) => return Err(fault),
+    };
+    let store = store_of(catalog, loss, survivors, walked, orders);
+    match verify_images(run, &store, segments.as_slice()) {
+        Ok(()) => {}
+        Err(fault) => return Err(fault),
+    }
+    let joins = match joins_of(run.alloc, catalog, segments.as_slice()) {
+        Ok(joins) => joins,
+        Err(_) => return Err(Fault::Memory),
+    };
+    match verify_joins(run, &store, joins.as_slice()) {
+        Ok(()) => {}
+        Err(fault) => return Err(fault),
+    }
+    Ok(store)
+}

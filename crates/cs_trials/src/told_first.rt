@@ -1,0 +1,94 @@
+//! A gate is told of a piece before the piece is begun.
+ghost use Rattle.std.specs.Prelude.{◌≡◌, true, ⊤};
+
+use cs_board::{Gate, Work, run};
+use std::sync::atomic::{AtomicU64, Ordering};
+use std::test::Fail;
+
+/// How many pieces there are.
+const PIECES: u32 = 7;
+
+/// What is known of the pieces, a bit for each: those that the gate was told of, and those that were begun untold or told of
+/// once they were begun.
+#[derive(Drop)]
+struct Notes {
+    told: AtomicU64,
+    begun: AtomicU64,
+    late: AtomicU64,
+}
+
+/// The bit of a piece.
+fn bit(piece: u32) -> u64 {
+    1 << (piece % 64)
+}
+
+impl Gate for Notes {
+    fn entered(&self, piece: u32) {
+        if self.begun.load(Ordering::SeqCst) & bit(piece) != 0 {
+            self.late.fetch_or(bit(piece), Ordering::SeqCst);
+        }
+        self.told.fetch_or(bit(piece), Ordering::SeqCst);
+    }
+}
+
+/// Pieces that note when they are begun.
+#[derive(Drop)]
+struct Noting<'a> {
+    notes: &'a Notes,
+}
+
+impl Work for Noting<'_> {
+    ghost use Rattle.std.specs.Prelude.{Option, None, true, false, ⊤};
+    ghost use Rattle.std.proofs.Common.{rules, sym, ◌∙◌};
+
+    type Out = ();
+
+    type Fault = ();
+
+    ghost pieces = { λ _. 7 };
+
+    ghost fault_at = { λ work i fault. fault ≡ None };
+
+    ghost answers = { λ work i out. ⊤ };
+
+    ghost of_memory = { λ _. true };
+
+    fn count(&self) -> u32 {
+        PIECES
+    }
+
+    fn piece(&self, i: u32) -> Result<(), ()> {
+        if self.notes.told.load(Ordering::SeqCst) & bit(i) == 0 {
+            self.notes.late.fetch_or(bit(i), Ordering::SeqCst);
+        }
+        self.notes.begun.fetch_or(bit(i), Ordering::SeqCst);
+        Ok(())
+    }
+
+    fn is_memory(_fault: &()) -> bool
+        ensures { result ≡ true }
+    {
+        true
+    }
+
+    ghost never_memory = { λ work i fault below at. Prim.search rules };
+
+    ghost one_fault = { λ work i f g below at here. at ∙ sym here };
+}
+
+#[test]
+fn gates_are_told_before_a_piece_is_begun(rt: HostRuntime) -> Result<(), Fail> {
+    for workers in [1, 2, 4] {
+        let notes = Notes {
+            told: AtomicU64::new(0),
+            begun: AtomicU64::new(0),
+            late: AtomicU64::new(0),
+        };
+        let done = run(&rt, rt.alloc(), workers, &Noting { notes: &notes }, &notes);
+        assert!(rt; done.is_ok(), "{workers} workers");
+        assert_eq!(rt; notes.begun.load(Ordering::SeqCst), 127);
+        assert_eq!(rt; notes.told.load(Ordering::SeqCst), 127);
+        assert_eq!(rt; notes.late.load(Ordering::SeqCst), 0);
+    }
+    Ok(())
+}
