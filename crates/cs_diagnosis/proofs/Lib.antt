@@ -1,0 +1,3 @@
+pub mod AcceptedLosses
+pub mod SearchSteps
+pub mod Summaries

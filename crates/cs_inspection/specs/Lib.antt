@@ -1,0 +1,3 @@
+pub mod BadFiles
+pub mod Held
+pub mod Laws

@@ -1,0 +1,65 @@
+//! All bad files of a store.
+ghost use Rattle.std.specs.Prelude.{◌≡◌, None, IfOk, MatchOption};
+ghost use Rattle.std.specs.List.{AllByRecursion};
+ghost use Rattle.cs_schema.specs.FileNames.{HasName};
+ghost use Rattle.cs_store.specs.FileSet.{contents_of};
+ghost use Rattle.cs_inspection.specs.BadFiles.{IsBad, IsGood, AreBadFiles};
+
+use crate::badness::Badness;
+use crate::damage::Inspector;
+use cs_schema::{Catalog, FileName, Loss};
+use cs_store::FileSet;
+use std::alloc::{AllocError, Global};
+use std::thread::Threads;
+
+/// What is wrong with the file under a name, if anything.
+fn badness<R: Threads>(
+    inspector: &Inspector<'_, R>,
+    unreadable: &[FileName],
+    name: FileName,
+) -> Result<Option<Badness>, AllocError>
+    requires { HasName inspector.now.catalog.now name }
+    ensures { IfOk result (λ found. MatchOption found
+        (IsGood inspector.now.catalog.now (contents_of inspector.now.files.now) unreadable.now name)
+        (IsBad inspector.now.catalog.now (contents_of inspector.now.files.now) unreadable.now name)) }
+{
+    if unreadable.contains(&name) {
+        return Ok(Some(Badness::Unreadable));
+    }
+    let Some(bytes) = inspector.files.get(name) else {
+        return Ok(Some(Badness::Missing));
+    };
+    match inspector.is_undamaged(name, bytes) {
+        Ok(true) => Ok(None),
+        Ok(false) => Ok(Some(Badness::Damaged)),
+        Err(refused) => Err(refused),
+    }
+}
+
+/// The bad files of a store, each with why it is, in the order of their names: those that were unreadable, those that
+/// are missing, and those whose bytes are damaged. Where a segment is bad itself, its delta is judged by its own bytes.
+pub fn bad_files<R: Threads>(
+    rt: &R,
+    alloc: Global,
+    catalog: &Catalog,
+    files: &FileSet,
+    unreadable: &[FileName],
+) -> Result<Vec<(FileName, Badness)>, AllocError>
+    ensures { IfOk result (λ bad. AreBadFiles catalog.now (contents_of files.now) unreadable.now bad.items) }
+{
+    let _rules = catalog.projection_count();
+    let names = catalog.surviving(alloc, Loss::none())?;
+    let inspector = Inspector {
+        rt,
+        alloc,
+        catalog,
+        files,
+    };
+    let mut bad = Vec::new(alloc);
+    for name in &names {
+        if let Some(why) = badness(&inspector, unreadable, *name)? {
+            bad.push((*name, why))?;
+        }
+    }
+    Ok(bad)
+}
