@@ -49,6 +49,10 @@ module _ {P S : Type 0} (finds : P → List ℕ → List ℕ → S → P → Typ
       StopsRecovery misses denies s path L output_path t =
           LooksUp misses s path t ⊎ ((rebuilt : Files) × (reached : P) × RebuildsStore s path L rebuilt reached × (((output : K) × makes reached output_path output t) ⊎ ((fault : StoreFault) × denies reached output_path fault t)))
 
+      -- A run stopped: nothing was asked of the places, or a store was looked up at one path, and an output was asked for at another only once that store was rebuilt.
+      abbrev pub Stops : (misses denies : P → List ℕ → StoreFault → P → Type 0) → P → P → Type 0
+      Stops misses denies s t = (t ≡ s) ⊎ ((path : List ℕ) × (L : Sites) × (output_path : List ℕ) × StopsRecovery misses denies s path L output_path t)
+
       module _ (takes : K → FileName → List ℕ → K → Type 0) (marks : K → ℕ → K → Type 0) where
         -- The store was rebuilt; then the output was made, and the rebuilt files, so many, were put there in order and marked.
         pub record RecoversStore (s : P) (path : List ℕ) (L : Sites) (output_path : List ℕ) (count : ℕ) (t : P) : Type 0 where

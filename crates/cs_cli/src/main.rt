@@ -6,7 +6,6 @@
 mod folders;
 mod places;
 mod program;
-mod reading;
 mod request;
 mod sample;
 mod stop;

@@ -3,7 +3,9 @@ ghost use Rattle.std.specs.Prelude.{◌≡◌, ℕ, List, ◌≤◌, IfOk, IfErr
 ghost use Rattle.cs_store.specs.Fault.{CountsFault};
 ghost use Rattle.cs_store.specs.declared.fault.StoreFault.{StoreFault};
 
+use cs_board::Gate;
 use cs_store::{Sink, Source, StoreFault};
+use std::marker::Sync;
 
 /// Stores and outputs by path. Places in memory can say by their ghost members what they found and made; those over
 /// folders say nothing.
@@ -13,6 +15,9 @@ pub trait Places {
 
     /// What takes the files of a recovery.
     type Output: Sink + Drop;
+
+    /// What is told of the pieces of a command's work.
+    type Watch: Gate + Sync;
 
     /// One store that was found: the state before, the path, the bytes of the catalog, the store, and the state after.
     ghost finds: { Self → List ℕ → List ℕ → Self.Store → Self → Type 0 };
@@ -44,6 +49,9 @@ pub trait Places {
         ensures device { IsErrOf result StoreFault.Device
             → CountsFault (fault_count self.old) (fault_count self.new) }
         ensures counted { fault_count self.old ≤ fault_count self.new };
+
+    /// What is told of each piece as it is begun.
+    fn watch(&self) -> &Self::Watch;
 
     /// How many faults of the device it has met.
     fn faults(&self) -> u64

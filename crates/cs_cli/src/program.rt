@@ -1,6 +1,6 @@
 //! The commands, and what they print.
-ghost use Rattle.std.specs.Prelude.{◌≡◌, ◌≤◌, IfOk, OnErr, length};
-ghost use Rattle.cs_cli.specs.Commands.{LooksUp, LoadsStore, ChecksStore, RecoversStore, StopsRecovery, Performs};
+ghost use Rattle.std.specs.Prelude.{◌≡◌, ◌≢◌, ◌≤◌, ◌⊎◌, IfOk, OnErr, length};
+ghost use Rattle.cs_cli.specs.Commands.{LooksUp, LoadsStore, ChecksStore, RecoversStore, StopsRecovery, Stops, Performs};
 ghost use Rattle.cs_cli.specs.declared.program.Answer.{Answer};
 
 use crate::places::Places;
@@ -8,7 +8,7 @@ use crate::request::{Recovery, Request, WordsFault, parse};
 use crate::sample;
 use crate::stop::{DEVICE, DONE, Stop, report};
 use cs_catalog::read_catalog;
-use cs_rebuild::{check, rebuild};
+use cs_rebuild::{check_gated, rebuild, rebuild_gated};
 use cs_schema::{Catalog, Loss};
 use cs_store::{FileSet, StoreFault, load, save};
 use std::alloc::Global;
@@ -65,6 +65,11 @@ pub fn run<R: Threads + Sync, P: Places, W: Write, E: Write>(
     ensures status { result ≤ 4 }
     ensures done { result ≡ DONE → (answer : Answer) × Performs P.finds P.Store.gives P.makes
         P.Output.takes P.Output.marks (length words.now) places.old places.new answer }
+    // where all was done, the answer could not be printed
+    ensures stopped { result ≢ DONE
+        → Stops P.finds P.Store.gives P.makes P.misses P.denies places.old places.new
+        ⊎ ((answer : Answer) × Performs P.finds P.Store.gives P.makes P.Output.takes P.Output.marks
+        (length words.now) places.old places.new answer) }
 {
     match perform(rt, alloc, words, places) {
         Ok(answer) => match writeln!(out, "{answer}") {
@@ -82,8 +87,9 @@ fn perform<R: Threads + Sync, P: Places>(
     words: &[String],
     places: &mut P,
 ) -> Result<Answer, Stop>
-    ensures { IfOk result (Performs P.finds P.Store.gives P.makes P.Output.takes P.Output.marks
+    ensures ok { IfOk result (Performs P.finds P.Store.gives P.makes P.Output.takes P.Output.marks
         (length words.now) places.old places.new) }
+    ensures err { OnErr result (Stops P.finds P.Store.gives P.makes P.misses P.denies places.old places.new) }
 {
     if words.is_empty() {
         return rebuild_sample(rt, alloc).map(Answer::Sample);
@@ -126,7 +132,17 @@ fn check_store<R: Threads + Sync, P: Places>(
         Ok(loaded) => loaded,
         Err(stop) => return Err(stop),
     };
-    match check(rt, alloc, &catalog, &files, k, ONE_WORKER, DEFAULT_CUT) {
+    let watch = places.watch();
+    match check_gated(
+        rt,
+        alloc,
+        &catalog,
+        &files,
+        k,
+        ONE_WORKER,
+        DEFAULT_CUT,
+        watch,
+    ) {
         Ok(rows) => Ok(rows),
         Err(fault) => Err(Stop::Store(fault)),
     }
@@ -156,7 +172,8 @@ fn recover_store<R: Threads + Sync, P: Places>(
         Ok(loaded) => loaded,
         Err(stop) => return Err(stop),
     };
-    let rebuilt = match rebuild(rt, alloc, &catalog, &files, loss, workers, cut) {
+    let watch = places.watch();
+    let rebuilt = match rebuild_gated(rt, alloc, &catalog, &files, loss, workers, cut, watch) {
         Ok(rebuilt) => rebuilt,
         Err(fault) => return Err(Stop::Store(fault)),
     };

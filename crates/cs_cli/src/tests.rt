@@ -1,27 +1,33 @@
 //! The program, over places in memory.
+mod commands;
 mod devices;
+mod folders;
 mod places;
-mod recovery;
 mod stores;
 mod streams;
+mod watch;
 
 use crate::program::run;
-use crate::reading::read_bounded;
-use cs_store::StoreFault;
-use cs_store::memory::Failure;
-use places::{MemoryPlaces, places};
+use places::{MemoryPlaces, are_whole};
 use std::alloc::Global;
 use std::marker::Sync;
 use std::process::Abort;
 use std::test::Fail;
 use std::thread::Threads;
-use streams::Full;
 
 const USAGE: &str =
     "usage: cs_cli [check K STORE | recover [--workers N] [--cut R] STORE OUT SITE...]\n";
 
-/// A line, its status, and what standard output and standard error get.
-type Case = (&'static str, u8, &'static str, &'static str);
+/// A line, its status, what standard output and standard error get, the paths that were asked for, and how many files were
+/// written.
+type Trial = (
+    &'static str,
+    u8,
+    &'static str,
+    &'static str,
+    &'static str,
+    usize,
+);
 
 fn words(alloc: Global, line: &str) -> Result<Vec<String>, Fail> {
     let mut words = Vec::new(alloc);
@@ -31,14 +37,14 @@ fn words(alloc: Global, line: &str) -> Result<Vec<String>, Fail> {
     Ok(words)
 }
 
-/// Runs a line over these places, and asks for its status and texts.
+/// Runs a line over these places, and asks for all that comes of it.
 fn expect(
     rt: &(impl Threads + Sync + AllocGlobal + Abort),
     places: &mut MemoryPlaces,
-    case: Case,
+    trial: Trial,
 ) -> Result<(), Fail> {
     let alloc = rt.alloc();
-    let (line, status, out_text, err_text) = case;
+    let (line, status, out_text, err_text, asked, files) = trial;
     let words = words(alloc, line)?;
     let mut out = Vec::new(alloc);
     let mut err = Vec::new(alloc);
@@ -46,95 +52,22 @@ fn expect(
     assert_eq!(rt; got, status, "{line}");
     assert_eq!(rt; out.as_slice(), out_text.as_bytes(), "{line}");
     assert_eq!(rt; err.as_slice(), err_text.as_bytes(), "{line}");
-    Ok(())
+    assert_eq!(rt; places.asked.as_str(), asked, "{line}");
+    expect_taken(rt, places, line, files, got == 0 && asked.contains(">"))
 }
 
-#[test]
-fn prints_usage_for_other_words(rt: HostRuntime) -> Result<(), Fail> {
-    let lines = [
-        "check",
-        "check 256 S",
-        "check -1 S",
-        "check 1 S T",
-        "--help",
-        "--version",
-        "--",
-        "restore S O 1",
-        "recover S O",
-        "recover S O 0",
-        "recover S O 17",
-        "recover S O x",
-        "recover --workers 0 S O 1",
-        "recover --workers 65 S O 1",
-        "recover --cut 0 S O 1",
-        "recover --cut 1048577 S O 1",
-    ];
-    for line in lines {
-        let mut places = places(rt.alloc())?;
-        expect(&rt, &mut places, (line, 2, "", USAGE))?;
-        assert!(rt; !places.is_made, "{line}");
-    }
-    Ok(())
-}
-
-#[test]
-fn names_what_can_not_be_read(rt: HostRuntime) -> Result<(), Fail> {
-    let line = "recover S O 1";
-    let catalogs: [(Option<&'static [u8]>, u8, &'static str); 3] = [
-        (None, 4, "fault: read catalog.toml\n"),
-        (Some(b"="), 1, "fault: catalog: not TOML\n"),
-        (Some(b"version = 3"), 1, "fault: catalog: rule 1\n"),
-    ];
-    for (catalog, status, text) in catalogs {
-        let mut places = places(rt.alloc())?;
-        places.catalog = match catalog {
-            Some(bytes) => Some(Vec::from_slice(rt.alloc(), bytes)?),
-            None => None,
-        };
-        expect(&rt, &mut places, (line, status, "", text))?;
-        assert!(rt; !places.is_made, "{text}");
-    }
-    let failures = [
-        (StoreFault::Device, 4, "fault: read p1.s0.del\n"),
-        (StoreFault::Memory, 3, "fault: want of memory\n"),
-    ];
-    for (fault, status, text) in failures {
-        let mut places = places(rt.alloc())?;
-        places.read_failure = Some(Failure { after: 1, fault });
-        expect(&rt, &mut places, (line, status, "", text))?;
-        assert!(rt; !places.is_made, "{text}");
-    }
-    Ok(())
-}
-
-#[test]
-fn fails_where_standard_error_is_full(rt: HostRuntime) -> Result<(), Fail> {
-    let alloc = rt.alloc();
-    let mut places = places(alloc)?;
-    let words = words(alloc, "restore")?;
-    let mut out = Vec::new(alloc);
-    let mut err = Full { room: 5 };
-    let got = run(
-        &rt,
-        alloc,
-        words.as_slice(),
-        &mut places,
-        &mut out,
-        &mut err,
-    );
-    assert_eq!(rt; got, 4);
-    assert!(rt; out.is_empty());
-    Ok(())
-}
-
-#[test]
-fn reads_up_to_a_bound(rt: HostRuntime) -> Result<(), Fail> {
-    let alloc = rt.alloc();
-    let mut file: &[u8] = b"abc";
-    let read = read_bounded(alloc, &mut file, 3);
-    assert_eq!(rt; read, Ok(Vec::from_slice(alloc, b"abc")?));
-    let mut file: &[u8] = b"abc";
-    let read = read_bounded(alloc, &mut file, 2);
-    assert_eq!(rt; read, Err(StoreFault::Device));
+/// Asks for so many files in the output, each as it stands in the store, and for the mark.
+fn expect_taken(
+    rt: &(impl Threads + Sync + AllocGlobal + Abort),
+    places: &MemoryPlaces,
+    line: &str,
+    files: usize,
+    marked: bool,
+) -> Result<(), Fail> {
+    let taken = places.taken.try_borrow()?;
+    let mark = if marked { Some(files as u64) } else { None };
+    assert_eq!(rt; taken.files.len(), files, "{line}");
+    assert!(rt; are_whole(&taken.files, &places.whole), "{line}");
+    assert_eq!(rt; taken.mark, mark, "{line}");
     Ok(())
 }

@@ -1,10 +1,12 @@
-//! Stores whose files can't be read or written, one after the other.
-use super::expect;
-use super::places::{MemoryPlaces, places_of};
-use super::stores::{Stored, joined, three_projections, three_projections_by_rows};
+//! Stores whose files can't be read or written, one after the other, and streams that are full.
+use super::places::{MemoryPlaces, others, places, places_of};
+use super::stores::{Stored, joined, three_projections};
+use super::streams::Full;
+use super::{expect, words};
+use crate::program::run;
 use cs_schema::FileName;
+use cs_store::StoreFault;
 use cs_store::memory::Failure;
-use cs_store::{FileSet, StoreFault};
 use std::marker::Sync;
 use std::process::Abort;
 use std::test::Fail;
@@ -27,122 +29,142 @@ const WRITES: [&str; 5] = [
     "fault: write DONE\n",
 ];
 
+const JOINED_WRITES: [&str; 3] = [
+    "fault: write p2.s0.seg\n",
+    "fault: write p2.s0.del\n",
+    "fault: write DONE\n",
+];
+
 const NO_MEMORY: &str = "fault: want of memory\n";
-
-const RECOVER_JOINED: &str = "recover --workers 2 --cut 1 S O 3";
-
-const RECOVER_THREE: &str = "recover S O 2 3";
 
 #[test]
 fn names_each_read_that_fails(rt: HostRuntime) -> Result<(), Fail> {
     let stored = joined(&rt)?;
-    for (after, text) in (0u64..).zip(READS) {
+    let line = "recover --workers 2 --cut 1 S O 3";
+    for (after, device) in (0u64..).zip(READS) {
         for (fault, status, text) in [
-            (StoreFault::Device, 4, text),
+            (StoreFault::Device, 4, device),
             (StoreFault::Memory, 3, NO_MEMORY),
         ] {
             let mut places = places_of(rt.alloc(), &stored)?;
             places.read_failure = Some(Failure { after, fault });
-            expect(&rt, &mut places, (RECOVER_JOINED, status, "", text))?;
-            assert!(rt; !places.is_made, "{text}");
+            expect(&rt, &mut places, (line, status, "", text, "S", 0))?;
         }
     }
     Ok(())
 }
 
-/// Whether these files stand among others, byte for byte.
-fn are_whole(files: &FileSet, all: &FileSet) -> bool {
-    for i in 0..files.len() {
-        let (name, bytes) = files.at(i);
-        if all.get(name) != Some(bytes) {
-            return false;
-        }
-    }
-    true
-}
-
-/// Recovers with a save that fails after so many calls, and asks for the files before.
-fn fails_after(
+/// Recovers with a save that fails at each of its calls in turn.
+fn expect_writes(
     rt: &(impl Threads + Sync + AllocGlobal + Abort),
     stored: &Stored,
-    after: u64,
-    fault: StoreFault,
-    status: u8,
-    text: &'static str,
+    line: &'static str,
+    writes: &[&'static str],
 ) -> Result<(), Fail> {
-    let mut places = places_of(rt.alloc(), stored)?;
-    places.write_failure = Some(Failure { after, fault });
-    expect(rt, &mut places, (RECOVER_THREE, status, "", text))?;
-    let taken = places.taken.try_borrow()?;
-    assert_eq!(rt; taken.files.len() as u64, after, "{text}");
-    assert!(rt; are_whole(&taken.files, &stored.files), "{text}");
-    assert_eq!(rt; taken.mark, None, "{text}");
+    for (after, device) in (0u64..).zip(writes.iter()) {
+        for (fault, status, text) in [
+            (StoreFault::Device, 4, *device),
+            (StoreFault::Memory, 3, NO_MEMORY),
+        ] {
+            let mut places = places_of(rt.alloc(), stored)?;
+            places.write_failure = Some(Failure { after, fault });
+            let files = after as usize;
+            expect(rt, &mut places, (line, status, "", text, "S > O", files))?;
+        }
+    }
     Ok(())
 }
 
 #[test]
 fn names_each_write_that_fails(rt: HostRuntime) -> Result<(), Fail> {
-    let stored = three_projections(&rt)?;
-    for (after, text) in (0u64..).zip(WRITES) {
-        fails_after(&rt, &stored, after, StoreFault::Device, 4, text)?;
-        fails_after(&rt, &stored, after, StoreFault::Memory, 3, NO_MEMORY)?;
-    }
-    Ok(())
+    expect_writes(&rt, &three_projections(&rt)?, "recover S O 2 3", &WRITES)?;
+    expect_writes(&rt, &joined(&rt)?, "recover S O 3", &JOINED_WRITES)
 }
 
-/// Asks for the answer to a line over a store, which makes no output.
-fn makes_nothing(
-    rt: &(impl Threads + Sync + AllocGlobal + Abort),
-    places: &mut MemoryPlaces,
-    line: &'static str,
-    text: &'static str,
-) -> Result<(), Fail> {
-    expect(rt, places, (line, 1, "", text))?;
-    assert!(rt; !places.is_made, "{line}");
+#[test]
+fn names_a_file_that_is_not_there(rt: HostRuntime) -> Result<(), Fail> {
+    let mut places = places_of(rt.alloc(), &joined(&rt)?)?;
+    places.files = others(rt.alloc(), &places.files, FileName::Del { p: 0, s: 0 })?;
+    let missing = "fault: missing p0.s0.del\n";
+    expect(&rt, &mut places, ("check 1 S", 1, "", missing, "S", 0))
+}
+
+#[test]
+fn names_what_can_not_be_read_or_made(rt: HostRuntime) -> Result<(), Fail> {
+    let line = "recover S O 1";
+    let catalogs: [(Option<&'static [u8]>, u8, &'static str); 3] = [
+        (None, 4, "fault: read catalog.toml\n"),
+        (Some(b"="), 1, "fault: catalog: not TOML\n"),
+        (Some(b"version = 3"), 1, "fault: catalog: rule 1\n"),
+    ];
+    for (catalog, status, text) in catalogs {
+        let mut places = places(rt.alloc())?;
+        places.catalog = match catalog {
+            Some(bytes) => Some(Vec::from_slice(rt.alloc(), bytes)?),
+            None => None,
+        };
+        expect(&rt, &mut places, (line, status, "", text, "S", 0))?;
+    }
+    let mut there = places(rt.alloc())?;
+    there.is_made = true;
+    let made = (line, 4, "", "fault: write OUT\n", "S > O", 0);
+    expect(&rt, &mut there, made)
+}
+
+/// Puts an empty file in the place of a segment.
+fn damage(places: &mut MemoryPlaces) -> Result<(), Fail> {
+    let segment = FileName::Seg { p: 1, s: 1 };
+    let empty = Vec::new(*places.asked.allocator());
+    places.files.put(segment, empty)?;
+    // an output that is there already comes after the store's own fault
+    places.is_made = true;
     Ok(())
 }
 
 #[test]
-fn makes_no_output_for_a_refused_store(rt: HostRuntime) -> Result<(), Fail> {
+fn asks_for_no_output_of_a_refused_store(rt: HostRuntime) -> Result<(), Fail> {
     let stored = three_projections(&rt)?;
-    let mut places = places_of(rt.alloc(), &stored)?;
-    makes_nothing(&rt, &mut places, "check 3 S", "fault: unsafe loss: 1,3,5\n")?;
+    let damaged = "fault: damaged p1.s1.seg\n";
     for (line, text) in [
+        ("check 3 S", "fault: unsafe loss: 1,3,5\n"),
         ("recover S O 1 3 5", "fault: unsafe loss: 1,3,5\n"),
         ("recover S O 1 3 6", "fault: unsafe loss: 1,3,6\n"),
+        ("check 2 S", damaged),
+        ("recover S O 2 3", damaged),
     ] {
-        makes_nothing(&rt, &mut places, line, text)?;
+        let mut places = places_of(rt.alloc(), &stored)?;
+        damage(&mut places)?;
+        expect(&rt, &mut places, (line, 1, "", text, "S", 0))?;
     }
-    let segment = FileName::Seg { p: 1, s: 1 };
-    places.files.put(segment, Vec::new(rt.alloc()))?;
-    let text = "fault: damaged p1.s1.seg\n";
-    makes_nothing(&rt, &mut places, "check 2 S", text)?;
-    makes_nothing(&rt, &mut places, RECOVER_THREE, text)?;
-    // where an output is there already, the store's own fault comes first
-    places.is_made = true;
-    expect(&rt, &mut places, (RECOVER_THREE, 1, "", text))
+    Ok(())
 }
 
 #[test]
-fn recovers_each_store(rt: HostRuntime) -> Result<(), Fail> {
-    for (stored, line, text, count) in [
-        (joined(&rt)?, RECOVER_JOINED, "ok files=2\n", 2),
-        (three_projections(&rt)?, RECOVER_THREE, "ok files=4\n", 4),
-        (
-            three_projections_by_rows(&rt)?,
-            "recover S O 1 3 6",
-            "ok files=6\n",
-            6,
-        ),
-        (joined(&rt)?, "check 1 S", "ok rows=2 k=1\n", 0),
-        (three_projections(&rt)?, "check 2 S", "ok rows=4 k=2\n", 0),
+fn fails_where_a_stream_is_full(rt: HostRuntime) -> Result<(), Fail> {
+    let alloc = rt.alloc();
+    // the room of both streams, and what is left of it
+    for (line, out_room, err_room, left) in [
+        ("", 0, 99, (0, 99)),
+        ("", 1, 99, (0, 99)),
+        ("", 37, 99, (0, 99)),
+        ("check 1 S", 13, 99, (0, 99)),
+        ("recover S O 1", 10, 99, (0, 99)),
+        ("restore", 99, 5, (99, 0)),
     ] {
-        let mut places = places_of(rt.alloc(), &stored)?;
-        expect(&rt, &mut places, (line, 0, text, ""))?;
-        let taken = places.taken.try_borrow()?;
-        assert_eq!(rt; taken.files.len(), count, "{line}");
-        assert!(rt; are_whole(&taken.files, &stored.files), "{line}");
-        assert_eq!(rt; taken.mark.unwrap_or(0), count as u64, "{line}");
+        let mut places = places(alloc)?;
+        let words = words(alloc, line)?;
+        let mut out = Full { room: out_room };
+        let mut err = Full { room: err_room };
+        let got = run(
+            &rt,
+            alloc,
+            words.as_slice(),
+            &mut places,
+            &mut out,
+            &mut err,
+        );
+        assert_eq!(rt; got, 4, "{line}");
+        assert_eq!(rt; (out.room, err.room), left, "{line}");
     }
     Ok(())
 }

@@ -1,10 +1,9 @@
 //! Places in memory, for one store and one output.
 ghost use Rattle.std.specs.Prelude.{◌≡◌, ⊤};
 
-use super::stores::Stored;
+use super::stores::{Stored, sample_store};
+use super::watch::Watch;
 use crate::places::Places;
-use crate::sample;
-use cs_delta::write_empty_delta;
 use cs_schema::FileName;
 use cs_store::memory::{Failure, MemorySink, MemorySource};
 use cs_store::{FileSet, Sink, StoreFault};
@@ -25,6 +24,11 @@ pub struct Taken {
 pub struct MemoryPlaces {
     pub catalog: Option<Vec<u8>>,
     pub files: FileSet,
+    /// The files as they stood at first.
+    pub whole: FileSet,
+    /// The path at which the store was asked for, and then that of the output.
+    pub asked: String,
+    pub watch: Watch,
     pub read_failure: Option<Failure>,
     pub write_failure: Option<Failure>,
     pub taken: Rc<RefCell<Taken>>,
@@ -43,11 +47,7 @@ pub struct SharedOutput {
 
 /// Places with the sample's store, whole, where nothing fails.
 pub fn places(alloc: Global) -> Result<MemoryPlaces, Fail> {
-    let stored = Stored {
-        catalog: Vec::from_slice(alloc, sample::CATALOG.as_bytes())?,
-        files: whole_sample(alloc)?,
-    };
-    places_of(alloc, &stored)
+    places_of(alloc, &sample_store(alloc)?)
 }
 
 /// Places with this store, where nothing fails.
@@ -59,6 +59,9 @@ pub fn places_of(alloc: Global, stored: &Stored) -> Result<MemoryPlaces, Fail> {
     Ok(MemoryPlaces {
         catalog: Some(Vec::from_slice(alloc, stored.catalog.as_slice())?),
         files: copy_files(alloc, &stored.files)?,
+        whole: copy_files(alloc, &stored.files)?,
+        asked: String::new(alloc),
+        watch: Watch::new(),
         read_failure: None,
         write_failure: None,
         taken: Rc::new(alloc, RefCell::new(taken))?,
@@ -66,21 +69,6 @@ pub fn places_of(alloc: Global, stored: &Stored) -> Result<MemoryPlaces, Fail> {
         faults: 0,
         alloc,
     })
-}
-
-/// The files of both projections.
-fn whole_sample(alloc: Global) -> Result<FileSet, AllocError> {
-    let mut files = sample::survivors(alloc)?;
-    let columns = [[1, 2, 3, 4], [30, 10, 20, 10]];
-    files.put(
-        FileName::Seg { p: 0, s: 0 },
-        sample::segment(alloc, 0, columns)?,
-    )?;
-    files.put(
-        FileName::Del { p: 0, s: 0 },
-        write_empty_delta(alloc, 0, 0, 4)?,
-    )?;
-    Ok(files)
 }
 
 /// The same files.
@@ -93,10 +81,35 @@ fn copy_files(alloc: Global, files: &FileSet) -> Result<FileSet, AllocError> {
     Ok(copy)
 }
 
+/// All files but one.
+pub fn others(alloc: Global, files: &FileSet, name: FileName) -> Result<FileSet, AllocError> {
+    let mut copy = FileSet::new(alloc)?;
+    for i in 0..files.len() {
+        let (other, bytes) = files.at(i);
+        if other != name {
+            copy.put(other, Vec::from_slice(alloc, bytes)?)?;
+        }
+    }
+    Ok(copy)
+}
+
+/// Whether these files stand among others, byte for byte.
+pub fn are_whole(files: &FileSet, all: &FileSet) -> bool {
+    for i in 0..files.len() {
+        let (name, bytes) = files.at(i);
+        if all.get(name) != Some(bytes) {
+            return false;
+        }
+    }
+    true
+}
+
 impl Places for MemoryPlaces {
     type Store = MemorySource;
 
     type Output = SharedOutput;
+
+    type Watch = Watch;
 
     ghost finds = { λ s path bytes store t. ⊤ };
 
@@ -108,7 +121,10 @@ impl Places for MemoryPlaces {
 
     ghost fault_count = { λ s. s.faults };
 
-    fn store(&mut self, _path: &str) -> Result<(Vec<u8>, MemorySource), StoreFault> {
+    fn store(&mut self, path: &str) -> Result<(Vec<u8>, MemorySource), StoreFault> {
+        if self.asked.push_str(path).is_err() {
+            return Err(StoreFault::Memory);
+        }
         let Some(catalog) = &self.catalog else {
             self.faults = self.faults.saturating_add(1);
             return Err(StoreFault::Device);
@@ -123,7 +139,10 @@ impl Places for MemoryPlaces {
         ))
     }
 
-    fn output(&mut self, _path: &str) -> Result<SharedOutput, StoreFault> {
+    fn output(&mut self, path: &str) -> Result<SharedOutput, StoreFault> {
+        if self.asked.push_str(" > ").is_err() || self.asked.push_str(path).is_err() {
+            return Err(StoreFault::Memory);
+        }
         if self.is_made {
             self.faults = self.faults.saturating_add(1);
             return Err(StoreFault::Device);
@@ -135,6 +154,10 @@ impl Places for MemoryPlaces {
             taken: self.taken.clone().map_err(|_| StoreFault::Memory)?,
             alloc: self.alloc,
         })
+    }
+
+    fn watch(&self) -> &Watch {
+        &self.watch
     }
 
     fn faults(&self) -> u64 {

@@ -1,4 +1,5 @@
 //! Small stores for the program. One projection is written by hand, and the others are rebuilt from it.
+use crate::sample;
 use cs_catalog::read_catalog;
 use cs_delta::write_empty_delta;
 use cs_rebuild::rebuild;
@@ -6,6 +7,7 @@ use cs_schema::samples::{SPLIT_COLUMNS, THREE_PROJECTIONS};
 use cs_schema::{FileName, Loss};
 use cs_segment::seal::seal;
 use cs_store::FileSet;
+use std::alloc::Global;
 use std::marker::Sync;
 use std::test::Fail;
 use std::thread::Threads;
@@ -68,6 +70,29 @@ pub fn three_projections_by_rows(rt: &(impl Threads + Sync + AllocGlobal)) -> Re
         .split_once("version = 1\n")
         .ok_or("no version")?;
     let text = format!(in alloc; "version = 2\nsafety = \"rows\"\n{rest}")?;
+    stored.catalog = Vec::from_slice(alloc, text.as_bytes())?;
+    Ok(stored)
+}
+
+/// The sample's store, whole.
+pub fn sample_store(alloc: Global) -> Result<Stored, Fail> {
+    let mut files = sample::survivors(alloc)?;
+    let columns = [[1, 2, 3, 4], [30, 10, 20, 10]];
+    let segment = sample::segment(alloc, 0, columns)?;
+    files.put(FileName::Seg { p: 0, s: 0 }, segment)?;
+    let delta = write_empty_delta(alloc, 0, 0, 4)?;
+    files.put(FileName::Del { p: 0, s: 0 }, delta)?;
+    Ok(Stored {
+        catalog: Vec::from_slice(alloc, sample::CATALOG.as_bytes())?,
+        files,
+    })
+}
+
+/// The sample's store, in whose catalog a text stands in the place of another.
+pub fn edited(alloc: Global, text: &str, old: &str, new: &str) -> Result<Stored, Fail> {
+    let mut stored = sample_store(alloc)?;
+    let (before, after) = text.split_once(old).ok_or("no such text")?;
+    let text = format!(in alloc; "{before}{new}{after}")?;
     stored.catalog = Vec::from_slice(alloc, text.as_bytes())?;
     Ok(stored)
 }

@@ -1,0 +1,17 @@
+-- The status that tells an answer.
+use Rattle.std.specs.Prelude.{ℕ, Bool, true, false}
+use Rattle.cs_answers.specs.declared.checked.Verdict.{Verdict}
+use Rattle.cs_answers.specs.declared.checked.Verdict.TheVariants.{Sound}
+use Rattle.cs_answers.specs.declared.answer.Answer.{Answer}
+use Rattle.cs_answers.specs.declared.answer.Answer.TheVariants as answer
+
+-- 0 where the store is sound, 4 where a file could not be read, else 1
+abbrev pub checked_status : Verdict → Bool → ℕ
+checked_status (Sound rows k) is_unreadable = 0
+checked_status _ true = 4
+checked_status _ false = 1
+
+-- 0, but of a check that of its verdict
+abbrev pub answer_status : Answer → ℕ
+answer_status (answer.Checked checked) = checked_status checked.verdict checked.is_unreadable
+answer_status _ = 0

@@ -1,0 +1,29 @@
+//! What a verb did.
+use crate::checked::Checked;
+use crate::designed::Designed;
+use crate::recovered::Recovered;
+use std::fmt;
+
+/// What a verb did. Its text is lines, each ended by a line break.
+#[derive(Drop)]
+pub enum Answer {
+    /// The help or the version was asked for, which is this.
+    Told(String),
+    /// A store was checked.
+    Checked(Checked),
+    /// What a store had lost was recovered.
+    Recovered(Recovered),
+    /// A catalog was looked at.
+    Designed(Designed),
+}
+
+impl fmt::Display for Answer {
+    fn fmt<W: fmt::Write>(&self, f: &mut fmt::Formatter<W>) -> fmt::Result {
+        match self {
+            Answer::Told(text) => f.write_str(text.as_str()),
+            Answer::Checked(checked) => write!(f, "{checked}"),
+            Answer::Recovered(recovered) => write!(f, "{recovered}"),
+            Answer::Designed(designed) => write!(f, "{designed}"),
+        }
+    }
+}

@@ -1,0 +1,11 @@
+//! Why files are bad, in words.
+use cs_inspection::Badness;
+
+/// What a bad file is called.
+pub fn word(badness: &Badness) -> &'static str {
+    match badness {
+        Badness::Unreadable => "unreadable",
+        Badness::Missing => "missing",
+        Badness::Damaged => "damaged",
+    }
+}

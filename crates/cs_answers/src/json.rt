@@ -1,0 +1,121 @@
+//! Answers as JSON.
+use crate::answer::Answer;
+use crate::badness::word;
+use crate::checked::{Checked, Verdict, Wrong};
+use crate::recovered::Recovered;
+use cs_inspection::Badness;
+use cs_reports::object::{Object, number_or_null, sites};
+use cs_reports::{design_object, site_of};
+use cs_schema::{Catalog, FileName};
+use serde_json::Value;
+use std::alloc::{AllocError, Global};
+
+/// An answer as one object.
+pub fn answer_object(alloc: Global, answer: &Answer) -> Result<Value, AllocError> {
+    match answer {
+        Answer::Told(text) => Object::of_verb(alloc, "help")
+            .text("text", text.as_str())
+            .finish(),
+        Answer::Checked(checked) => checked_object(alloc, checked),
+        Answer::Recovered(recovered) => recovered_object(alloc, recovered),
+        Answer::Designed(designed) => design_object(alloc, &designed.design),
+    }
+}
+
+/// What a check came to.
+fn checked_object(alloc: Global, checked: &Checked) -> Result<Value, AllocError> {
+    let object = Object::of_verb(alloc, "check").member("files", bad_objects(alloc, checked));
+    match &checked.verdict {
+        Verdict::Sound { rows, k } => object
+            .truth("ok", true)
+            .number("k", u64::from(*k))
+            .number("rows", *rows)
+            .member("fault", Ok(Value::Null))
+            .finish(),
+        verdict => {
+            let k = match verdict {
+                Verdict::Fatal { k, .. } => Some(*k),
+                _ => None,
+            };
+            object
+                .truth("ok", false)
+                .member("k", Ok(number_or_null(k)))
+                .member("rows", Ok(Value::Null))
+                .member("fault", wrong(alloc, checked))
+                .finish()
+        }
+    }
+}
+
+/// What is wrong, in words.
+fn wrong(alloc: Global, checked: &Checked) -> Result<Value, AllocError> {
+    let wrong = Wrong(checked);
+    let text = format!(in alloc; "{wrong}")?;
+    Value::try_from_str(alloc, text.as_str())
+}
+
+/// The bad files.
+fn bad_objects(alloc: Global, checked: &Checked) -> Result<Value, AllocError> {
+    let mut list = Vec::new(alloc);
+    for (name, badness) in &checked.bad {
+        list.push(bad_object(alloc, &checked.catalog, *name, badness)?)?;
+    }
+    Ok(Value::Array(list))
+}
+
+/// A file by its path and its site.
+fn file_object(alloc: Global, catalog: &Catalog, name: FileName) -> Object {
+    let site = site_of(catalog, name.projection(), name.segment());
+    let path = name.path();
+    Object::new(alloc)
+        .text("path", path.as_str())
+        .member("site", Ok(number_or_null(site)))
+}
+
+/// A bad file.
+fn bad_object(
+    alloc: Global,
+    catalog: &Catalog,
+    name: FileName,
+    badness: &Badness,
+) -> Result<Value, AllocError> {
+    file_object(alloc, catalog, name)
+        .text("fault", word(badness))
+        .finish()
+}
+
+/// What a recovery wrote.
+fn recovered_object(alloc: Global, recovered: &Recovered) -> Result<Value, AllocError> {
+    Object::of_verb(alloc, "recover")
+        .truth("ok", true)
+        .member("lost", sites(alloc, recovered.lost))
+        .member("files", written_objects(alloc, recovered))
+        .member("fault", Ok(Value::Null))
+        .finish()
+}
+
+/// The files that were written.
+fn written_objects(alloc: Global, recovered: &Recovered) -> Result<Value, AllocError> {
+    let files = &recovered.files;
+    let mut list = Vec::new(alloc);
+    for i in 0..files.len() {
+        let (name, bytes) = files.at(i);
+        let object = file_object(alloc, &recovered.catalog, name);
+        list.push(object.number("bytes", bytes.len() as u64).finish()?)?;
+    }
+    Ok(Value::Array(list))
+}
+
+/// A recovery that was refused, whose lines these are.
+pub fn refusal_object(alloc: Global, lines: &str) -> Result<Value, AllocError> {
+    let line = match lines.split_once("\n") {
+        Some((line, _)) => line,
+        None => lines,
+    };
+    let words = line.strip_prefix("fault: ").unwrap_or(line);
+    Object::of_verb(alloc, "recover")
+        .truth("ok", false)
+        .member("files", Ok(Value::Array(Vec::new(alloc))))
+        .text("fault", words)
+        .finish()
+}

@@ -1,0 +1,2 @@
+mod SafeNumbers
+mod SaidStatus

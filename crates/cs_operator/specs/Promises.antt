@@ -1,0 +1,99 @@
+-- What the verbs do, each by what the places, the store and the output say of one call.
+use Rattle.std.specs.Prelude.{◌≡◌, ◌⊎◌, ℕ, Bool, true, false, List, [], Option, Ok, Err}
+use Rattle.std.specs.FinMap.{entries}
+use Rattle.cs_schema.specs.CatalogData.{CatalogData}
+use Rattle.cs_schema.specs.FileNames.{FileContents, surviving}
+use Rattle.cs_schema.specs.Losses.{Sites}
+use Rattle.cs_schema.specs.declared.file_name.FileName.{FileName}
+use Rattle.cs_store.specs.FileSet.{Files, contents_of}
+use Rattle.cs_store.specs.Load.{Loads}
+use Rattle.cs_store.specs.LoadReadable.{LoadsReadable}
+use Rattle.cs_store.specs.Save.{Saves}
+use Rattle.cs_store.specs.declared.fault.StoreFault.{StoreFault}
+use Rattle.cs_recovery.specs.Claims.{IsRebuildAnswer, IsCheckAnswer}
+use Rattle.cs_inspection.specs.BadFiles.{AreBadFiles}
+use Rattle.cs_inspection.specs.declared.badness.Badness.{Badness}
+use Rattle.cs_design.specs.Fatal.{IsSafeBeyond}
+use Rattle.cs_reports.specs.Design.{IsDesign}
+use Rattle.cs_reports.specs.declared.design.Design.{Design}
+use Rattle.cs_places.specs.Finding.{FindsCatalog, FindsStore, LooksUp}
+use Rattle.cs_answers.specs.declared.checked.Verdict.{Verdict}
+use Rattle.cs_answers.specs.declared.checked.Verdict.TheVariants.{Sound, Fatal, BadFiles, Unsound}
+use Rattle.cs_answers.specs.declared.answer.Answer.{Answer}
+use Rattle.cs_answers.specs.declared.answer.Answer.TheVariants as answer
+
+-- What a verdict says of files. Of a sound store: no file is bad, it has so many rows, and any k sites may fail.
+abbrev pub Judges : CatalogData → FileContents → Bool → Verdict → Type 0
+Judges C F is_bad (Sound rows k) = (is_bad ≡ false) × IsCheckAnswer C F 0 (Ok rows) × IsSafeBeyond C [] k
+Judges C F is_bad (Fatal k L) = ¬ IsSafeBeyond C [] k
+Judges C F is_bad BadFiles = is_bad ≡ true
+Judges C F is_bad (Unsound fault) = (is_bad ≡ false) × IsCheckAnswer C F 0 (Err fault)
+
+module _ {P S : Type 0} (reads : P → List ℕ → List ℕ → P → Type 0) (opens : P → List ℕ → CatalogData → S → Type 0) (gives : S → FileName → Option (List ℕ) → S → Type 0) where
+  -- the store at this path was found and each of its files read; these are its bad files, and the verdict was given on what could be read
+  pub record ChecksStore (refuses : S → FileName → StoreFault → S → Type 0) (s : P) (path : List ℕ) (bad : List (FileName × Badness)) (verdict : Verdict) (t : P) : Type 0 where
+    pub catalog : CatalogData
+    pub files : Files
+    pub unreadable : List FileName
+    pub is_bad : Bool
+    pub store : S
+    pub left : S
+    pub finds : FindsStore reads opens s path catalog store t
+    pub loads : LoadsReadable gives refuses (surviving catalog []) store files unreadable left
+    pub inspected : AreBadFiles catalog (contents_of files) unreadable bad
+    pub none_bad : is_bad ≡ false → (bad ≡ []) × (unreadable ≡ [])
+    pub judged : Judges catalog (contents_of files) is_bad verdict
+
+  -- the store at this path was loaded without the lost sites, and its rebuild answered these files
+  pub record RebuildsStore (s : P) (path : List ℕ) (L : Sites) (rebuilt : Files) (t : P) : Type 0 where
+    pub catalog : CatalogData
+    pub files : Files
+    pub store : S
+    pub left : S
+    pub finds : FindsStore reads opens s path catalog store t
+    pub loads : Loads gives (surviving catalog L) store files left
+    pub answer : IsRebuildAnswer catalog (contents_of files) L (Ok rebuilt)
+
+-- an output was asked for
+abbrev pub AsksForOutput : {P K : Type 0} → (P → List ℕ → K → P → Type 0) → (P → List ℕ → StoreFault → P → Type 0) → P → List ℕ → P → Type 0
+AsksForOutput {P} {K} makes denies s path t = ((output : K) × makes s path output t) ⊎ ((fault : StoreFault) × denies s path fault t)
+
+-- the output was made, and the files were put there in order and marked
+pub record WritesOutput {P K : Type 0} (makes : P → List ℕ → K → P → Type 0) (takes : K → FileName → List ℕ → K → Type 0) (marks : K → ℕ → K → Type 0) (s : P) (path : List ℕ) (files : Files) (t : P) : Type 0 where
+  pub output : K
+  pub marked : K
+  pub made : makes s path output t
+  pub saved : Saves takes marks (entries files) output marked
+
+module _ {P S K : Type 0} (reads : P → List ℕ → List ℕ → P → Type 0) (opens : P → List ℕ → CatalogData → S → Type 0) (gives : S → FileName → Option (List ℕ) → S → Type 0) (makes : P → List ℕ → K → P → Type 0) where
+  -- A recovery stopped: nothing was asked for but the store, or it was rebuilt, and then alone the output was asked for.
+  abbrev pub StopsRecovery : (misses denies : P → List ℕ → StoreFault → P → Type 0) → P → List ℕ → Sites → List ℕ → P → Type 0
+  StopsRecovery misses denies s path L output_path t =
+      LooksUp reads misses s path t ⊎ ((rebuilt : Files) × (reached : P) × RebuildsStore reads opens gives s path L rebuilt reached × AsksForOutput makes denies reached output_path t)
+
+  -- The store was rebuilt; then the output was made, and the rebuilt files were put there in order and marked.
+  pub record RecoversStore (takes : K → FileName → List ℕ → K → Type 0) (marks : K → ℕ → K → Type 0) (s : P) (path : List ℕ) (L : Sites) (output_path : List ℕ) (rebuilt : Files) (t : P) : Type 0 where
+    pub reached : P
+    pub rebuilds : RebuildsStore reads opens gives s path L rebuilt reached
+    pub writes : WritesOutput makes takes marks reached output_path rebuilt t
+
+module _ {P : Type 0} (reads : P → List ℕ → List ℕ → P → Type 0) (draws : P → List ℕ → List ℕ → P → Type 0) where
+  -- nothing was done, or a picture was written
+  abbrev pub IsDrawn : P → P → Type 0
+  IsDrawn s t = (t ≡ s) ⊎ ((path : List ℕ) × (bytes : List ℕ) × draws s path bytes t)
+
+  -- the catalog at this path was read, and this is what it says of losses; then its picture was written, or nothing was done
+  pub record DesignsCatalog (s : P) (path : List ℕ) (lost : Sites) (design : Design) (t : P) : Type 0 where
+    pub catalog : CatalogData
+    pub reached : P
+    pub found : FindsCatalog reads s path catalog reached
+    pub is : IsDesign catalog lost design
+    pub drawn : IsDrawn reached t
+
+module _ {P S K : Type 0} (reads : P → List ℕ → List ℕ → P → Type 0) (opens : P → List ℕ → CatalogData → S → Type 0) (draws : P → List ℕ → List ℕ → P → Type 0) (makes : P → List ℕ → K → P → Type 0) (gives : S → FileName → Option (List ℕ) → S → Type 0) (refuses : S → FileName → StoreFault → S → Type 0) (takes : K → FileName → List ℕ → K → Type 0) (marks : K → ℕ → K → Type 0) where
+  -- what was done for this answer; for a help text nothing
+  abbrev pub Performs : P → P → Answer → Type 0
+  Performs s t (answer.Told text) = t ≡ s
+  Performs s t (answer.Checked checked) = (path : List ℕ) × ChecksStore reads opens gives refuses s path checked.bad.items checked.verdict t
+  Performs s t (answer.Recovered recovered) = (path : List ℕ) × (L : Sites) × (output_path : List ℕ) × RecoversStore reads opens gives makes takes marks s path L output_path recovered.files t
+  Performs s t (answer.Designed designed) = (path : List ℕ) × (lost : Sites) × DesignsCatalog reads draws s path lost designed.design t

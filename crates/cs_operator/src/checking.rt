@@ -1,0 +1,59 @@
+//! The verb `check`.
+ghost use Rattle.std.specs.Prelude.{◌≡◌, false, [], IfOk, OnErr};
+ghost use Rattle.cs_places.specs.Finding.{LooksUp};
+ghost use Rattle.cs_operator.specs.Promises.{ChecksStore};
+
+use crate::judging::{Means, judge};
+use cs_answers::Checked;
+use cs_inspection::{Badness, bad_files};
+use cs_operator_words::Checking;
+use cs_places::{Places, Stop, find_store};
+use cs_schema::{FileName, Loss};
+use cs_store::load_readable;
+use std::alloc::Global;
+use std::marker::Sync;
+use std::thread::Threads;
+
+/// Whether a file is bad or unreadable.
+fn any_bad(bad: &[(FileName, Badness)], unreadable: &[FileName]) -> bool
+    ensures { result ≡ false → (bad.now ≡ []) × (unreadable.now ≡ []) }
+{
+    !unreadable.is_empty() || !bad.is_empty()
+}
+
+/// Whether a store is sound, and how many of its sites may fail; all its bad files.
+pub fn check<R: Threads + Sync, P: Places>(
+    rt: &R,
+    alloc: Global,
+    places: &mut P,
+    request: &Checking<'_>,
+) -> Result<Checked, Stop>
+    ensures ok { IfOk result (λ checked. ChecksStore P.reads P.opens P.Store.gives P.Store.refuses
+        places.old request.now.store.now checked.bad.items checked.verdict places.new) }
+    ensures err { OnErr result (LooksUp P.reads P.misses places.old request.now.store.now places.new) }
+{
+    let (k, workers) = (request.k, request.workers);
+    let (catalog, mut source) = match find_store(alloc, places, request.store) {
+        Ok(found) => found,
+        Err(stop) => return Err(stop),
+    };
+    let Ok(found) = load_readable(alloc, &catalog, Loss::none(), &mut source) else {
+        return Err(Stop::Memory);
+    };
+    let unreadable = found.unreadable.as_slice();
+    let Ok(bad) = bad_files(rt, alloc, &catalog, &found.files, unreadable) else {
+        return Err(Stop::Memory);
+    };
+    let is_unreadable = !unreadable.is_empty();
+    let means = Means { rt, alloc, workers };
+    let is_bad = any_bad(bad.as_slice(), unreadable);
+    match judge(&means, &catalog, &found.files, is_bad, k) {
+        Ok(verdict) => Ok(Checked {
+            catalog,
+            bad,
+            is_unreadable,
+            verdict,
+        }),
+        Err(stop) => Err(stop),
+    }
+}

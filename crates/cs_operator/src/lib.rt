@@ -1,0 +1,18 @@
+//! The verbs of pinepolo, each a public call over `Places`: where stores are found, and outputs and pictures are made.
+//!
+//! A verb answers what it did, or why it ended early; `run` does what words ask for, prints the answer as text or as one
+//! object of JSON, and gives the status. Promised: the status is 0 only where the verb's promise was performed.
+#![tactic(auto)]
+
+mod checking;
+mod designing;
+mod judging;
+mod program;
+mod recovering;
+
+pub use checking::check;
+pub use cs_answers::{Answer, Checked, Designed, Recovered, Verdict};
+pub use cs_places::{Folders, Places, Stop, report};
+pub use designing::design;
+pub use program::{Host, run};
+pub use recovering::recover;

@@ -1,0 +1,123 @@
+//! From words to a status.
+ghost use Rattle.std.specs.Prelude.{◌≡◌, ◌≤◌, IfOk};
+ghost use Rattle.cs_answers.specs.Statuses.{answer_status};
+ghost use Rattle.cs_operator.specs.Promises.{Performs};
+ghost use Rattle.cs_answers.specs.declared.answer.Answer.{Answer};
+
+use crate::checking::check;
+use crate::designing::design;
+use crate::recovering::recover;
+use cs_answers::{Answer, say, say_refusal};
+use cs_operator_words::{Request, Unasked, parse};
+use cs_places::{DONE, Places, Stop, report};
+use std::alloc::Global;
+use std::io::Write;
+use std::marker::Sync;
+use std::thread::Threads;
+
+/// What a program runs on.
+#[derive(Drop)]
+pub struct Host<'a, R> {
+    pub rt: &'a R,
+    pub alloc: Global,
+    /// How many processors there are.
+    pub processors: u32,
+}
+
+/// Does what the words ask for, without the program's name, prints its answer, and gives its status: 0 done or sound,
+/// 1 refused, 2 wrong words, 3 want of memory, 4 a file, a folder or a stream failed.
+pub fn run<R: Threads + Sync, P: Places, W: Write, E: Write>(
+    host: &Host<'_, R>,
+    words: &[String],
+    places: &mut P,
+    out: &mut W,
+    err: &mut E,
+) -> u8
+    ensures status { result ≤ 4 }
+    ensures done { result ≡ DONE → (answer : Answer) × (answer_status answer ≡ 0) × Performs P.reads P.opens P.draws P.makes
+        P.Store.gives P.Store.refuses P.Output.takes P.Output.marks places.old places.new answer }
+{
+    let alloc = host.alloc;
+    match parse(alloc, words, host.processors) {
+        Ok(request) => run_request(host, &request, places, out, err),
+        Err(Unasked::Told(text)) => say(alloc, &Answer::Told(text), false, out),
+        Err(Unasked::Wrong(text)) => report(&Stop::Usage(text), err),
+        Err(Unasked::Memory) => report(&Stop::Memory, err),
+    }
+}
+
+/// Whether a request wants its answer as JSON.
+fn wants_json(request: &Request<'_>) -> bool {
+    match request {
+        Request::Check(checking) => checking.json,
+        Request::Recover(recovering) => recovering.json,
+        Request::Design(designing) => designing.json,
+    }
+}
+
+/// Does what a request asks for, prints its answer, and gives its status.
+fn run_request<R: Threads + Sync, P: Places, W: Write, E: Write>(
+    host: &Host<'_, R>,
+    request: &Request<'_>,
+    places: &mut P,
+    out: &mut W,
+    err: &mut E,
+) -> u8
+    ensures status { result ≤ 4 }
+    ensures done { result ≡ DONE → (answer : Answer) × (answer_status answer ≡ 0) × Performs P.reads P.opens P.draws P.makes
+        P.Store.gives P.Store.refuses P.Output.takes P.Output.marks places.old places.new answer }
+{
+    let json = wants_json(request);
+    match perform(host, request, places) {
+        Ok(answer) => say(host.alloc, &answer, json, out),
+        Err(stop) => say_stop(host.alloc, &stop, json, out, err),
+    }
+}
+
+/// Says why a verb ended early, and gives its status: a refused store as JSON where that is wanted, all else as text.
+fn say_stop<W: Write, E: Write>(
+    alloc: Global,
+    stop: &Stop,
+    json: bool,
+    out: &mut W,
+    err: &mut E,
+) -> u8
+    ensures { (1 ≤ result) × (result ≤ 4) }
+{
+    match stop {
+        Stop::Refused(lines) => {
+            if json {
+                say_refusal(alloc, lines.as_str(), out)
+            } else {
+                report(stop, err)
+            }
+        }
+        _ => report(stop, err),
+    }
+}
+
+/// Does what a request asks for.
+fn perform<R: Threads + Sync, P: Places>(
+    host: &Host<'_, R>,
+    request: &Request<'_>,
+    places: &mut P,
+) -> Result<Answer, Stop>
+    ensures { IfOk result (Performs P.reads P.opens P.draws P.makes P.Store.gives P.Store.refuses
+        P.Output.takes P.Output.marks places.old places.new) }
+{
+    let (rt, alloc) = (host.rt, host.alloc);
+    match request {
+        Request::Check(request) => match check(rt, alloc, places, request) {
+            Ok(checked) => Ok(Answer::Checked(checked)),
+            Err(stop) => Err(stop),
+        },
+        Request::Recover(request) => match recover(rt, alloc, places, request) {
+            Ok(recovered) => Ok(Answer::Recovered(recovered)),
+            Err(stop) => Err(stop),
+        },
+        Request::Design(request) => match design(alloc, places, request) {
+            Ok(designed) => Ok(Answer::Designed(designed)),
+            Err(stop) => Err(stop),
+        },
+    }
+}

@@ -1,0 +1,24 @@
+//! Runs pinepolo's verbs over the folders beside it, and prints what each says and its status.
+//!
+//! Standard input has lines: the words of a verb; or `rm PATH`, `link TARGET PATH` and `sparse BYTES PATH`, which change
+//! what stands in the folders.
+#![tactic(auto)]
+
+mod changes;
+mod verbs;
+
+use anyhow::Result;
+use changes::changed;
+use verbs::answered;
+
+fn main(rt: HostRuntime) -> Result<()> {
+    for line in rt.lines(rt.alloc()) {
+        let line = line?;
+        let words: Vec<&str> = line.split_whitespace().collect(rt.alloc())?;
+        println!(rt; "$ {line}")?;
+        if !changed(&rt, words.as_slice())? {
+            answered(&rt, rt, words.as_slice())?;
+        }
+    }
+    Ok(())
+}

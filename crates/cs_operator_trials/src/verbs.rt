@@ -1,0 +1,37 @@
+//! Verbs, with what they print.
+use anyhow::Result;
+use cs_operator::{Folders, Host, run};
+use std::marker::Sync;
+use std::rt::Files;
+use std::thread::Threads;
+
+/// How many processors there are.
+const PROCESSORS: u32 = 2;
+
+/// Runs a verb over the folders, and prints its lines and its status.
+pub fn answered<R: Threads + Sync + AllocGlobal + Print, F: Files + Copy + Drop>(
+    rt: &R,
+    files: F,
+    words: &[&str],
+) -> Result<()> {
+    let alloc = rt.alloc();
+    let mut owned = Vec::new(alloc);
+    for word in words {
+        owned.push(String::from_str(alloc, word)?)?;
+    }
+    let host = Host {
+        rt,
+        alloc,
+        processors: PROCESSORS,
+    };
+    let mut places = Folders::new(alloc, files);
+    let mut out = Vec::new(alloc);
+    let mut err = Vec::new(alloc);
+    let status = run(&host, owned.as_slice(), &mut places, &mut out, &mut err);
+    let out = String::from_utf8_lossy(alloc, out.as_slice())?;
+    let err = String::from_utf8_lossy(alloc, err.as_slice())?;
+    let (out, err) = (out.as_str(), err.as_str());
+    print!(rt; "{out}{err}")?;
+    println!(rt; "status {status}")?;
+    Ok(())
+}

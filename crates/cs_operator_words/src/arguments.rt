@@ -1,0 +1,59 @@
+//! The arguments that verbs share.
+use clap::{Arg, ArgAction, value_parser};
+use std::alloc::Global;
+
+/// `STORE`, the folder of a store.
+pub fn store<'a>(alloc: Global) -> Arg<'a> {
+    Arg::new(alloc, "store")
+        .value_name("STORE")
+        .required(true)
+        .help("The folder of the store")
+}
+
+/// `--json`.
+pub fn json<'a>(alloc: Global) -> Arg<'a> {
+    Arg::new(alloc, "json")
+        .long("json")
+        .action(ArgAction::SetTrue)
+        .help("Answer with one object of JSON")
+}
+
+/// `--workers N`.
+pub fn workers<'a>(alloc: Global) -> Arg<'a> {
+    Arg::new(alloc, "workers")
+        .long("workers")
+        .value_name("N")
+        .value_parser(value_parser!(u32).range(1..=64))
+        .help("Workers, 1 to 64 [default: the number of processors, at most 64]")
+}
+
+/// `--k K`.
+pub fn k<'a>(alloc: Global) -> Arg<'a> {
+    Arg::new(alloc, "k")
+        .long("k")
+        .value_name("K")
+        .value_parser(value_parser!(u8).range(0..=16))
+        .help("Any K sites may fail, 0 to 16 [default: as many as the catalog allows]")
+}
+
+/// `SITE..`, the sites that are lost.
+pub fn lost_sites<'a>(alloc: Global) -> Arg<'a> {
+    Arg::new(alloc, "sites")
+        .value_name("SITE")
+        .required(true)
+        .action(ArgAction::Append)
+        .num_args(1..)
+        .value_parser(value_parser!(u8).range(1..=16))
+        .help("The sites that are lost, each 1 to 16")
+}
+
+/// `--lost SITE,..`, the sites that are lost already.
+pub fn lost_already<'a>(alloc: Global) -> Arg<'a> {
+    Arg::new(alloc, "lost")
+        .long("lost")
+        .value_name("SITE,..")
+        .action(ArgAction::Append)
+        .value_delimiter(',')
+        .value_parser(value_parser!(u8).range(1..=16))
+        .help("The sites that are lost already, each 1 to 16")
+}

@@ -1,0 +1,63 @@
+//! A verb's arguments, as they were found among the words.
+ghost use Rattle.std.specs.Prelude.{◌≤◌, IfSome};
+
+use crate::request::{Checking, Designing, Recovering, Request};
+use crate::sites::sites_of;
+use clap::ArgMatches;
+
+/// How many workers there are, at most.
+const WORKER_LIMIT: u32 = 64;
+
+/// The workers that are asked for, or as many as there are processors, within the limit.
+fn workers_of(found: &ArgMatches<'_>, processors: u32) -> Option<u32>
+    ensures { IfSome result (λ workers. (1 ≤ workers) × (workers ≤ 64)) }
+{
+    let workers = match found.get_one::<u32>("workers") {
+        Some(workers) => workers,
+        None => processors.min(WORKER_LIMIT).max(1),
+    };
+    if (1..=WORKER_LIMIT).contains(&workers) {
+        Some(workers)
+    } else {
+        None
+    }
+}
+
+/// What `check` asks for, if all arguments are there and within their limits.
+pub fn checking<'a>(found: &ArgMatches<'a>, processors: u32) -> Option<Request<'a>> {
+    let workers = workers_of(found, processors)?;
+    let store = found.get_str("store")?;
+    Some(Request::Check(Checking {
+        k: found.get_one::<u8>("k"),
+        workers,
+        json: found.get_flag("json"),
+        store,
+    }))
+}
+
+/// What `recover` asks for, if all arguments are there and within their limits.
+pub fn recovering<'a>(found: &ArgMatches<'a>, processors: u32) -> Option<Request<'a>> {
+    let workers = workers_of(found, processors)?;
+    let store = found.get_str("store")?;
+    let output = found.get_str("output")?;
+    let loss = sites_of(found, "sites")?;
+    Some(Request::Recover(Recovering {
+        workers,
+        json: found.get_flag("json"),
+        store,
+        output,
+        loss,
+    }))
+}
+
+/// What `design` asks for, if all arguments are there and within their limits.
+pub fn designing<'a>(found: &ArgMatches<'a>) -> Option<Request<'a>> {
+    let catalog = found.get_str("catalog")?;
+    let lost = sites_of(found, "lost")?;
+    Some(Request::Design(Designing {
+        lost,
+        json: found.get_flag("json"),
+        svg: found.get_str("svg"),
+        catalog,
+    }))
+}

@@ -1,0 +1,16 @@
+//! The words of pinepolo's command line: its verbs, their options, and the help of each.
+//!
+//! Words that ask for something become a `Request`, whose numbers are within their limits; all other words are told why
+//! not, with the usage of their verb.
+#![tactic(auto)]
+
+mod arguments;
+mod commands;
+mod found;
+mod help;
+mod parsing;
+mod request;
+mod sites;
+
+pub use parsing::{Unasked, parse};
+pub use request::{Checking, Designing, Recovering, Request};

@@ -1,0 +1,58 @@
+//! What the words of the command line can ask for.
+ghost use Rattle.std.specs.Prelude.{◌≤◌};
+
+use cs_schema::Loss;
+
+/// A verb, with its arguments.
+#[derive(Clone, Copy)]
+pub enum Request<'a> {
+    /// Whether a store is sound, and how many sites may fail.
+    Check(Checking<'a>),
+    /// The files that a loss took from a store.
+    Recover(Recovering<'a>),
+    /// Which losses a catalog does not survive.
+    Design(Designing<'a>),
+}
+
+/// Which store to check, and for how many lost sites.
+#[derive(Clone, Copy)]
+pub struct Checking<'a> {
+    /// How many sites may fail, whatever they are; where it is none, as many as the catalog allows.
+    pub k: Option<u8>,
+    /// How many workers there are.
+    pub workers: u32,
+    /// Whether the answer is JSON.
+    pub json: bool,
+    /// The folder of the store.
+    pub store: &'a str,
+    ghost workers_in_limits: { (1 ≤ workers) × (workers ≤ 64) },
+}
+
+/// What to recover, from where, to where, and by how many workers.
+#[derive(Clone, Copy)]
+pub struct Recovering<'a> {
+    /// How many workers there are.
+    pub workers: u32,
+    /// Whether the answer is JSON.
+    pub json: bool,
+    /// The folder of the store.
+    pub store: &'a str,
+    /// The folder to make for the files.
+    pub output: &'a str,
+    /// The sites that are lost.
+    pub loss: Loss,
+    ghost workers_in_limits: { (1 ≤ workers) × (workers ≤ 64) },
+}
+
+/// Which catalog to look at, beside which loss.
+#[derive(Clone, Copy)]
+pub struct Designing<'a> {
+    /// The sites that are lost already.
+    pub lost: Loss,
+    /// Whether the answer is JSON.
+    pub json: bool,
+    /// The file to write a picture of the placement to.
+    pub svg: Option<&'a str>,
+    /// The file of the catalog, or the folder of a store.
+    pub catalog: &'a str,
+}

@@ -1,0 +1,18 @@
+//! Sites by their numbers.
+use clap::ArgMatches;
+use cs_schema::Loss;
+
+/// The sites that an argument gives, each from 1 to 16; none where one is not. A site may stand more than once.
+pub fn sites_of(found: &ArgMatches<'_>, argument: &str) -> Option<Loss> {
+    let mut loss = Loss::none();
+    let Some(sites) = found.get_many::<u8>(argument) else {
+        return Some(loss);
+    };
+    for site in sites {
+        match site {
+            Ok(site) if (1..=16).contains(&site) => loss = loss.with(site),
+            _ => return None,
+        }
+    }
+    Some(loss)
+}

@@ -1,0 +1,115 @@
+//! The folders of the system. No contract is told what they hold.
+ghost use Rattle.std.specs.Prelude.{◌≡◌, ◌≤◌, ⊤, IsErrOf};
+ghost use Rattle.cs_store.specs.Fault.{CountsFault};
+
+use crate::places::Places;
+use cs_folders::{FileLimits, OutputFolder, StoreFolder, read_catalog_file, write_picture};
+use cs_schema::Catalog;
+use cs_store::StoreFault;
+use std::alloc::{AllocError, Global};
+use std::rt::Files;
+
+/// The folders of the system, with the number of faults that were met in finding and making what stands in them.
+#[derive(Drop)]
+pub struct Folders<R> {
+    alloc: Global,
+    rt: R,
+    faults: u64,
+}
+
+impl<R> Folders<R> {
+    /// The system's folders; no fault was met.
+    pub fn new(alloc: Global, rt: R) -> Self {
+        Self {
+            alloc,
+            rt,
+            faults: 0,
+        }
+    }
+}
+
+impl<R: Files + Copy> Folders<R> {
+    /// What a read of a catalog came to. One that isn't there is a fault of the device.
+    fn found(&mut self, read: Result<Option<Vec<u8>>, StoreFault>) -> Result<Vec<u8>, StoreFault>
+        ensures device { IsErrOf result StoreFault.Device → CountsFault self.old.faults self.new.faults }
+        ensures counted { self.old.faults ≤ self.new.faults }
+    {
+        match read {
+            Ok(Some(bytes)) => Ok(bytes),
+            Err(StoreFault::Memory) => Err(StoreFault::Memory),
+            Ok(None) | Err(StoreFault::Device) => {
+                self.faults = self.faults.saturating_add(1);
+                Err(StoreFault::Device)
+            }
+        }
+    }
+
+    /// Counts a fault of the device in what was answered.
+    fn told<T>(&mut self, answer: Result<T, StoreFault>) -> Result<T, StoreFault>
+        ensures device { IsErrOf result StoreFault.Device → CountsFault self.old.faults self.new.faults }
+        ensures counted { self.old.faults ≤ self.new.faults }
+    {
+        match answer {
+            Err(StoreFault::Device) => {
+                self.faults = self.faults.saturating_add(1);
+                Err(StoreFault::Device)
+            }
+            other => other,
+        }
+    }
+}
+
+impl<R: Files + Copy> Places for Folders<R> {
+    type Store = StoreFolder<R>;
+
+    type Output = OutputFolder<R>;
+
+    ghost reads = { λ s path bytes t. ⊤ };
+
+    ghost misses = { λ s path fault t. ⊤ };
+
+    ghost opens = { λ s path catalog store. ⊤ };
+
+    ghost makes = { λ s path output t. ⊤ };
+
+    ghost denies = { λ s path fault t. ⊤ };
+
+    ghost draws = { λ s path bytes t. ⊤ };
+
+    ghost fault_count = { λ s. s.faults };
+
+    fn catalog(&mut self, path: &str) -> Result<Vec<u8>, StoreFault> {
+        let read = match StoreFolder::new(self.alloc, self.rt, path, FileLimits::Fixed) {
+            Ok(mut folder) => folder.catalog(),
+            Err(fault) => Err(fault),
+        };
+        self.found(read)
+    }
+
+    fn catalog_or_file(&mut self, path: &str) -> Result<Vec<u8>, StoreFault> {
+        let read = read_catalog_file(self.alloc, &self.rt, path);
+        self.found(read)
+    }
+
+    fn files(&self, path: &str, catalog: &Catalog) -> Result<StoreFolder<R>, AllocError> {
+        let limits = FileLimits::of(catalog);
+        match StoreFolder::new(self.alloc, self.rt, path, limits) {
+            Ok(store) => Ok(store),
+            Err(_) => Err(AllocError),
+        }
+    }
+
+    fn output(&mut self, path: &str) -> Result<OutputFolder<R>, StoreFault> {
+        let made = OutputFolder::make(self.alloc, self.rt, path);
+        self.told(made)
+    }
+
+    fn picture(&mut self, path: &str, bytes: &[u8]) -> Result<(), StoreFault> {
+        let written = write_picture(&self.rt, path, bytes);
+        self.told(written)
+    }
+
+    fn faults(&self) -> u64 {
+        self.faults
+    }
+}

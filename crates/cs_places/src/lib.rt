@@ -1,0 +1,15 @@
+//! Where the verbs of pinepolo find stores and make outputs, and why a verb ends early.
+//!
+//! `Places` is the seam between the verbs and the system: its ghost members say of each call what it came to, so that a
+//! verb's contract can say what was done. `Folders` is the system's.
+#![tactic(auto)]
+
+mod finding;
+mod folders;
+mod places;
+mod stop;
+
+pub use finding::{find_store, look_up};
+pub use folders::Folders;
+pub use places::Places;
+pub use stop::{DEVICE, DONE, MEMORY, REFUSED, Stop, USAGE, report, stop_of};

@@ -1,0 +1,53 @@
+//! What a design says, as JSON.
+use crate::design::Design;
+use crate::object::{Object, number_or_null, sites};
+use cs_schema::{FileName, Loss};
+use serde_json::Value;
+use std::alloc::{AllocError, Global};
+
+/// What `design --json` prints.
+pub fn design_object(alloc: Global, design: &Design) -> Result<Value, AllocError> {
+    Object::of_verb(alloc, "design")
+        .member("k", Ok(number_or_null(design.k)))
+        .member("lost", sites(alloc, design.lost))
+        .truth("safe", design.k.is_some())
+        .member("fatal", losses(alloc, design.fatal.as_slice()))
+        .member("sites", sites_with_files(alloc, design))
+        .finish()
+}
+
+/// Losses, each as the list of its sites.
+fn losses(alloc: Global, losses: &[Loss]) -> Result<Value, AllocError> {
+    let mut list = Vec::new(alloc);
+    for loss in losses {
+        list.push(sites(alloc, *loss)?)?;
+    }
+    Ok(Value::Array(list))
+}
+
+/// Each site with the names of its files.
+fn sites_with_files(alloc: Global, design: &Design) -> Result<Value, AllocError> {
+    let mut list = Vec::new(alloc);
+    for (at, files) in design.files.iter().enumerate() {
+        list.push(site_object(alloc, at + 1, files.as_slice())?)?;
+    }
+    Ok(Value::Array(list))
+}
+
+/// A site with the names of its files.
+fn site_object(alloc: Global, site: usize, files: &[FileName]) -> Result<Value, AllocError> {
+    Object::new(alloc)
+        .number("site", site as u64)
+        .member("files", paths(alloc, files))
+        .finish()
+}
+
+/// The names of files.
+fn paths(alloc: Global, files: &[FileName]) -> Result<Value, AllocError> {
+    let mut list = Vec::new(alloc);
+    for name in files {
+        let path = name.path();
+        list.push(Value::try_from_str(alloc, path.as_str())?)?;
+    }
+    Ok(Value::Array(list))
+}

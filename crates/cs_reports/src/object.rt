@@ -1,0 +1,91 @@
+//! Objects of JSON, made member by member. A member that wants memory spoils the object, and `finish` says so.
+use cs_schema::Loss;
+use serde_json::{Map, Value};
+use std::alloc::{AllocError, Global};
+
+/// An object of JSON with the members so far.
+#[derive(Drop)]
+pub struct Object {
+    alloc: Global,
+    members: Result<Map<String, Value>, AllocError>,
+}
+
+impl Object {
+    /// The object of no member.
+    pub fn new(alloc: Global) -> Self {
+        Self {
+            alloc,
+            members: Ok(Map::new(alloc)),
+        }
+    }
+
+    /// What a verb answers, so far: the version of the form, which is 1, and the verb's name.
+    pub fn of_verb(alloc: Global, verb: &str) -> Self {
+        Self::new(alloc).number("version", 1).text("command", verb)
+    }
+
+    /// The object with one more member, in the place of one that had its name.
+    pub fn member(self, name: &str, value: Result<Value, AllocError>) -> Self {
+        let Object { alloc, members } = self;
+        Self {
+            alloc,
+            members: with_member(alloc, members, name, value),
+        }
+    }
+
+    /// The object with a number.
+    pub fn number(self, name: &str, number: u64) -> Self {
+        self.member(name, Ok(Value::from(number)))
+    }
+
+    /// The object with a truth value.
+    pub fn truth(self, name: &str, truth: bool) -> Self {
+        self.member(name, Ok(Value::Bool(truth)))
+    }
+
+    /// The object with a text.
+    pub fn text(self, name: &str, text: &str) -> Self {
+        let value = Value::try_from_str(self.alloc, text);
+        self.member(name, value)
+    }
+
+    /// The object, or that memory was wanted.
+    pub fn finish(self) -> Result<Value, AllocError> {
+        let Object { alloc: _, members } = self;
+        match members {
+            Ok(members) => Ok(Value::Object(members)),
+            Err(refused) => Err(refused),
+        }
+    }
+}
+
+/// The members with one more.
+fn with_member(
+    alloc: Global,
+    members: Result<Map<String, Value>, AllocError>,
+    name: &str,
+    value: Result<Value, AllocError>,
+) -> Result<Map<String, Value>, AllocError> {
+    let mut members = members?;
+    serde_json::put(&mut members, alloc, name, value?)?;
+    Ok(members)
+}
+
+/// The sites of a loss, as a list of numbers.
+pub fn sites(alloc: Global, loss: Loss) -> Result<Value, AllocError> {
+    let mut list = Vec::new(alloc);
+    for site in 1..17u8 {
+        if loss.has(site) {
+            list.push(Value::from(site))?;
+        }
+    }
+    Ok(Value::Array(list))
+}
+
+/// A number, or null where there is none.
+pub fn number_or_null(number: Option<u8>) -> Value {
+    match number {
+        Some(number) => Value::from(number),
+        None => Value::Null,
+    }
+}

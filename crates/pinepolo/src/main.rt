@@ -1,0 +1,36 @@
+//! pinepolo, the operator's program: checks column stores, and rebuilds what lost sites took from them.
+//!
+//! The verbs are cs_operator's; here they meet the system's words, folders and streams.
+#![tactic(auto)]
+
+use cs_operator::{Folders, Host, Stop, report, run};
+use std::process::ExitCode;
+use std::{env, io, thread};
+
+/// How many processors are taken where the system does not say.
+const ONE_PROCESSOR: u32 = 1;
+
+fn main(rt: HostRuntime) -> ExitCode {
+    let alloc = rt.alloc();
+    let processors = match thread::available_parallelism(&rt) {
+        Ok(count) => u32::try_from(count.get()).unwrap_or(ONE_PROCESSOR),
+        Err(_) => ONE_PROCESSOR,
+    };
+    let host = Host {
+        rt: &rt,
+        alloc,
+        processors,
+    };
+    let mut places = Folders::new(alloc, rt);
+    let mut out = rt.stdout();
+    let mut err = rt.stderr();
+    let status = match env::args(&rt) {
+        Ok(args) => match args.skip(1).collect::<Vec<String>>(alloc) {
+            Ok(words) => run(&host, words.as_slice(), &mut places, &mut out, &mut err),
+            Err(_) => report(&Stop::Memory, &mut err),
+        },
+        Err(e) if e.kind() == io::ErrorKind::OutOfMemory => report(&Stop::Memory, &mut err),
+        Err(_) => report(&Stop::Words, &mut err),
+    };
+    ExitCode::from(status)
+}
