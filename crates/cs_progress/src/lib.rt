@@ -1,0 +1,15 @@
+//! How far work has come: a gate that counts what it is told, and shows it on a terminal as one line.
+//!
+//! A gate changes no answer. Whoever begins a piece counts it, and writes the line where one is due and nobody else is
+//! writing; so nobody waits for anybody, and there is no thread that only shows.
+#![tactic(auto)]
+
+mod line;
+mod progress;
+mod shown;
+mod stage;
+
+pub use line::ProgressLine;
+pub use progress::Progress;
+pub use shown::Shown;
+pub use stage::Stage;

@@ -1,0 +1,163 @@
+//! The line.
+use crate::progress::Progress;
+use crate::shown::Shown;
+use crate::stage::Stage;
+use cs_board::{Gate, Round};
+use std::fmt;
+use std::io::Print;
+use std::sync::atomic::{AtomicU64, Ordering};
+use std::time::Clock;
+
+/// How long a verb works before it shows a line, in milliseconds.
+const PATIENCE: u64 = 300;
+
+/// How long a line stands at least, in milliseconds.
+const PAUSE: u64 = 100;
+
+/// A terminal's commands to go to the line's begin and to erase it.
+const ERASED: &str = "\r\x1b[K";
+
+/// A gate that counts, and shows on a terminal how far work has come.
+///
+/// Its words are changed in single steps by whoever begins a piece. A line that can't be written is left out.
+#[derive(Drop)]
+pub struct ProgressLine<C, E> {
+    clock: C,
+    screen: E,
+    /// How many rows a piece of a walk has.
+    piece_rows: u64,
+    /// 1 where lines are shown.
+    shows: AtomicU64,
+    /// The number of the stage.
+    stage: AtomicU64,
+    /// How many rounds were opened.
+    rounds: AtomicU64,
+    /// How many pieces the round has.
+    pieces: AtomicU64,
+    /// How many of them were begun.
+    begun: AtomicU64,
+    /// The time from which on a line is due, in milliseconds of the clock.
+    due: AtomicU64,
+    /// 1 while somebody writes.
+    writing: AtomicU64,
+    /// 1 where a line stands.
+    stands: AtomicU64,
+}
+
+/// A line in the place of the one that stands.
+#[derive(Clone, Copy)]
+struct Line(Shown);
+
+impl fmt::Display for Line {
+    fn fmt<W: fmt::Write>(&self, f: &mut fmt::Formatter<W>) -> fmt::Result {
+        let shown = self.0;
+        write!(f, "{ERASED}{shown}")
+    }
+}
+
+/// The time of a clock, in milliseconds.
+fn milliseconds<C: Clock>(clock: &C) -> Option<u64> {
+    let time = clock.monotonic().ok()?;
+    u64::try_from(time.as_millis()).ok()
+}
+
+impl<C: Clock, E> ProgressLine<C, E> {
+    /// A gate that was told of nothing. It shows lines only where its screen is a terminal. `piece_rows` is how many rows
+    /// a piece of a walk has.
+    pub fn new(clock: C, screen: E, is_terminal: bool, piece_rows: u64) -> Self {
+        let due = match milliseconds(&clock) {
+            Some(now) => now.saturating_add(PATIENCE),
+            None => u64::MAX,
+        };
+        Self {
+            clock,
+            screen,
+            piece_rows,
+            shows: AtomicU64::new(u64::from(is_terminal)),
+            stage: AtomicU64::new(Stage::Reading.number()),
+            rounds: AtomicU64::new(0),
+            pieces: AtomicU64::new(0),
+            begun: AtomicU64::new(0),
+            due: AtomicU64::new(due),
+            writing: AtomicU64::new(0),
+            stands: AtomicU64::new(0),
+        }
+    }
+}
+
+impl<C, E> ProgressLine<C, E> {
+    /// What it was told so far.
+    pub fn shown(&self) -> Shown {
+        Shown {
+            stage: Stage::of_number(self.stage.load(Ordering::SeqCst)),
+            rounds: self.rounds.load(Ordering::SeqCst),
+            pieces: self.pieces.load(Ordering::SeqCst),
+            begun: self.begun.load(Ordering::SeqCst),
+            piece_rows: self.piece_rows,
+        }
+    }
+}
+
+impl<C: Clock, E: Print> ProgressLine<C, E> {
+    /// Whether a line is due, and then when the next one is.
+    fn next_due(&self) -> Option<u64> {
+        if self.shows.load(Ordering::SeqCst) == 0 {
+            return None;
+        }
+        let now = milliseconds(&self.clock)?;
+        if now < self.due.load(Ordering::SeqCst) {
+            return None;
+        }
+        Some(now.saturating_add(PAUSE))
+    }
+
+    /// Writes the line where one is due and nobody else writes.
+    fn show(&self) {
+        let Some(next) = self.next_due() else {
+            return;
+        };
+        let writing = self
+            .writing
+            .compare_exchange(0, 1, Ordering::SeqCst, Ordering::SeqCst);
+        if writing.is_err() {
+            return;
+        }
+        self.due.store(next, Ordering::SeqCst);
+        self.stands.store(1, Ordering::SeqCst);
+        let _written = self.screen.print(Line(self.shown())).is_ok();
+        self.writing.store(0, Ordering::SeqCst);
+    }
+}
+
+impl<C: Clock, E: Print> Gate for ProgressLine<C, E> {
+    fn entered(&self, _piece: u32) {
+        self.begun.fetch_add(1, Ordering::SeqCst);
+        self.show();
+    }
+
+    fn opened(&self, round: Round, pieces: u32) {
+        self.stage
+            .store(Stage::Round(round).number(), Ordering::SeqCst);
+        self.rounds.fetch_add(1, Ordering::SeqCst);
+        self.pieces.store(u64::from(pieces), Ordering::SeqCst);
+        self.begun.store(0, Ordering::SeqCst);
+        self.show();
+    }
+}
+
+impl<C: Clock, E: Print> Progress for ProgressLine<C, E> {
+    fn reached(&self, stage: Stage) {
+        self.stage.store(stage.number(), Ordering::SeqCst);
+        self.show();
+    }
+
+    fn silence(&self) {
+        self.shows.store(0, Ordering::SeqCst);
+    }
+
+    fn erase(&self) {
+        if self.stands.swap(0, Ordering::SeqCst) == 1 {
+            let _written = self.screen.print(ERASED).is_ok();
+        }
+    }
+}

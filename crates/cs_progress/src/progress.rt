@@ -1,0 +1,17 @@
+//! Gates that show what they are told.
+use crate::stage::Stage;
+use cs_board::{Gate, OpenGate};
+
+/// A gate that may show how far a verb has come. It can change no answer.
+pub trait Progress: Gate {
+    /// The verb is at this stage, which has no pieces.
+    fn reached(&self, _stage: Stage) {}
+
+    /// Nothing is to be shown from here on.
+    fn silence(&self) {}
+
+    /// The verb has ended: what is shown is taken back.
+    fn erase(&self) {}
+}
+
+impl Progress for OpenGate {}

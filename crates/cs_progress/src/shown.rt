@@ -1,0 +1,41 @@
+//! What the line says.
+use crate::stage::Stage;
+use cs_board::Round;
+use std::fmt;
+
+/// How far a verb has come, in words of one line.
+#[derive(Clone, Copy, Debug)]
+pub struct Shown {
+    /// What it is at.
+    pub stage: Stage,
+    /// How many rounds were opened.
+    pub rounds: u64,
+    /// How many pieces the round has.
+    pub pieces: u64,
+    /// How many of them were begun.
+    pub begun: u64,
+    /// How many rows a piece of a walk has, but for the last ones of segments, which have fewer.
+    pub piece_rows: u64,
+}
+
+impl fmt::Display for Shown {
+    fn fmt<W: fmt::Write>(&self, f: &mut fmt::Formatter<W>) -> fmt::Result {
+        let Shown {
+            stage,
+            rounds,
+            pieces,
+            begun,
+            piece_rows,
+        } = *self;
+        let Stage::Round(round) = stage else {
+            return write!(f, "{stage}");
+        };
+        write!(f, "round {rounds}, {round}: piece {begun} of {pieces}")?;
+        if round != Round::Walk {
+            return Ok(());
+        }
+        let rows = begun.saturating_mul(piece_rows);
+        let all = pieces.saturating_mul(piece_rows);
+        write!(f, ", about {rows} of {all} rows")
+    }
+}
