@@ -40,7 +40,7 @@ fn text_of(alloc: Global, answer: &Answer, json: bool) -> Option<String> {
 
 /// Writes a text, and gives the status where that was possible.
 fn print<W: Write>(text: Option<String>, status: u8, out: &mut W) -> u8
-    requires { status ≤ 4 }
+    requires { status ≤ 6 }
     ensures { (result ≡ status) ⊎ ((result ≡ MEMORY) ⊎ (result ≡ DEVICE)) }
 {
     let Some(text) = text else {

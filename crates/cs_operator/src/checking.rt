@@ -3,14 +3,15 @@ ghost use Rattle.std.specs.Prelude.{◌≡◌, false, [], IfOk, OnErr};
 ghost use Rattle.cs_places.specs.Finding.{LooksUp};
 ghost use Rattle.cs_operator.specs.Promises.{ChecksStore};
 
-use crate::judging::{Means, judge};
+use crate::host::Host;
+use crate::judging::judge;
 use cs_answers::Checked;
 use cs_inspection::{Badness, bad_files};
 use cs_operator_words::Checking;
 use cs_places::{Places, Stop, find_store};
+use cs_progress::{Progress, Stage};
 use cs_schema::{FileName, Loss};
 use cs_store::load_readable;
-use std::alloc::Global;
 use std::marker::Sync;
 use std::thread::Threads;
 
@@ -22,9 +23,8 @@ fn any_bad(bad: &[(FileName, Badness)], unreadable: &[FileName]) -> bool
 }
 
 /// Whether a store is sound, and how many of its sites may fail; all its bad files.
-pub fn check<R: Threads + Sync, P: Places>(
-    rt: &R,
-    alloc: Global,
+pub fn check<R: Threads + Sync, G: Progress + Sync, P: Places>(
+    host: &Host<'_, R, G>,
     places: &mut P,
     request: &Checking<'_>,
 ) -> Result<Checked, Stop>
@@ -32,7 +32,8 @@ pub fn check<R: Threads + Sync, P: Places>(
         places.old request.now.store.now checked.bad.items checked.verdict places.new) }
     ensures err { OnErr result (LooksUp P.reads P.misses places.old request.now.store.now places.new) }
 {
-    let (k, workers) = (request.k, request.workers);
+    let alloc = host.alloc;
+    let run = host.run_by(request.workers);
     let (catalog, mut source) = match find_store(alloc, places, request.store) {
         Ok(found) => found,
         Err(stop) => return Err(stop),
@@ -41,13 +42,13 @@ pub fn check<R: Threads + Sync, P: Places>(
         return Err(Stop::Memory);
     };
     let unreadable = found.unreadable.as_slice();
-    let Ok(bad) = bad_files(rt, alloc, &catalog, &found.files, unreadable) else {
+    host.gate.reached(Stage::Inspecting);
+    let Ok(bad) = bad_files(host.rt, alloc, &catalog, &found.files, unreadable) else {
         return Err(Stop::Memory);
     };
     let is_unreadable = !unreadable.is_empty();
-    let means = Means { rt, alloc, workers };
     let is_bad = any_bad(bad.as_slice(), unreadable);
-    match judge(&means, &catalog, &found.files, is_bad, k) {
+    match judge(&run, &catalog, &found.files, is_bad, request.k) {
         Ok(verdict) => Ok(Checked {
             catalog,
             bad,

@@ -1,5 +1,5 @@
 //! The verdict on the files of a store.
-ghost use Rattle.std.specs.Prelude.{◌≡◌, ◌≤◌, [], Bool, IfOk, MatchResult};
+ghost use Rattle.std.specs.Prelude.{◌≡◌, [], Bool, IfOk, MatchResult};
 ghost use Rattle.cs_design.specs.Fatal.{IsSafeBeyond};
 ghost use Rattle.cs_schema.specs.FileNames.{FileContents};
 ghost use Rattle.cs_store.specs.FileSet.{contents_of};
@@ -8,24 +8,13 @@ ghost use Rattle.cs_operator.specs.Promises.{Judges};
 use cs_answers::Verdict;
 use cs_design::{fatal_losses, greatest_k};
 use cs_places::Stop;
-use cs_rebuild::check;
+use cs_progress::Progress;
+use cs_rebuild::{Run, check_gated};
 use cs_schema::{Catalog, Loss};
 use cs_store::{Fault, FileSet};
 use std::alloc::{AllocError, Global};
 use std::marker::Sync;
 use std::thread::Threads;
-
-/// The rows of a piece of work.
-pub const CUT: u32 = 65_536;
-
-/// By what a verb works.
-#[derive(Drop)]
-pub struct Means<'a, R> {
-    pub rt: &'a R,
-    pub alloc: Global,
-    pub workers: u32,
-    ghost workers_in_limits: { (1 ≤ workers) × (workers ≤ 64) },
-}
 
 /// How many sites may fail, whatever they are: the number that is asked for, or the greatest; an error where it is
 /// above the greatest.
@@ -66,8 +55,8 @@ fn too_high(alloc: Global, catalog: &Catalog, k: u8) -> Result<Verdict, Stop>
 }
 
 /// The verdict on the files of a store, of which some may be bad.
-pub fn judge<R: Threads + Sync>(
-    means: &Means<'_, R>,
+pub fn judge<R: Threads + Sync, G: Progress + Sync>(
+    run: &Run<'_, R, G>,
     catalog: &Catalog,
     files: &FileSet,
     is_bad: bool,
@@ -77,12 +66,19 @@ pub fn judge<R: Threads + Sync>(
 {
     let k = match allowed(catalog, k) {
         Ok(k) => k,
-        Err(k) => return too_high(means.alloc, catalog, k),
+        Err(k) => return too_high(run.alloc, catalog, k),
     };
     if is_bad {
         return Ok(Verdict::BadFiles);
     }
-    match check(means.rt, means.alloc, catalog, files, 0, means.workers, CUT) {
+    let Run {
+        rt,
+        alloc,
+        workers,
+        cut,
+        gate,
+    } = *run;
+    match check_gated(rt, alloc, catalog, files, 0, workers, cut, gate) {
         Ok(rows) => Ok(Verdict::Sound { rows, k }),
         Err(Fault::Memory) => Err(Stop::Memory),
         Err(fault) => Ok(Verdict::Unsound(fault)),

@@ -6,6 +6,7 @@
 
 mod checking;
 mod designing;
+mod host;
 mod judging;
 mod program;
 mod recovering;
@@ -14,5 +15,6 @@ pub use checking::check;
 pub use cs_answers::{Answer, Checked, Designed, Recovered, Verdict};
 pub use cs_places::{Folders, Places, Stop, report};
 pub use designing::design;
-pub use program::{Host, run};
+pub use host::{CUT, Host, World};
+pub use program::run;
 pub use recovering::recover;

@@ -6,34 +6,27 @@ ghost use Rattle.cs_answers.specs.declared.answer.Answer.{Answer};
 
 use crate::checking::check;
 use crate::designing::design;
+use crate::host::{Host, World};
 use crate::recovering::recover;
 use cs_answers::{Answer, say, say_refusal};
 use cs_operator_words::{Request, Unasked, parse};
-use cs_places::{DONE, Places, Stop, report};
+use cs_places::{DONE, Stop, report};
+use cs_progress::Progress;
 use std::alloc::Global;
 use std::io::Write;
 use std::marker::Sync;
 use std::thread::Threads;
 
-/// What a program runs on.
-#[derive(Drop)]
-pub struct Host<'a, R> {
-    pub rt: &'a R,
-    pub alloc: Global,
-    /// How many processors there are.
-    pub processors: u32,
-}
-
 /// Does what the words ask for, without the program's name, prints its answer, and gives its status: 0 done or sound,
-/// 1 refused, 2 wrong words, 3 want of memory, 4 a file, a folder or a stream failed.
-pub fn run<R: Threads + Sync, P: Places, W: Write, E: Write>(
-    host: &Host<'_, R>,
+/// 1 refused, 2 wrong words, 3 want of memory, 4 a file, a folder or a stream failed, 5 ambiguous, 6 not recoverable.
+pub fn run<R: Threads + Sync, G: Progress + Sync, P: World, W: Write, E: Write>(
+    host: &Host<'_, R, G>,
     words: &[String],
     places: &mut P,
     out: &mut W,
     err: &mut E,
 ) -> u8
-    ensures status { result ≤ 4 }
+    ensures status { result ≤ 6 }
     ensures done { result ≡ DONE → (answer : Answer) × (answer_status answer ≡ 0) × Performs P.reads P.opens P.draws P.makes
         P.Store.gives P.Store.refuses P.Output.takes P.Output.marks places.old places.new answer }
 {
@@ -55,20 +48,34 @@ fn wants_json(request: &Request<'_>) -> bool {
     }
 }
 
+/// Whether a request wants no line that shows how far its verb has come.
+fn is_quiet(request: &Request<'_>) -> bool {
+    match request {
+        Request::Check(checking) => checking.quiet,
+        Request::Recover(recovering) => recovering.quiet,
+        Request::Design(_) => false,
+    }
+}
+
 /// Does what a request asks for, prints its answer, and gives its status.
-fn run_request<R: Threads + Sync, P: Places, W: Write, E: Write>(
-    host: &Host<'_, R>,
+fn run_request<R: Threads + Sync, G: Progress + Sync, P: World, W: Write, E: Write>(
+    host: &Host<'_, R, G>,
     request: &Request<'_>,
     places: &mut P,
     out: &mut W,
     err: &mut E,
 ) -> u8
-    ensures status { result ≤ 4 }
+    ensures status { result ≤ 6 }
     ensures done { result ≡ DONE → (answer : Answer) × (answer_status answer ≡ 0) × Performs P.reads P.opens P.draws P.makes
         P.Store.gives P.Store.refuses P.Output.takes P.Output.marks places.old places.new answer }
 {
     let json = wants_json(request);
-    match perform(host, request, places) {
+    if is_quiet(request) {
+        host.gate.silence();
+    }
+    let done = perform(host, request, places);
+    host.gate.erase();
+    match done {
         Ok(answer) => say(host.alloc, &answer, json, out),
         Err(stop) => say_stop(host.alloc, &stop, json, out, err),
     }
@@ -82,7 +89,7 @@ fn say_stop<W: Write, E: Write>(
     out: &mut W,
     err: &mut E,
 ) -> u8
-    ensures { (1 ≤ result) × (result ≤ 4) }
+    ensures { (1 ≤ result) × (result ≤ 6) }
 {
     match stop {
         Stop::Refused(lines) => {
@@ -97,25 +104,24 @@ fn say_stop<W: Write, E: Write>(
 }
 
 /// Does what a request asks for.
-fn perform<R: Threads + Sync, P: Places>(
-    host: &Host<'_, R>,
+fn perform<R: Threads + Sync, G: Progress + Sync, P: World>(
+    host: &Host<'_, R, G>,
     request: &Request<'_>,
     places: &mut P,
 ) -> Result<Answer, Stop>
     ensures { IfOk result (Performs P.reads P.opens P.draws P.makes P.Store.gives P.Store.refuses
         P.Output.takes P.Output.marks places.old places.new) }
 {
-    let (rt, alloc) = (host.rt, host.alloc);
     match request {
-        Request::Check(request) => match check(rt, alloc, places, request) {
+        Request::Check(request) => match check(host, places, request) {
             Ok(checked) => Ok(Answer::Checked(checked)),
             Err(stop) => Err(stop),
         },
-        Request::Recover(request) => match recover(rt, alloc, places, request) {
+        Request::Recover(request) => match recover(host, places, request) {
             Ok(recovered) => Ok(Answer::Recovered(recovered)),
             Err(stop) => Err(stop),
         },
-        Request::Design(request) => match design(alloc, places, request) {
+        Request::Design(request) => match design(host.alloc, places, request) {
             Ok(designed) => Ok(Answer::Designed(designed)),
             Err(stop) => Err(stop),
         },

@@ -3,11 +3,12 @@ ghost use Rattle.std.specs.Prelude.{IfOk, OnOk, OnErr};
 ghost use Rattle.cs_places.specs.Finding.{LooksUp};
 ghost use Rattle.cs_operator.specs.Promises.{RecoversStore, StopsRecovery, RebuildsStore, WritesOutput, AsksForOutput};
 
-use crate::judging::CUT;
+use crate::host::Host;
 use cs_answers::Recovered;
 use cs_operator_words::Recovering;
 use cs_places::{Places, Stop, find_store, stop_of};
-use cs_rebuild::rebuild;
+use cs_progress::{Progress, Stage};
+use cs_rebuild::{Run, rebuild_gated};
 use cs_schema::{Catalog, Loss};
 use cs_store::{FileSet, StoreFault, load, save};
 use std::alloc::Global;
@@ -15,9 +16,8 @@ use std::marker::Sync;
 use std::thread::Threads;
 
 /// Recovers what a store has lost into an output, which is made only after the store was accepted, and marked last.
-pub fn recover<R: Threads + Sync, P: Places>(
-    rt: &R,
-    alloc: Global,
+pub fn recover<R: Threads + Sync, G: Progress + Sync, P: Places>(
+    host: &Host<'_, R, G>,
     places: &mut P,
     request: &Recovering<'_>,
 ) -> Result<Recovered, Stop>
@@ -26,11 +26,12 @@ pub fn recover<R: Threads + Sync, P: Places>(
     ensures err { OnErr result (StopsRecovery P.reads P.opens P.Store.gives P.makes P.misses P.denies
         places.old request.now.store.now request.now.loss request.now.output.now places.new) }
 {
-    let (catalog, rebuilt) = match rebuild_store(rt, alloc, places, request) {
+    let (catalog, rebuilt) = match rebuild_store(host, places, request) {
         Ok(found) => found,
         Err(stop) => return Err(stop),
     };
-    match write_output(alloc, places, &catalog, &rebuilt, request.output) {
+    host.gate.reached(Stage::Writing);
+    match write_output(host.alloc, places, &catalog, &rebuilt, request.output) {
         Ok(()) => Ok(Recovered {
             catalog,
             lost: request.loss,
@@ -41,9 +42,8 @@ pub fn recover<R: Threads + Sync, P: Places>(
 }
 
 /// The files that recover what a store has lost, with its catalog.
-fn rebuild_store<R: Threads + Sync, P: Places>(
-    rt: &R,
-    alloc: Global,
+fn rebuild_store<R: Threads + Sync, G: Progress + Sync, P: Places>(
+    host: &Host<'_, R, G>,
     places: &mut P,
     request: &Recovering<'_>,
 ) -> Result<(Catalog, FileSet), Stop>
@@ -51,7 +51,14 @@ fn rebuild_store<R: Threads + Sync, P: Places>(
         places.old request.now.store.now request.now.loss found.1 places.new) }
     ensures err { OnErr result (LooksUp P.reads P.misses places.old request.now.store.now places.new) }
 {
-    let (workers, loss) = (request.workers, request.loss);
+    let (alloc, loss) = (host.alloc, request.loss);
+    let Run {
+        rt,
+        workers,
+        cut,
+        gate,
+        ..
+    } = host.run_by(request.workers);
     let (catalog, mut source) = match find_store(alloc, places, request.store) {
         Ok(found) => found,
         Err(stop) => return Err(stop),
@@ -60,7 +67,7 @@ fn rebuild_store<R: Threads + Sync, P: Places>(
         Ok(files) => files,
         Err(fault) => return Err(stop_of(alloc, &catalog, loss, &fault)),
     };
-    match rebuild(rt, alloc, &catalog, &files, loss, workers, CUT) {
+    match rebuild_gated(rt, alloc, &catalog, &files, loss, workers, cut, gate) {
         Ok(rebuilt) => Ok((catalog, rebuilt)),
         Err(fault) => Err(stop_of(alloc, &catalog, loss, &fault)),
     }

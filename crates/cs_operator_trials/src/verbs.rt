@@ -1,6 +1,7 @@
 //! Verbs, with what they print.
 use anyhow::Result;
 use cs_operator::{Folders, Host, run};
+use cs_progress::OpenGate;
 use std::marker::Sync;
 use std::rt::Files;
 use std::thread::Threads;
@@ -23,6 +24,7 @@ pub fn answered<R: Threads + Sync + AllocGlobal + Print, F: Files + Copy + Drop>
         rt,
         alloc,
         processors: PROCESSORS,
+        gate: &OpenGate,
     };
     let mut places = Folders::new(alloc, files);
     let mut out = Vec::new(alloc);

@@ -18,6 +18,14 @@ pub fn json<'a>(alloc: Global) -> Arg<'a> {
         .help("Answer with one object of JSON")
 }
 
+/// `--quiet`.
+pub fn quiet<'a>(alloc: Global) -> Arg<'a> {
+    Arg::new(alloc, "quiet")
+        .long("quiet")
+        .action(ArgAction::SetTrue)
+        .help("Show no line on a terminal that tells how far it has come")
+}
+
 /// `--workers N`.
 pub fn workers<'a>(alloc: Global) -> Arg<'a> {
     Arg::new(alloc, "workers")

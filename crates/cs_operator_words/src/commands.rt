@@ -56,18 +56,19 @@ fn named<'a>(command: Command<'a>, name: &str) -> Made<'a> {
     Ok(command.bin_name(name)?)
 }
 
-/// `check [--k K] [--workers N] [--json] STORE`.
+/// `check [--k K] [--workers N] [--quiet] [--json] STORE`.
 fn check<'a>(alloc: Global) -> Made<'a> {
     let command = Command::new(alloc, "check")
         .about(help::CHECK)
         .after_help(help::CHECK_END);
     let command = with(named(command, "pinepolo check"), arguments::k(alloc));
     let command = with(command, arguments::workers(alloc));
+    let command = with(command, arguments::quiet(alloc));
     let command = with(command, arguments::json(alloc));
     with(command, arguments::store(alloc))
 }
 
-/// `recover [--workers N] [--json] STORE OUT SITE..`.
+/// `recover [--workers N] [--quiet] [--json] STORE OUT SITE..`.
 fn recover<'a>(alloc: Global) -> Made<'a> {
     let output = Arg::new(alloc, "output")
         .value_name("OUT")
@@ -80,6 +81,7 @@ fn recover<'a>(alloc: Global) -> Made<'a> {
         named(command, "pinepolo recover"),
         arguments::workers(alloc),
     );
+    let command = with(command, arguments::quiet(alloc));
     let command = with(command, arguments::json(alloc));
     let command = with(with(command, arguments::store(alloc)), output);
     with(command, arguments::lost_sites(alloc))

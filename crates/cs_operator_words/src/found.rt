@@ -30,6 +30,7 @@ pub fn checking<'a>(found: &ArgMatches<'a>, processors: u32) -> Option<Request<'
     Some(Request::Check(Checking {
         k: found.get_one::<u8>("k"),
         workers,
+        quiet: found.get_flag("quiet"),
         json: found.get_flag("json"),
         store,
     }))
@@ -43,6 +44,7 @@ pub fn recovering<'a>(found: &ArgMatches<'a>, processors: u32) -> Option<Request
     let loss = sites_of(found, "sites")?;
     Some(Request::Recover(Recovering {
         workers,
+        quiet: found.get_flag("quiet"),
         json: found.get_flag("json"),
         store,
         output,

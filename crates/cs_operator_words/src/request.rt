@@ -21,6 +21,8 @@ pub struct Checking<'a> {
     pub k: Option<u8>,
     /// How many workers there are.
     pub workers: u32,
+    /// Whether no line shows how far it has come.
+    pub quiet: bool,
     /// Whether the answer is JSON.
     pub json: bool,
     /// The folder of the store.
@@ -33,6 +35,8 @@ pub struct Checking<'a> {
 pub struct Recovering<'a> {
     /// How many workers there are.
     pub workers: u32,
+    /// Whether no line shows how far it has come.
+    pub quiet: bool,
     /// Whether the answer is JSON.
     pub json: bool,
     /// The folder of the store.

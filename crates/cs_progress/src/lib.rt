@@ -9,6 +9,7 @@ mod progress;
 mod shown;
 mod stage;
 
+pub use cs_board::OpenGate;
 pub use line::ProgressLine;
 pub use progress::Progress;
 pub use shown::Shown;

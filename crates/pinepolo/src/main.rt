@@ -3,7 +3,9 @@
 //! The verbs are cs_operator's; here they meet the system's words, folders and streams.
 #![tactic(auto)]
 
-use cs_operator::{Folders, Host, Stop, report, run};
+use cs_operator::{CUT, Folders, Host, Stop, report, run};
+use cs_progress::ProgressLine;
+use std::io::IsTerminal;
 use std::process::ExitCode;
 use std::{env, io, thread};
 
@@ -16,14 +18,16 @@ fn main(rt: HostRuntime) -> ExitCode {
         Ok(count) => u32::try_from(count.get()).unwrap_or(ONE_PROCESSOR),
         Err(_) => ONE_PROCESSOR,
     };
+    let mut out = rt.stdout();
+    let mut err = rt.stderr();
+    let gate = ProgressLine::new(rt, err, err.is_terminal(), u64::from(CUT));
     let host = Host {
         rt: &rt,
         alloc,
         processors,
+        gate: &gate,
     };
     let mut places = Folders::new(alloc, rt);
-    let mut out = rt.stdout();
-    let mut err = rt.stderr();
     let status = match env::args(&rt) {
         Ok(args) => match args.skip(1).collect::<Vec<String>>(alloc) {
             Ok(words) => run(&host, words.as_slice(), &mut places, &mut out, &mut err),
