@@ -2,7 +2,7 @@
 ghost use Rattle.std.specs.Prelude.{◌≡◌, ◌<◌, ◌≤◌, ℕ, List, [], length, slice_range, IfOk, IfSome};
 ghost use Rattle.cs_codec.specs.Differences.{NeverFallsShort};
 
-use crate::tell;
+use crate::{tell_cut, tell_of};
 use anyhow::{Result, anyhow};
 use cs_codec::bitmaps::Bitmaps;
 use cs_codec::differences::Differences;
@@ -57,29 +57,14 @@ fn by_code<C: Cell, E: Encoding<C>>(
     let alloc = rt.alloc();
     let start = Instant::now(rt)?;
     let part = E::encode(alloc, cells)?;
-    tell(
-        rt,
-        format!(in alloc; "{column}, encode")?.as_str(),
-        start,
-        timed,
-    )?;
+    tell_of(rt, column, "encode", start, timed)?;
     let start = Instant::now(rt)?;
     let text = E::write(alloc, &part)?;
-    tell(
-        rt,
-        format!(in alloc; "{column}, write")?.as_str(),
-        start,
-        timed,
-    )?;
+    tell_of(rt, column, "write", start, timed)?;
     drop(part);
     let start = Instant::now(rt)?;
     let read = E::read(alloc, &text, cells.len() as u32);
-    tell(
-        rt,
-        format!(in alloc; "{column}, read")?.as_str(),
-        start,
-        timed,
-    )?;
+    tell_of(rt, column, "read", start, timed)?;
     match read {
         Ok(cells) => drop(cells),
         Err(_) => return Err(anyhow!("a column is not read back")),
@@ -104,14 +89,8 @@ fn cut<C: Cell, E: Encoding<C>>(
     let Some(whole) = joined::<C, E>(rt.alloc(), cells, rows)? else {
         return Err(anyhow!("a column is too long"));
     };
-    tell(
-        rt,
-        format!(in rt.alloc(); "{column}, join, cut {rows}")?.as_str(),
-        start,
-        timed,
-    )?;
     drop(whole);
-    Ok(())
+    tell_cut(rt, column, "join, cut", rows, start, timed)
 }
 
 /// The part of a column that is encoded in pieces of so many rows; none where they do not fit together.

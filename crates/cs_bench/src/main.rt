@@ -38,6 +38,31 @@ fn tell(rt: &(impl Print + Clock), what: &str, start: Instant, timed: bool) -> R
     Ok(())
 }
 
+/// Prints what was done with a column, and how long it took since `start` where it is asked for.
+fn tell_of(
+    rt: &(impl Print + Clock + AllocGlobal),
+    column: &str,
+    what: &str,
+    start: Instant,
+    timed: bool,
+) -> Result<()> {
+    let text = format!(in rt.alloc(); "{column}, {what}")?;
+    tell(rt, text.as_str(), start, timed)
+}
+
+/// Prints what was done with a column in pieces of so many rows, and how long it took where it is asked for.
+fn tell_cut(
+    rt: &(impl Print + Clock + AllocGlobal),
+    column: &str,
+    what: &str,
+    rows: usize,
+    start: Instant,
+    timed: bool,
+) -> Result<()> {
+    let text = format!(in rt.alloc(); "{column}, {what} {rows}")?;
+    tell(rt, text.as_str(), start, timed)
+}
+
 /// Reads a catalog.
 fn read(
     rt: &(impl Print + Clock + AllocGlobal),

@@ -5,7 +5,7 @@ ghost use Rattle.cs_schema.specs.declared.cells.Value.{Value as CellValue};
 ghost use Rattle.cs_piece.specs.Columns.{CanEncode};
 ghost use Rattle.cs_piece.specs.Pieces.{IsPieceOf};
 
-use crate::tell;
+use crate::tell_cut;
 use anyhow::{Result, anyhow};
 use cs_piece::{Piece, encode_piece, join_pieces};
 use cs_schema::{Cells, Code, Kind};
@@ -87,14 +87,8 @@ fn cut(
     let Some(whole) = joined(rt.alloc(), code, rows, of, distinct)? else {
         return Err(anyhow!("a column is too long"));
     };
-    tell(
-        rt,
-        format!(in rt.alloc(); "{column}, cut {of}")?.as_str(),
-        start,
-        timed,
-    )?;
     drop(whole);
-    Ok(())
+    tell_cut(rt, column, "cut", of as usize, start, timed)
 }
 
 /// The piece of a column that is made in pieces of so many rows; none where they do not fit together.
