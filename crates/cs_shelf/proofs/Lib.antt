@@ -1,0 +1,4 @@
+mod Copies
+pub mod Loads
+pub mod Names
+mod Past

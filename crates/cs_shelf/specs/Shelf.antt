@@ -1,0 +1,62 @@
+-- What the calls of a shelf do to its files, and what a stop at any moment may leave.
+use Rattle.std.specs.Prelude.{◌≡◌, ◌⊎◌, ℕ, ◌≤◌, List, None, Some, slice_get, IsSome}
+use Rattle.std.specs.FinMap.{insert}
+use Rattle.cs_schema.specs.declared.file_name.FileName.{FileName}
+use Rattle.cs_store.specs.FileSet.{Files, contents_of}
+use Rattle.cs_store.specs.Memory.{held_at}
+
+-- each new outcome is an old one after a step
+abbrev pub Follows : (Files → Files → Type 0) → (Files → Type 0) → (Files → Type 0) → Type 0
+Follows step old new = (c : Files) → new c → (d : Files) × old d × step d c
+
+-- each new outcome was one before
+abbrev pub IsNoMore : (Files → Type 0) → (Files → Type 0) → Type 0
+IsNoMore old new = (c : Files) → new c → old c
+
+-- the name has these bytes, and no other changed
+abbrev pub Has : FileName → List ℕ → Files → Files → Type 0
+Has name bytes old new = new ≡ insert old name bytes
+
+-- the name has what it had, or these bytes, and no other changed
+abbrev pub MayHave : FileName → List ℕ → Files → Files → Type 0
+MayHave name bytes old new = (new ≡ old) ⊎ (new ≡ insert old name bytes)
+
+-- copies of files of c were added to j, and no copy was overwritten
+abbrev pub AddsCopiesOf : Files → Files → Files → Type 0
+AddsCopiesOf c j k = (n : FileName) → (contents_of k n ≡ contents_of j n) ⊎ ((contents_of j n ≡ None) × (contents_of k n ≡ contents_of c n))
+
+-- copies of what is held were added
+abbrev pub AddsCopies : (Files → Type 0) → Files → Files → Type 0
+AddsCopies held j k = (c : Files) → held c → AddsCopiesOf c j k
+
+-- each of these names that has a file has a copy
+abbrev pub HasCopiesOf : List FileName → Files → Files → Type 0
+HasCopiesOf names c k = (i : ℕ) (n : FileName) → slice_get names i ≡ Some n → IsSome (contents_of c n) → IsSome (contents_of k n)
+
+abbrev pub HasCopies : List FileName → (Files → Type 0) → (Files → Type 0) → Type 0
+HasCopies names held kept = (k : Files) → kept k → (c : Files) → held c → HasCopiesOf names c k
+
+-- Time goes on: a stop since t might have left what it might have left before, or what it may leave now.
+pub record Elapses (before now : ℕ) (past since : ℕ → Files → Type 0) (may_leave : Files → Type 0) : Type 0 where
+  pub later : before ≤ now
+  pub nothing_else : (t : ℕ) (c : Files) → t ≤ before → since t c → past t c ⊎ may_leave c
+  pub keeps : (t : ℕ) (c : Files) → t ≤ before → past t c → since t c
+
+-- A stop at any moment since old leaves files that have P.
+pub record LeavesOnly {S : Type 0} (moment : S → ℕ) (left_since : S → ℕ → Files → Type 0) (old new : S) (P : Files → Type 0) : Type 0 where
+  pub later : moment old ≤ moment new
+  pub each : (c : Files) → left_since new (moment old) c → P c
+  -- for a run that began earlier
+  pub before : (t : ℕ) (c : Files) → t ≤ moment old → left_since new t c → left_since old t c ⊎ P c
+
+-- calls that change no file: no outcome is new, now or at any moment of them
+pub record ChangesNothing {S : Type 0} (holds may_leave kept : S → Files → Type 0) (moment : S → ℕ) (left_since : S → ℕ → Files → Type 0) (s t : S) : Type 0 where
+  pub held : IsNoMore (holds s) (holds t)
+  pub stop : IsNoMore (may_leave s) (may_leave t)
+  pub copies : IsNoMore (kept s) (kept t)
+  pub later : moment s ≤ moment t
+  pub before : (m : ℕ) (c : Files) → m ≤ moment s → left_since t m c → left_since s m c ⊎ may_leave s c
+
+-- under these names a set has what is held, whichever of the contents that is
+abbrev pub IsFoundIn : (Files → Type 0) → List FileName → Files → Type 0
+IsFoundIn held names files = (c : Files) → held c → (n : FileName) → contents_of files n ≡ held_at c names n

@@ -1,0 +1,13 @@
+//! Stores that can be changed, file by file, so that a stop at any moment costs nothing.
+//!
+//! A shelf says by its ghost members what a read finds, what a stop may leave, and which old files are
+//! kept. One in memory can be made to stop at each of its calls.
+#![tactic(auto)]
+
+mod memory;
+mod reading;
+mod shelf;
+
+pub use memory::{MemoryShelf, Stop};
+pub use reading::{load_held, read_held};
+pub use shelf::Shelf;

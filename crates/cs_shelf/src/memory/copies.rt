@@ -1,0 +1,97 @@
+//! How the files of a shelf in memory change.
+ghost use Rattle.std.specs.Prelude.{◌≡◌, [], ◌∷◌, ◌++◌, IsSome, IfOk, OnOk, OnErr, IsErrOf};
+ghost use Rattle.std.specs.FinMap.{insert};
+ghost use Rattle.cs_store.specs.FileSet.{contents_of};
+ghost use Rattle.cs_shelf.specs.Shelf.{AddsCopiesOf, HasCopiesOf};
+
+use cs_schema::FileName;
+use cs_store::memory::{MemorySink, save_to_memory};
+use cs_store::{FileSet, StoreFault};
+use std::alloc::Global;
+
+/// The same files once more.
+fn copy(alloc: Global, files: &FileSet) -> Result<FileSet, StoreFault>
+    ensures same { IfOk result (λ copy. copy ≡ files.now) }
+    ensures memory { IsErrOf result StoreFault.Device → ⊥ }
+{
+    let Ok(none) = FileSet::new(alloc) else {
+        return Err(StoreFault::Memory);
+    };
+    let mut sink = MemorySink::new(alloc, none, None);
+    match save_to_memory(files, &mut sink) {
+        Ok(()) => Ok(sink.files),
+        Err(_) => Err(StoreFault::Memory),
+    }
+}
+
+/// Puts the file over the others, and keeps what was there.
+pub fn put_over(
+    alloc: Global,
+    files: &mut FileSet,
+    past: &mut Vec<FileSet>,
+    name: FileName,
+    bytes: &[u8],
+) -> Result<(), StoreFault>
+    ensures ok { OnOk result (files.new ≡ insert files.old name bytes.now) }
+    ensures past { OnOk result (past.new.items ≡ past.old.items ++ files.old ∷ []) }
+    ensures err { OnErr result (files.new ≡ files.old) }
+    ensures past_err { OnErr result (past.new.items ≡ past.old.items) }
+    ensures memory { IsErrOf result StoreFault.Device → ⊥ }
+{
+    let mut next = copy(alloc, files)?;
+    let kept = copy(alloc, files)?;
+    let Ok(bytes) = Vec::from_slice(alloc, bytes) else {
+        return Err(StoreFault::Memory);
+    };
+    if next.put(name, bytes).is_err() || past.push(kept).is_err() {
+        return Err(StoreFault::Memory);
+    }
+    *files = next;
+    Ok(())
+}
+
+/// Keeps a copy of the file with this name, if there is one and none is kept.
+fn keep_copy(
+    alloc: Global,
+    files: &FileSet,
+    kept: &mut FileSet,
+    name: FileName,
+) -> Result<(), StoreFault>
+    ensures ok { OnOk result (IsSome (contents_of files.now name) → IsSome (contents_of kept.new name)) }
+    ensures copies { AddsCopiesOf files.now kept.old kept.new }
+    ensures memory { IsErrOf result StoreFault.Device → ⊥ }
+{
+    let None = kept.get(name) else {
+        return Ok(());
+    };
+    let Some(bytes) = files.get(name) else {
+        return Ok(());
+    };
+    let Ok(copy) = Vec::from_slice(alloc, bytes) else {
+        return Err(StoreFault::Memory);
+    };
+    match kept.put(name, copy) {
+        Ok(()) => Ok(()),
+        Err(_) => Err(StoreFault::Memory),
+    }
+}
+
+/// Keeps a copy of the file under each of these names that has one, if none is kept.
+pub fn keep_copies(
+    alloc: Global,
+    files: &FileSet,
+    kept: &mut FileSet,
+    names: &[FileName],
+) -> Result<(), StoreFault>
+    ensures ok { OnOk result (HasCopiesOf names.now files.now kept.new) }
+    ensures copies { AddsCopiesOf files.now kept.old kept.new }
+    ensures memory { IsErrOf result StoreFault.Device → ⊥ }
+{
+    for name in names {
+        match keep_copy(alloc, files, kept, *name) {
+            Ok(()) => {}
+            Err(fault) => return Err(fault),
+        }
+    }
+    Ok(())
+}

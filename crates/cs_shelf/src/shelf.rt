@@ -1,0 +1,89 @@
+//! A store that can be changed.
+ghost use Rattle.std.specs.Prelude.{◌≡◌, ℕ, List, Option, ◌≤◌, OnOk, IfErr, IsErrOf};
+ghost use Rattle.cs_schema.specs.declared.file_name.FileName.{FileName};
+ghost use Rattle.cs_store.specs.declared.fault.StoreFault.{StoreFault};
+ghost use Rattle.cs_store.specs.Fault.{CountsFault};
+ghost use Rattle.cs_store.specs.FileSet.{Files, contents_of};
+ghost use Rattle.cs_shelf.specs.Shelf.{AddsCopies, ChangesNothing, Elapses, Follows, Has, HasCopies, IsNoMore, MayHave};
+
+use cs_schema::FileName;
+use cs_store::{Source, StoreFault};
+
+/// A store whose files can be replaced one by one.
+///
+/// Its ghost members are claims about its files: one in memory says what they are and what a stop may
+/// leave, and one over a folder, of which no contract is told, makes no claim at all (no outcome).
+/// A stop is a crash of the system or the end of the process.
+pub trait Shelf: Source {
+    /// The files that a read finds.
+    ghost holds: { Self → Files → Type 0 };
+
+    /// What a stop at this moment may leave.
+    ghost may_leave: { Self → Files → Type 0 };
+
+    /// The old files that are kept apart.
+    ghost kept: { Self → Files → Type 0 };
+
+    /// The moment, as a number that doesn't fall.
+    ghost moment: { Self → ℕ };
+
+    /// What a stop at some moment from that one on might have left, during a call or between two.
+    ghost left_since: { Self → ℕ → Files → Type 0 };
+
+    /// Keeps a copy of the file under each of these names that has one, before any is replaced. One
+    /// that is kept already stays as it is. After it, a stop leaves what a read finds.
+    fn keep(&mut self, names: &[FileName]) -> Result<(), StoreFault>
+        ensures ok { OnOk result (HasCopies names.now (holds self.old) (kept self.new)) }
+        ensures copies { Follows (AddsCopies (holds self.old)) (kept self.old) (kept self.new) }
+        ensures synced { OnOk result (IsNoMore (holds self.old) (may_leave self.new)) }
+        ensures same { IsNoMore (holds self.old) (holds self.new) }
+        ensures stop { IsNoMore (may_leave self.old) (may_leave self.new) }
+        ensures time { Elapses (moment self.old) (moment self.new) (left_since self.old) (left_since self.new) (may_leave self.new) }
+        ensures device { IsErrOf result StoreFault.Device
+            → CountsFault (Self.fault_count self.old) (Self.fault_count self.new) }
+        ensures counted { Self.fault_count self.old ≤ Self.fault_count self.new };
+
+    /// Puts these bytes under the name, in the place of what stood there, at one blow. Until a sync a
+    /// stop may leave what stood there.
+    fn replace(&mut self, name: FileName, bytes: &[u8]) -> Result<(), StoreFault>
+        ensures ok { OnOk result (Follows (Has name bytes.now) (holds self.old) (holds self.new)) }
+        ensures err { IfErr result (λ fault. Follows (MayHave name bytes.now) (holds self.old) (holds self.new)) }
+        ensures copies { IsNoMore (kept self.old) (kept self.new) }
+        ensures stop { Follows (MayHave name bytes.now) (may_leave self.old) (may_leave self.new) }
+        ensures time { Elapses (moment self.old) (moment self.new) (left_since self.old) (left_since self.new) (may_leave self.new) }
+        ensures device { IsErrOf result StoreFault.Device
+            → CountsFault (Self.fault_count self.old) (Self.fault_count self.new) }
+        ensures counted { Self.fault_count self.old ≤ Self.fault_count self.new };
+
+    /// After it, a stop leaves what a read finds.
+    fn sync(&mut self) -> Result<(), StoreFault>
+        ensures ok { OnOk result (IsNoMore (holds self.old) (may_leave self.new)) }
+        ensures same { IsNoMore (holds self.old) (holds self.new) }
+        ensures copies { IsNoMore (kept self.old) (kept self.new) }
+        ensures stop { IsNoMore (may_leave self.old) (may_leave self.new) }
+        ensures time { Elapses (moment self.old) (moment self.new) (left_since self.old) (left_since self.new) (may_leave self.new) }
+        ensures device { IsErrOf result StoreFault.Device
+            → CountsFault (Self.fault_count self.old) (Self.fault_count self.new) }
+        ensures counted { Self.fault_count self.old ≤ Self.fault_count self.new };
+
+    /// What a read finds, a stop may leave: the end of the process is one.
+    ghost holds_now: { (shelf : Self) (c : Files) → holds shelf c → may_leave shelf c };
+
+    /// This moment is one of those since an earlier one.
+    ghost counts_now: { (shelf : Self) (t : ℕ) (c : Files) → t ≤ moment shelf → may_leave shelf c → left_since shelf t c };
+
+    /// Since this moment there is no other.
+    ghost only_now: { (shelf : Self) (c : Files) → left_since shelf (moment shelf) c → may_leave shelf c };
+
+    /// A read gives what is held.
+    ghost reads_find: { (s : Self) (name : FileName) (file : Option (List ℕ)) (t : Self) → Self.gives s name file t
+        → (c : Files) → holds s c → file ≡ contents_of c name };
+
+    /// A read changes no file.
+    ghost reads_change_nothing: { (s : Self) (name : FileName) (file : Option (List ℕ)) (t : Self) → Self.gives s name file t
+        → ChangesNothing holds may_leave kept moment left_since s t };
+
+    /// Nor does one that fails.
+    ghost refusals_change_nothing: { (s : Self) (name : FileName) (why : StoreFault) (t : Self) → Self.refuses s name why t
+        → ChangesNothing holds may_leave kept moment left_since s t };
+}
