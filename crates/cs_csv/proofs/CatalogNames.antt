@@ -11,7 +11,6 @@ use Rattle.cs_schema.specs.CatalogData.{CatalogData, no_column}
 use Rattle.cs_schema.specs.Document.{Document, ColumnText}
 use Rattle.cs_schema.specs.Named.{KeepsRules, catalog_of, column_data, column_place}
 use Rattle.cs_schema.specs.Rules.{least_broken, document_rules, is_name, are_names, are_distinct, is_name_byte, is_lowercase}
-use Rattle.cs_schema.proofs.Ascending.{false≢true}
 use Rattle.cs_schema.proofs.ColumnNames.{own_place}
 use Rattle.cs_schema.proofs.RulesKept.{all_kept, columns_named}
 use Rattle.cs_csv.specs.Columns.{NamesDiffer, column}

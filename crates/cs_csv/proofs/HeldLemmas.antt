@@ -41,5 +41,5 @@ module _ (columns : List ColumnData) (header : Record) (rows : List Record) (cel
         let low : n < length rows = omega (arith, held-length 0 some) in
         let is : value_at (cells_at cells c) n ≡ cell_of (column columns c).kind (field (row rows n) place.0) =
         ap (λ (v : List Value). value_at v n) (h.cells_hold c place.0 lc place.1 place.2) ∙ get_or-map (λ (r : Record). cell_of (column columns c).kind (field r place.0)) rows n [] _ low in
-        rw is (is-value (column columns c).kind (field (row rows n) place.0) ((h.rows_hold n low).1 place.0 c place.1 lc place.2));
+        rw is (is-value (column columns c).kind (field (row rows n) place.0) ((h.rows_hold n low).1 c place.0 lc place.1 place.2));
   }

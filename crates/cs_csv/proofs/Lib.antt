@@ -1,3 +1,4 @@
+pub mod OutcomeLemmas
 pub mod RecordLemmas
 pub mod HeldLemmas
 pub mod ValueLemmas
@@ -5,7 +6,7 @@ pub mod TripLemmas
 pub mod WriteLemmas
 pub mod HeaderLemmas
 pub mod RowsLemmas
-pub mod OrderLemmas
+pub mod ColumnLemmas
 pub mod TextLemmas
 pub mod ReadLemmas
 pub mod CatalogNames

@@ -5,7 +5,7 @@ use Rattle.std.proofs.Math.Seq.{map-set_same}
 use Rattle.csv.specs.Records.{field_at}
 use Rattle.cs_schema.specs.Values.{values, kind_of}
 use Rattle.cs_schema.specs.declared.cells.Value.{Value}
-use Rattle.cs_csv.specs.Fields.{Record, field, kind_at, IsCellOf, cell_of}
+use Rattle.cs_csv.specs.Fields.{kind_at, IsCellOf, cell_of}
 use Rattle.cs_csv.specs.Faults.{AddsField, cells_at, kinds_of}
 use Rattle.cs_schema.specs.declared.kinds.Kind.{Kind}
 use Rattle.cs_schema.specs.declared.cells.Cells.{Cells}
@@ -37,7 +37,7 @@ put-other l i j x ne = ap (λ (m : List (List Value)). get_or m j []) (map-set v
 pub same-count : (a b : List Cells) → kinds_of a ≡ kinds_of b → length a ≡ length b
 same-count a b e = sym (length-map a kind_of) ∙ ap length e ∙ length-map b kind_of
 
-module _ (before now : List Cells) (r : Record) (i : ℕ) (y x : Cells) (h : i < length now) (read : y ≡ get_or now i y) (kinds : kinds_of now ≡ kinds_of before) where
+module _ (before now : List Cells) (text : List ℕ) (i : ℕ) (y x : Cells) (h : i < length now) (read : y ≡ get_or now i y) (kinds : kinds_of now ≡ kinds_of before) where
   -- the kind of the column at this place
   pub kind-here : kind_of y ≡ kind_at (kinds_of before) i
   kind-here = ap kind_of read ∙ sym (kind_at-is now i y h) ∙ ap (λ (k : List Kind). kind_at k i) kinds
@@ -45,15 +45,15 @@ module _ (before now : List Cells) (r : Record) (i : ℕ) (y x : Cells) (h : i <
   pub kinds-kept : kind_of x ≡ kind_of y → kinds_of (set now i x) ≡ kinds_of before
   kinds-kept e = put-kinds now i x y (e ∙ ap kind_of read) ∙ kinds
 
-  module _ (same : cells_at now i ≡ cells_at before i) (fits : IsCellOf (kind_of y) (field r i)) (more : values x ≡ values y ++ cell_of (kind_of y) (field r i) ∷ []) where
-    pub adds-here : AddsField before (set now i x) r i
+  module _ (same : cells_at now i ≡ cells_at before i) (fits : IsCellOf (kind_of y) text) (more : values x ≡ values y ++ cell_of (kind_of y) text ∷ []) where
+    pub adds-here : AddsField before (set now i x) text i
     adds-here =
-        let P : Kind → Type 0 = λ k. IsCellOf k (field r i) in
+        let P : Kind → Type 0 = λ k. IsCellOf k text in
         let old : values y ≡ cells_at before i = ap values read ∙ sym (cells_at-is now i y h) ∙ same in (
           subst P kind-here fits,
-          put-same now i x h ∙ more ∙ ap (λ (l : List Value). l ++ cell_of (kind_of y) (field r i) ∷ []) old ∙ ap (λ (k : Kind). cells_at before i ++ cell_of k (field r i) ∷ []) kind-here,
+          put-same now i x h ∙ more ∙ ap (λ (l : List Value). l ++ cell_of (kind_of y) text ∷ []) old ∙ ap (λ (k : Kind). cells_at before i ++ cell_of k text ∷ []) kind-here,
         )
 
 -- what was added at another place stays so
-pub adds-there : (before now : List Cells) (r : Record) (i j : ℕ) (x : Cells) → j ≢ i → AddsField before now r j → AddsField before (set now i x) r j
-adds-there before now r i j x ne a = (a.0, put-other now i j x ne ∙ a.1)
+pub adds-there : (before now : List Cells) (text : List ℕ) (i j : ℕ) (x : Cells) → j ≢ i → AddsField before now text j → AddsField before (set now i x) text j
+adds-there before now text i j x ne a = (a.0, put-other now i j x ne ∙ a.1)

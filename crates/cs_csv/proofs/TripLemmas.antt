@@ -1,6 +1,6 @@
 -- The text of a table reads as the table.
 use Rattle.std.proofs.Common.{◌≡◌, ◌≢◌, ℕ, zero, suc, ◌<◌, List, [], ◌∷◌, ◌++◌, length, map, refl, sym, ap, ◌∙◌, subst, arith, None, inl, inr, zero-add}
-use Rattle.std.specs.Prelude.{slice_index, ⊤, Result, Ok, Err, IfOk, IfErr}
+use Rattle.std.specs.Prelude.{slice_index, ⊤}
 use Rattle.std.specs.List.{list_any}
 use Rattle.std.proofs.lemmas.Bool.{cases_Bool, ne_eqb}
 use Rattle.std.proofs.lemmas.List.{get_or-map, get_or_default, length-map, same_lists}
@@ -14,10 +14,10 @@ use Rattle.cs_csv.specs.Columns.{NamesDiffer, column}
 use Rattle.cs_schema.specs.CatalogData.{ColumnData}
 use Rattle.cs_schema.specs.Values.{values}
 use Rattle.cs_csv.specs.Fields.{IsCellOf, Record, cell_of, field}
-use Rattle.cs_csv.specs.FaultOf.{IsOutside}
-use Rattle.cs_csv.specs.Faults.{HoldsRows, IsFieldFault, IsFirstFault, IsHeader, Refuses, cells_at, column_values, row}
+use Rattle.cs_csv.specs.Faults.{HoldsRows, IsFieldFault, IsFirstFault, IsRowFault, Refuses, cells_at, column_values, row}
+use Rattle.cs_csv.specs.Headers.{IsHeader}
 use Rattle.cs_csv.specs.Reading.{text_records}
-use Rattle.cs_csv.specs.RoundTrip.{CellsFit, HasNoMark}
+use Rattle.cs_csv.specs.RoundTrip.{CellsFit, HasNoMark, IsTripFault}
 use Rattle.cs_csv.specs.Writing.{AreEven, names_record, records_text, row_count, row_record, rows_records, table_records, table_text, value_at, value_text}
 use Rattle.cs_schema.specs.declared.cells.Cells.{Cells}
 use Rattle.cs_schema.specs.declared.kinds.Kind.{Kind}
@@ -25,6 +25,7 @@ use Rattle.cs_csv.specs.declared.fault.FieldFault.{FieldFault}
 use Rattle.cs_csv.specs.declared.fault.FieldFault.TheVariants as why
 use Rattle.cs_csv.specs.declared.fault.CsvFault.{CsvFault}
 use Rattle.cs_csv.specs.declared.fault.CsvFault.TheVariants as fault
+use Rattle.cs_csv.proofs.HeaderLemmas.{no-fault}
 use Rattle.cs_csv.proofs.TextLemmas.{are-all}
 use Rattle.cs_csv.proofs.ValueLemmas.{not-int, not-text, too-long, value-back, value-fits}
 
@@ -144,17 +145,27 @@ module _ (columns : List ColumnData) (cells : List Cells) (differ : NamesDiffer 
       let P : ℕ → Type 0 = λ p. Refuses (column columns c).kind (field (row (rows_records cells (row_count cells)) n) p) w in
       never (column columns c).kind (field (row (rows_records cells (row_count cells)) n) c) (field-fits c n f.known ln) (subst P same f.refused)
 
-  pub no-faults : (f : CsvFault) → IsFirstFault columns (table_records columns cells) f → IsOutside f
-  no-faults fault.Memory h = tt
-  no-faults fault.Device h = tt
-  no-faults fault.Header h = h names-header
-  no-faults (fault.Width n) h =
+  row-faults : (f : CsvFault) → IsRowFault columns (names_record columns) (rows_records cells (row_count cells)) f → IsTripFault (row_count cells) f
+  row-faults fault.Memory h = absurd h
+  row-faults fault.Device h = absurd h
+  row-faults (fault.Missing c) h = absurd h
+  row-faults (fault.Unknown name) h = absurd h
+  row-faults (fault.Twice c) h = absurd h
+  row-faults fault.TooMany h =
       let rows = length-map-range_with_len (row_record cells) 0 (row_count cells) in
-      let ln : n < row_count cells = omega (arith, rows, h.1.0) in
-      h.1.2 (ap length (row-at cells (row_count cells) n ln) ∙ row-length cells n ∙ fit.count)
-  no-faults (fault.NotInt n c) h = fault-column n c why.NotInt h.1 not-int
-  no-faults (fault.NotText n c) h = fault-column n c why.NotText h.1 not-text
-  no-faults (fault.TooLong n c) h = fault-column n c why.TooLong h.1 too-long
+      inr (refl, omega (arith, rows, h.0))
+  row-faults (fault.Width n width) h =
+      let rows = length-map-range_with_len (row_record cells) 0 (row_count cells) in
+      let ln : n < row_count cells = omega (arith, rows, h.there) in
+      absurd (h.other (h.is ∙ ap length (row-at cells (row_count cells) n ln) ∙ row-length cells n ∙ fit.count))
+  row-faults (fault.NotInt n c cell) h = absurd (fault-column n c (why.NotInt cell) h (not-int cell))
+  row-faults (fault.NotText n c) h = absurd (fault-column n c why.NotText h not-text)
+  row-faults (fault.TooLong n c bytes) h = absurd (fault-column n c (why.TooLong bytes) h (too-long bytes))
+
+  pub no-faults : (f : CsvFault) → IsFirstFault columns (table_records columns cells) f → IsTripFault (row_count cells) f
+  no-faults f (inl o) = inl o
+  no-faults f (inr (inl h)) = inl (no-fault columns (names_record columns) f names-header h)
+  no-faults f (inr (inr h)) = row-faults f h.1
 
 no-mark-of : (columns : List ColumnData) (cells : List Cells) → 0 < length columns → HasNoMark columns → strip_bom (table_text columns cells) ≡ table_text columns cells
 unfolding records_text
@@ -170,11 +181,3 @@ table-back columns cells h fit =
 -- a list's head and rest
 pub parts-same : (a b : Record) (xs ys : List Record) → a ∷ xs ≡ b ∷ ys → (a ≡ b) × (xs ≡ ys)
 parts-same a b xs ys e = (cc e, cc e)
-
-pub if-ok-then : {T E : Type 0} (r : Result T E) (P Q : T → Type 0) → ((x : T) → P x → Q x) → IfOk r P → IfOk r Q
-if-ok-then (Ok x) P Q f p = f x p
-if-ok-then (Err e) P Q f p = tt
-
-pub if-err-then : {T E : Type 0} (r : Result T E) (P Q : E → Type 0) → ((x : E) → P x → Q x) → IfErr r P → IfErr r Q
-if-err-then (Ok x) P Q f p = tt
-if-err-then (Err e) P Q f p = f e p

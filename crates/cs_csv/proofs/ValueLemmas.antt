@@ -66,14 +66,14 @@ value-back kind.Int (Text t) h = elim h [ ]
 value-back kind.Text (Int z) h = elim h [ ]
 
 -- no such text is refused
-pub not-int : (k : Kind) (text : List ℕ) → IsCellOf k text → Refuses k text why.NotInt → ⊥
-not-int kind.Int text h r = r h
-not-int kind.Text text h r = r
+pub not-int : (cell : List ℕ) (k : Kind) (text : List ℕ) → IsCellOf k text → Refuses k text (why.NotInt cell) → ⊥
+not-int cell kind.Int text h r = r.0 h
+not-int cell kind.Text text h r = r
 
 pub not-text : (k : Kind) (text : List ℕ) → IsCellOf k text → Refuses k text why.NotText → ⊥
 not-text kind.Int text h r = r
 not-text kind.Text text h r = r h.0
 
-pub too-long : (k : Kind) (text : List ℕ) → IsCellOf k text → Refuses k text why.TooLong → ⊥
-too-long kind.Int text h r = r
-too-long kind.Text text h r = omega (arith, h.1, r.1)
+pub too-long : (bytes : ℕ) (k : Kind) (text : List ℕ) → IsCellOf k text → Refuses k text (why.TooLong bytes) → ⊥
+too-long bytes kind.Int text h r = r
+too-long bytes kind.Text text h r = omega (arith, h.1, r.1)

@@ -1,6 +1,5 @@
 -- The columns of a table, by their names.
-use Rattle.std.specs.Prelude.{◌≡◌, ℕ, ◌<◌, List, [], length, slice_index_or}
-use Rattle.cs_schema.specs.declared.kinds.Kind.TheVariants as kind
+use Rattle.std.specs.Prelude.{◌≡◌, ℕ, ◌<◌, List, length, slice_index_or}
 use Rattle.cs_schema.specs.CatalogData.{ColumnData, no_column}
 
 -- the column of this number

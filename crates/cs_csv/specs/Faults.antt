@@ -1,6 +1,9 @@
--- What the header and the records of a text must be, and where one is not.
-use Rattle.std.specs.Prelude.{◌≡◌, ◌≢◌, ℕ, ◌<◌, List, [], ◌∷◌, map, length, slice_index_or, IsUtf8, ⊤, ◌++◌}
-use Rattle.cs_csv.specs.Columns.{NamesDiffer, column}
+-- What the records of a text must be, and where one is not.
+use Rattle.std.specs.Prelude.{◌≡◌, ◌≢◌, ◌⊎◌, ℕ, ◌<◌, ◌≤◌, List, [], ◌∷◌, map, length, slice_index, slice_index_or, IsUtf8, ⊤, ◌++◌}
+use Rattle.cs_csv.specs.Columns.{column}
+use Rattle.cs_csv.specs.Headers.{IsHeader, IsHeaderFault}
+use Rattle.cs_csv.specs.Shown.{shown}
+use Rattle.cs_csv.specs.FaultOf.{IsOutside}
 use Rattle.cs_schema.specs.CatalogData.{ColumnData}
 use Rattle.cs_schema.specs.Values.{values, kind_of}
 use Rattle.cs_schema.specs.declared.cells.Value.{Value}
@@ -13,29 +16,14 @@ use Rattle.cs_csv.specs.declared.fault.FieldFault.TheVariants as why
 use Rattle.cs_csv.specs.declared.fault.CsvFault.{CsvFault}
 use Rattle.cs_csv.specs.declared.fault.CsvFault.TheVariants as fault
 
--- each column's name once, and nothing else: no two columns have one name, as many fields as columns, no two of them the
--- same, each column's name one of them, and each of them a column's name
-pub record IsHeader (columns : List ColumnData) (header : Record) : Type 0 where
-  pub differ : NamesDiffer columns
-  pub count : length header ≡ length columns
-  pub once : (i j : ℕ) → i < length columns → j < length columns → field header i ≡ field header j → i ≡ j
-  pub each : (c : ℕ) → c < length columns → (i : ℕ) × (i < length columns) × (field header i ≡ (column columns c).name)
-  pub named : (i : ℕ) → i < length columns → (c : ℕ) × (c < length columns) × ((column columns c).name ≡ field header i)
+-- more rows than any catalog has room for: a projection has 16 ranges at most, each of at most 1,048,576 rows
+abbrev pub most_rows : ℕ
+most_rows = 16777216
 
--- why a record is no header
-abbrev pub IsHeaderFault : List ColumnData → Record → CsvFault → Type 0
-IsHeaderFault columns header fault.Header = ¬ IsHeader columns header
-IsHeaderFault columns header fault.Memory = ⊤
-IsHeaderFault columns header fault.Device = ⊥
-IsHeaderFault columns header (fault.Width n) = ⊥
-IsHeaderFault columns header (fault.NotInt n c) = ⊥
-IsHeaderFault columns header (fault.NotText n c) = ⊥
-IsHeaderFault columns header (fault.TooLong n c) = ⊥
-
--- the fields of a record before place `n` are cells of the columns that the header names there
+-- the fields of a record that the header names as the columns before column `n` are cells of them
 abbrev pub FitsBefore : List ColumnData → Record → Record → ℕ → Type 0
 FitsBefore columns header r n =
-    (i c : ℕ) → i < n → c < length columns → field header i ≡ (column columns c).name → IsCellOf (column columns c).kind (field r i)
+    (c i : ℕ) → c < n → i < length columns → field header i ≡ (column columns c).name → IsCellOf (column columns c).kind (field r i)
 
 -- a record is a row: a field for each column, and each a cell of its kind
 abbrev pub IsRowOf : List ColumnData → Record → Record → Type 0
@@ -50,52 +38,50 @@ AreRows columns header rows n = (m : ℕ) → m < n → IsRowOf columns header (
 
 -- why a field is no cell of a kind
 abbrev pub Refuses : Kind → List ℕ → FieldFault → Type 0
-Refuses kind.Int text why.NotInt = ¬ IsInt text
+Refuses kind.Int text (why.NotInt cell) = (¬ IsInt text) × (cell ≡ shown text)
 Refuses kind.Text text why.NotText = ¬ IsUtf8 text
-Refuses kind.Text text why.TooLong = IsUtf8 text × (255 < length text)
+Refuses kind.Text text (why.TooLong bytes) = IsUtf8 text × (255 < length text) × (bytes ≡ length text)
 Refuses k text why.Memory = ⊤
-Refuses k text why.NotInt = ⊥
-Refuses k text why.NotText = ⊥
-Refuses k text why.TooLong = ⊥
+Refuses k text _ = ⊥
 
--- the first fault is of the field of column `c` in record `n`: the records before it are rows, and so are the fields before it
+-- the first fault is of the field of column `c` in record `n`: the records before it are rows, and the columns before it have cells there
 pub record IsFieldFault (columns : List ColumnData) (header : Record) (rows : List Record) (n c : ℕ) (why : FieldFault) : Type 0 where
   pub there : n < length rows
+  pub few : n < most_rows
   pub known : c < length columns
   pub earlier : AreRows columns header rows n
   pub width : length (row rows n) ≡ length columns
   pub place : ℕ
   pub within : place < length columns
   pub name : field header place ≡ (column columns c).name
-  pub before : FitsBefore columns header (row rows n) place
+  pub before : FitsBefore columns header (row rows n) c
   pub refused : Refuses (column columns c).kind (field (row rows n) place) why
 
--- what a fault says of a text's header and the records after it
-abbrev pub IsRowFault : List ColumnData → Record → List Record → CsvFault → Type 0
-IsRowFault columns header rows fault.Memory = ⊤
-IsRowFault columns header rows fault.Device = ⊤
-IsRowFault columns header rows fault.Header = ⊥
-IsRowFault columns header rows (fault.Width n) = (n < length rows) × AreRows columns header rows n × (length (row rows n) ≢ length columns)
-IsRowFault columns header rows (fault.NotInt n c) = IsFieldFault columns header rows n c why.NotInt
-IsRowFault columns header rows (fault.NotText n c) = IsFieldFault columns header rows n c why.NotText
-IsRowFault columns header rows (fault.TooLong n c) = IsFieldFault columns header rows n c why.TooLong
+-- the first fault is the width of record `n`
+pub record IsWidthFault (columns : List ColumnData) (header : Record) (rows : List Record) (n cells : ℕ) : Type 0 where
+  pub there : n < length rows
+  pub few : n < most_rows
+  pub earlier : AreRows columns header rows n
+  pub is : cells ≡ length (row rows n)
+  pub other : cells ≢ length columns
 
--- what a fault says of the records of a text, of which the first is the header
+-- what a fault says of the records after a header
+abbrev pub IsRowFault : List ColumnData → Record → List Record → CsvFault → Type 0
+IsRowFault columns header rows fault.TooMany = (most_rows < length rows) × AreRows columns header rows most_rows
+IsRowFault columns header rows (fault.Width n cells) = IsWidthFault columns header rows n cells
+IsRowFault columns header rows (fault.NotInt n c cell) = IsFieldFault columns header rows n c (why.NotInt cell)
+IsRowFault columns header rows (fault.NotText n c) = IsFieldFault columns header rows n c why.NotText
+IsRowFault columns header rows (fault.TooLong n c bytes) = IsFieldFault columns header rows n c (why.TooLong bytes)
+IsRowFault columns header rows _ = ⊥
+
+-- what a fault says of the records of a text, of which the first is the header: a text with none has an empty one
+abbrev pub IsTextFault : List ColumnData → List Record → CsvFault → Type 0
+IsTextFault columns [] f = IsHeaderFault columns [] f
+IsTextFault columns (header ∷ rows) f = IsHeaderFault columns header f ⊎ (IsHeader columns header × IsRowFault columns header rows f)
+
+-- memory ran out, the reader failed, or it is the first fault of the text
 abbrev pub IsFirstFault : List ColumnData → List Record → CsvFault → Type 0
-IsFirstFault columns [] fault.Memory = ⊤
-IsFirstFault columns [] fault.Device = ⊤
-IsFirstFault columns [] fault.Header = ⊤
-IsFirstFault columns [] (fault.Width n) = ⊥
-IsFirstFault columns [] (fault.NotInt n c) = ⊥
-IsFirstFault columns [] (fault.NotText n c) = ⊥
-IsFirstFault columns [] (fault.TooLong n c) = ⊥
-IsFirstFault columns (header ∷ rows) fault.Header = ¬ IsHeader columns header
-IsFirstFault columns (header ∷ rows) fault.Memory = ⊤
-IsFirstFault columns (header ∷ rows) fault.Device = ⊤
-IsFirstFault columns (header ∷ rows) (fault.Width n) = IsHeader columns header × IsRowFault columns header rows (fault.Width n)
-IsFirstFault columns (header ∷ rows) (fault.NotInt n c) = IsHeader columns header × IsRowFault columns header rows (fault.NotInt n c)
-IsFirstFault columns (header ∷ rows) (fault.NotText n c) = IsHeader columns header × IsRowFault columns header rows (fault.NotText n c)
-IsFirstFault columns (header ∷ rows) (fault.TooLong n c) = IsHeader columns header × IsRowFault columns header rows (fault.TooLong n c)
+IsFirstFault columns records f = IsOutside f ⊎ IsTextFault columns records f
 
 -- the cells of a column, of which the header names the field at place `i`
 abbrev pub column_values : ColumnData → ℕ → List Record → List Value
@@ -107,19 +93,20 @@ cells_at cells c = slice_index_or (map values cells) c []
 abbrev pub kinds_of : List Cells → List Kind
 kinds_of cells = map kind_of cells
 
--- the field at a place is a cell, and columns have it at that place as their last cell more
-abbrev pub AddsField : List Cells → List Cells → Record → ℕ → Type 0
-AddsField before after r i = IsCellOf (kind_at (kinds_of before) i) (field r i)
-    × (cells_at after i ≡ cells_at before i ++ cell_of (kind_at (kinds_of before) i) (field r i) ∷ [])
+-- a field is a cell of a column, and the column has it as its last cell more
+abbrev pub AddsField : List Cells → List Cells → List ℕ → ℕ → Type 0
+AddsField before after text c = IsCellOf (kind_at (kinds_of before) c) text
+    × (cells_at after c ≡ cells_at before c ++ cell_of (kind_at (kinds_of before) c) text ∷ [])
 
--- the first field of a record that is no cell of columns
-pub record IsFirstRefused (cells : List Cells) (r : Record) (place : ℕ) (why : FieldFault) : Type 0 where
-  pub within : place < length cells
-  pub before : (i : ℕ) → i < place → IsCellOf (kind_at (kinds_of cells) i) (field r i)
-  pub refused : Refuses (kind_at (kinds_of cells) place) (field r place) why
+-- the first column whose field, at its place in a record, is no cell of it
+pub record IsFirstRefused (cells : List Cells) (places : List ℕ) (r : Record) (c : ℕ) (why : FieldFault) : Type 0 where
+  pub within : c < length places
+  pub before : (d : ℕ) → d < c → IsCellOf (kind_at (kinds_of cells) d) (field r (slice_index places d))
+  pub refused : Refuses (kind_at (kinds_of cells) c) (field r (slice_index places c)) why
 
 -- columns hold the rows under a header, each the fields that the header names so
 pub record HoldsRows (columns : List ColumnData) (header : Record) (rows : List Record) (cells : List Cells) : Type 0 where
+  pub few : length rows ≤ most_rows
   pub header_holds : IsHeader columns header
   pub rows_hold : AreRows columns header rows (length rows)
   pub kinds : kinds_of cells ≡ map (λ c. c.kind) columns

@@ -1,54 +1,45 @@
-//! The header of a text: the order of its columns.
-ghost use Rattle.std.specs.Prelude.{◌≡◌, ◌≢◌, ◌<◌, ℕ, length, slice_index, IfSome, IfNone, IfOk, IfErr, true, false};
+//! The header of a text: where the field of each column stands.
+ghost use Rattle.std.specs.Prelude.{◌≡◌, ◌≢◌, ◌<◌, ◌≤◌, ℕ, length, slice_index, IfSome, IfNone, IfOk, IfErr, OnOk, true, false};
 ghost use Rattle.csv.specs.Records.{fields_of};
 ghost use Rattle.cs_csv.specs.Columns.{NamesDiffer, column};
 ghost use Rattle.cs_csv.specs.Fields.{field};
-ghost use Rattle.cs_csv.specs.Faults.{IsHeader, IsHeaderFault};
-ghost use Rattle.cs_csv.specs.Order.{IsOrder, ArePlaces, NoColumn, NoField};
+ghost use Rattle.cs_csv.specs.Headers.{IsHeader, IsHeaderFault};
+ghost use Rattle.cs_csv.specs.Headers.{AreNamesBefore};
+ghost use Rattle.cs_csv.specs.Places.{ArePlaces};
 
+use crate::excerpt::Excerpt;
 use crate::fault::CsvFault;
 use crate::record::field_at;
 use cs_schema::Column;
 use csv::ByteRecord;
-use std::alloc::{AllocError, Global};
+use std::alloc::Global;
+
+/// The name of a column.
+fn name_of(columns: &[Column], c: usize) -> &[u8]
+    requires { c < length columns.now }
+    ensures { result.now ≡ (column columns.now c).name }
+{
+    let column = &columns[c];
+    column.name.as_str().as_bytes()
+}
 
 /// The number of the column of this name.
 fn find_column(columns: &[Column], name: &[u8]) -> Option<usize>
     ensures found { IfSome result (λ c. (c < length columns.now) × ((column columns.now c).name ≡ name.now)) }
     ensures none { IfNone result ((c : ℕ) → c < length columns.now → (column columns.now c).name ≢ name.now) }
-    ensures first { IfSome result (λ c. (d : ℕ) → d < c → (column columns.now d).name ≢ name.now) }
 {
     for c in 0..columns.len() {
-        let column = &columns[c];
-        if column.name.as_str().as_bytes() == name {
+        if name_of(columns, c) == name {
             return Some(c);
         }
     }
     None
 }
 
-/// Whether no two columns have one name.
-fn are_different(columns: &[Column]) -> bool
-    ensures yes { result ≡ true → NamesDiffer columns.now }
-    ensures no { result ≡ false → ¬ (NamesDiffer columns.now) }
-{
-    for c in 0..columns.len() {
-        let column = &columns[c];
-        match find_column(columns, column.name.as_str().as_bytes()) {
-            Some(first) => {
-                if first != c {
-                    return false;
-                }
-            }
-            None => unreachable!(),
-        }
-    }
-    true
-}
-
-/// The place of the field that is this name.
+/// The place of the first field that is this name.
 fn find_field(header: &ByteRecord, name: &[u8]) -> Option<usize>
     ensures found { IfSome result (λ i. (i < length (fields_of header.now)) × (field (fields_of header.now) i ≡ name.now)) }
+    ensures first { IfSome result (λ i. (j : ℕ) → j < i → field (fields_of header.now) j ≢ name.now) }
     ensures none { IfNone result ((i : ℕ) → i < length (fields_of header.now) → field (fields_of header.now) i ≢ name.now) }
 {
     for i in 0..header.len() {
@@ -59,99 +50,73 @@ fn find_field(header: &ByteRecord, name: &[u8]) -> Option<usize>
     None
 }
 
-/// For each field of a header its column.
-fn column_order(
-    alloc: Global,
-    columns: &[Column],
-    header: &ByteRecord,
-) -> Result<Option<Vec<usize>>, AllocError>
-    requires { length (fields_of header.now) ≡ length columns.now }
-    ensures found { IfOk result (λ found. IfSome found (λ order. IsOrder columns.now (fields_of header.now) order.items)) }
-    ensures none { IfOk result (λ found. IfNone found ((i : ℕ) × (i < length columns.now) × NoColumn columns.now (fields_of header.now) i)) }
+/// Whether a field is not the first of its name.
+fn stands_before(header: &ByteRecord, place: usize) -> bool
+    requires { place < length (fields_of header.now) }
+    ensures yes { result ≡ true → (i : ℕ) × (i < place) × (field (fields_of header.now) i ≡ field (fields_of header.now) place) }
+    ensures no { result ≡ false → (i : ℕ) → i < place → field (fields_of header.now) i ≢ field (fields_of header.now) place }
 {
-    let mut order = Vec::new(alloc);
-    for i in 0..header.len() {
-        match find_column(columns, field_at(header, i)) {
-            Some(c) => order.push(c)?,
-            None => return Ok(None),
-        }
+    match find_field(header, field_at(header, place)) {
+        Some(first) => first != place,
+        None => unreachable!(),
     }
-    Ok(Some(order))
 }
 
-/// For each column its field of a header.
-fn field_places(
+/// Checks that each field is a column's name, and the first that is.
+fn check_names(columns: &[Column], header: &ByteRecord) -> Result<(), CsvFault>
+    ensures ok { OnOk result (AreNamesBefore columns.now (fields_of header.now) (length (fields_of header.now))) }
+    ensures err { IfErr result (λ fault. IsHeaderFault columns.now (fields_of header.now) fault) }
+{
+    for place in 0..header.len() {
+        let name = field_at(header, place);
+        let Some(column) = find_column(columns, name) else {
+            return Err(CsvFault::Unknown {
+                name: Excerpt::new(name),
+            });
+        };
+        if stands_before(header, place) {
+            return Err(CsvFault::Twice { column });
+        }
+    }
+    Ok(())
+}
+
+/// For each column its field of a header whose fields are names.
+fn find_places(
     alloc: Global,
     columns: &[Column],
     header: &ByteRecord,
-) -> Result<Option<Vec<usize>>, AllocError>
-    requires { length (fields_of header.now) ≡ length columns.now }
-    ensures found { IfOk result (λ found. IfSome found (λ places. ArePlaces columns.now (fields_of header.now) places.items)) }
-    ensures none { IfOk result (λ found. IfNone found ((c : ℕ) × (c < length columns.now) × NoField columns.now (fields_of header.now) c)) }
+) -> Result<Vec<usize>, CsvFault>
+    requires { AreNamesBefore columns.now (fields_of header.now) (length (fields_of header.now)) }
+    ensures ok { IfOk result (λ places. ArePlaces columns.now (fields_of header.now) places.items) }
+    ensures err { IfErr result (λ fault. IsHeaderFault columns.now (fields_of header.now) fault) }
 {
     let mut places = Vec::new(alloc);
     for c in 0..columns.len() {
-        let column = &columns[c];
-        match find_field(header, column.name.as_str().as_bytes()) {
-            Some(i) => places.push(i)?,
-            None => return Ok(None),
+        let Some(place) = find_field(header, name_of(columns, c)) else {
+            return Err(CsvFault::Missing { column: c });
+        };
+        if places.push(place).is_err() {
+            return Err(CsvFault::Memory);
         }
     }
-    Ok(Some(places))
+    Ok(places)
 }
 
-/// Whether each field's column has that field.
-fn is_inverse(order: &[usize], places: &[usize]) -> bool
-    requires { (i : ℕ) → i < length order.now → slice_index order.now i < length places.now }
-    ensures yes { result ≡ true → (i : ℕ) → i < length order.now → slice_index places.now (slice_index order.now i) ≡ i }
-    ensures no { result ≡ false → (i : ℕ) × (i < length order.now) × (slice_index places.now (slice_index order.now i) ≢ i) }
-{
-    for i in 0..order.len() {
-        if places[order[i]] != i {
-            return false;
-        }
-    }
-    true
-}
-
-/// What a header says: for each field its column, and for each column its field.
-#[derive(Drop)]
-pub(crate) struct Header {
-    pub order: Vec<usize>,
-    pub places: Vec<usize>,
-}
-
-/// What a record says as the header of these columns.
+/// For each column its field of a header.
 pub(crate) fn read_header(
     alloc: Global,
     columns: &[Column],
-    row: &ByteRecord,
-) -> Result<Header, CsvFault>
-    ensures header { IfOk result (λ header. IsHeader columns.now (fields_of row.now)) }
-    ensures order { IfOk result (λ header. IsOrder columns.now (fields_of row.now) header.order.items) }
-    ensures places { IfOk result (λ header. ArePlaces columns.now (fields_of row.now) header.places.items) }
-    ensures err { IfErr result (λ fault. IsHeaderFault columns.now (fields_of row.now) fault) }
+    header: &ByteRecord,
+) -> Result<Vec<usize>, CsvFault>
+    requires { NamesDiffer columns.now }
+    ensures header { IfOk result (λ places. IsHeader columns.now (fields_of header.now)) }
+    ensures places { IfOk result (λ places. ArePlaces columns.now (fields_of header.now) places.items) }
+    ensures err { IfErr result (λ fault. IsHeaderFault columns.now (fields_of header.now) fault) }
 {
-    if row.len() != columns.len() {
-        return Err(CsvFault::Header);
+    match check_names(columns, header) {
+        Ok(()) => {}
+        Err(fault) => return Err(fault),
     }
-    if !are_different(columns) {
-        return Err(CsvFault::Header);
-    }
-    let Ok(order) = column_order(alloc, columns, row) else {
-        return Err(CsvFault::Memory);
-    };
-    let Some(order) = order else {
-        return Err(CsvFault::Header);
-    };
-    let Ok(places) = field_places(alloc, columns, row) else {
-        return Err(CsvFault::Memory);
-    };
-    let Some(places) = places else {
-        return Err(CsvFault::Header);
-    };
-    if !is_inverse(order.as_slice(), places.as_slice()) {
-        return Err(CsvFault::Header);
-    }
-    Ok(Header { order, places })
+    find_places(alloc, columns, header)
 }

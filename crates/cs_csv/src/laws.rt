@@ -1,9 +1,8 @@
 //! What the crate keeps as a whole.
 ghost use Rattle.std.specs.Prelude.{◌≡◌, map, IfOk, IfErr};
 ghost use Rattle.cs_schema.specs.Values.{values};
-ghost use Rattle.cs_csv.specs.FaultOf.{IsOutside};
-ghost use Rattle.cs_csv.specs.Writing.{AreEven};
-ghost use Rattle.cs_csv.specs.RoundTrip.{CellsFit};
+ghost use Rattle.cs_csv.specs.Writing.{AreEven, row_count};
+ghost use Rattle.cs_csv.specs.RoundTrip.{CellsFit, IsTripFault};
 
 use crate::fault::CsvFault;
 use crate::read::read_rows;
@@ -11,7 +10,7 @@ use crate::write::write_rows;
 use cs_schema::{Catalog, Cells};
 use std::alloc::Global;
 
-/// What `write_rows` writes, `read_rows` reads as the same rows.
+/// What `write_rows` writes, `read_rows` reads as the same rows, unless there are more than a table can have.
 pub fn write_and_read(
     alloc: Global,
     catalog: &Catalog,
@@ -20,7 +19,7 @@ pub fn write_and_read(
     requires even { AreEven cells.now }
     requires fit { CellsFit catalog.now.columns cells.now }
     ensures same { IfOk result (λ read. map values read.items ≡ map values cells.now) }
-    ensures no_fault { IfErr result (λ fault. IsOutside fault) }
+    ensures no_fault { IfErr result (λ fault. IsTripFault (row_count cells.now) fault) }
 {
     let _columns = &catalog.columns;
     let text = match write_rows(alloc, catalog, cells, Vec::new(alloc)) {

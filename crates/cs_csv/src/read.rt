@@ -1,15 +1,19 @@
 //! The rows of a table from CSV.
-ghost use Rattle.std.specs.Prelude.{◌≡◌, ◌<◌, ◌+◌, ℕ, List, Option, [], ◌∷◌, ◌++◌, length, slice_index, IfOk, IfErr, OnOk, Ok, true, false};
+ghost use Rattle.std.specs.Prelude.{◌≡◌, ◌<◌, ◌≤◌, ◌+◌, ℕ, List, Option, [], ◌∷◌, ◌++◌, length, slice_index, IfOk, IfErr, OnOk, Ok, true, false};
 ghost use Rattle.csv.specs.Records.{fields_of};
+ghost use Rattle.cs_schema.specs.CatalogData.{ColumnData};
+ghost use Rattle.cs_csv.specs.Columns.{NamesDiffer};
 ghost use Rattle.cs_csv.specs.Fields.{Record};
-ghost use Rattle.cs_csv.specs.Faults.{HoldsRows, IsFirstFault};
+ghost use Rattle.cs_csv.specs.Faults.{HoldsRows, IsFirstFault, most_rows};
+ghost use Rattle.cs_csv.specs.Headers.{IsHeader};
+ghost use Rattle.cs_csv.specs.Places.{ArePlaces};
 ghost use Rattle.cs_csv.specs.Reading.{HasRead, IfKnown};
 ghost use Rattle.cs_csv.specs.Writing.{AreEven};
 ghost use Rattle.cs_csv.specs.Rows.{HoldsSoFar, RowsRead};
 
+use crate::columns::new_cells;
 use crate::fault::CsvFault;
-use crate::header::{Header, read_header};
-use crate::order::{in_order, new_cells};
+use crate::header::read_header;
 use crate::record::push_record;
 use crate::source::{next_record, open};
 use cs_schema::{Catalog, Cells, Column};
@@ -17,92 +21,94 @@ use csv::{ByteRecord, Reader};
 use std::alloc::Global;
 use std::io::Read;
 
-/// Reads record `n` after the header into columns, and says whether there was one.
+/// How many rows a table has at most: every projection has 16 ranges at most, each of at most 1,048,576 rows.
+const MOST_ROWS: u64 = 16_777_216;
+
+/// Reads record `n` after the header into columns, whose fields stand at these places, and says whether there was one.
 fn read_row<R: Read>(
     alloc: Global,
-    columns: &[Column],
-    header: &Header,
-    n: u64,
     records: &mut Reader<R>,
     row: &mut ByteRecord,
+    n: u64,
+    places: &[usize],
     cells: &mut Vec<Cells>,
 ) -> Result<bool, CsvFault>
-    requires order { length header.now.order.items ≡ length columns.now }
-    requires cells { length cells.old.items ≡ length columns.now }
+    requires cells { length cells.old.items ≡ length places.now }
+    requires within { (c : ℕ) → c < length places.now → slice_index places.now c < length places.now }
     ensures count { length cells.new.items ≡ length cells.old.items }
-    ensures more { result ≡ Ok true → (known : Option (List ℕ)) (head : Record) (rows : List Record) → RowsRead R.remaining known records.old columns.now header.now.order.items header.now.places.items cells.old.items n head rows
-        → RowsRead R.remaining known records.new columns.now header.now.order.items header.now.places.items cells.new.items (n + 1) head (rows ++ fields_of row.new ∷ []) }
-    ensures end { result ≡ Ok false → (known : Option (List ℕ)) (head : Record) (rows : List Record) → RowsRead R.remaining known records.old columns.now header.now.order.items header.now.places.items cells.old.items n head rows
+    ensures few { result ≡ Ok true → n < most_rows }
+    ensures more { result ≡ Ok true → (known : Option (List ℕ)) (columns : List ColumnData) (head : Record) (rows : List Record) → RowsRead R.remaining known records.old columns places.now cells.old.items n head rows
+        → RowsRead R.remaining known records.new columns places.now cells.new.items (n + 1) head (rows ++ fields_of row.new ∷ []) }
+    ensures end { result ≡ Ok false → (known : Option (List ℕ)) (columns : List ColumnData) (head : Record) (rows : List Record) → RowsRead R.remaining known records.old columns places.now cells.old.items n head rows
         → IfKnown known (λ all. all ≡ head ∷ rows) }
     ensures same { result ≡ Ok false → cells.new.items ≡ cells.old.items }
-    ensures err { IfErr result (λ fault. (known : Option (List ℕ)) (head : Record) (rows : List Record) → RowsRead R.remaining known records.old columns.now header.now.order.items header.now.places.items cells.old.items n head rows
-        → IfKnown known (λ all. IsFirstFault columns.now all fault)) }
+    ensures err { IfErr result (λ fault. (known : Option (List ℕ)) (columns : List ColumnData) (head : Record) (rows : List Record) → RowsRead R.remaining known records.old columns places.now cells.old.items n head rows
+        → IfKnown known (λ all. IsFirstFault columns all fault)) }
 {
     match next_record(records, row) {
         Ok(true) => {}
         Ok(false) => return Ok(false),
         Err(fault) => return Err(fault),
     }
-    if row.len() != columns.len() {
-        return Err(CsvFault::Width { record: n });
+    if n >= MOST_ROWS {
+        return Err(CsvFault::TooMany);
     }
-    match push_record(alloc, row, cells) {
+    if row.len() != places.len() {
+        return Err(CsvFault::Width {
+            record: n,
+            cells: row.len(),
+        });
+    }
+    match push_record(alloc, row, places, cells) {
         Ok(()) => Ok(true),
-        Err(fault) => Err(CsvFault::of_field(n, header.order[fault.place], fault.why)),
+        Err(fault) => Err(CsvFault::of_field(n, fault)),
     }
 }
 
 /// Reads the records after a header into columns.
 fn read_body<R: Read>(
     alloc: Global,
-    columns: &[Column],
-    header: &Header,
     records: &mut Reader<R>,
     row: &mut ByteRecord,
+    places: &[usize],
     cells: &mut Vec<Cells>,
 ) -> Result<(), CsvFault>
-    requires order { length header.now.order.items ≡ length columns.now }
-    requires cells { length cells.old.items ≡ length columns.now }
-    ensures count { length cells.new.items ≡ length cells.old.items }
-    ensures ok { OnOk result ((known : Option (List ℕ)) (head : Record) → RowsRead R.remaining known records.old columns.now header.now.order.items header.now.places.items cells.old.items 0 head []
-        → (rows : List Record) × HoldsSoFar columns.now head rows header.now.order.items header.now.places.items cells.new.items × IfKnown known (λ all. all ≡ head ∷ rows)) }
-    ensures err { IfErr result (λ fault. (known : Option (List ℕ)) (head : Record) → RowsRead R.remaining known records.old columns.now header.now.order.items header.now.places.items cells.old.items 0 head []
-        → IfKnown known (λ all. IsFirstFault columns.now all fault)) }
+    requires cells { length cells.old.items ≡ length places.now }
+    requires within { (c : ℕ) → c < length places.now → slice_index places.now c < length places.now }
+    ensures ok { OnOk result ((known : Option (List ℕ)) (columns : List ColumnData) (head : Record) → RowsRead R.remaining known records.old columns places.now cells.old.items 0 head []
+        → (rows : List Record) × (length rows ≤ most_rows) × HoldsSoFar columns head rows places.now cells.new.items × IfKnown known (λ all. all ≡ head ∷ rows)) }
+    ensures err { IfErr result (λ fault. (known : Option (List ℕ)) (columns : List ColumnData) (head : Record) → RowsRead R.remaining known records.old columns places.now cells.old.items 0 head []
+        → IfKnown known (λ all. IsFirstFault columns all fault)) }
 {
-    for n in 0..u64::MAX {
-        match read_row(alloc, columns, header, n, records, row, cells) {
+    for n in 0..=MOST_ROWS {
+        match read_row(alloc, records, row, n, places, cells) {
             Ok(true) => {}
             Ok(false) => return Ok(()),
             Err(fault) => return Err(fault),
         }
     }
-    Err(CsvFault::Memory)
+    unreachable!()
 }
 
-/// Reads the header, and makes columns in its order.
-fn read_start<R: Read>(
+/// Reads the header: for each column the place of its field.
+fn read_places<R: Read>(
     alloc: Global,
     columns: &[Column],
     records: &mut Reader<R>,
     row: &mut ByteRecord,
-) -> Result<(Header, Vec<Cells>), CsvFault>
-    ensures ok { IfOk result (λ start. (head : Record) × HoldsSoFar columns.now head [] start.0.order.items start.0.places.items start.1.items
+) -> Result<Vec<usize>, CsvFault>
+    requires some { 0 < length columns.now }
+    requires differ { NamesDiffer columns.now }
+    ensures ok { IfOk result (λ places. (head : Record) × IsHeader columns.now head × ArePlaces columns.now head places.items
         × ((known : Option (List ℕ)) → HasRead R.remaining known records.old [] → HasRead R.remaining known records.new (head ∷ []))) }
     ensures err { IfErr result (λ fault. (known : Option (List ℕ)) → HasRead R.remaining known records.old [] → IfKnown known (λ all. IsFirstFault columns.now all fault)) }
 {
     match next_record(records, row) {
         Ok(true) => {}
-        Ok(false) => return Err(CsvFault::Header),
+        Ok(false) => return Err(CsvFault::Missing { column: 0 }),
         Err(fault) => return Err(fault),
     }
-    let header = match read_header(alloc, columns, row) {
-        Ok(header) => header,
-        Err(fault) => return Err(fault),
-    };
-    match new_cells(alloc, columns, header.order.as_slice()) {
-        Ok(cells) => Ok((header, cells)),
-        Err(_) => Err(CsvFault::Memory),
-    }
+    read_header(alloc, columns, row)
 }
 
 /// Reads a table's rows from records of which none was read.
@@ -112,20 +118,22 @@ fn read_table<R: Read>(
     records: &mut Reader<R>,
     row: &mut ByteRecord,
 ) -> Result<Vec<Cells>, CsvFault>
+    requires some { 0 < length columns.now }
+    requires differ { NamesDiffer columns.now }
     ensures ok { IfOk result (λ cells. (known : Option (List ℕ)) → HasRead R.remaining known records.old [] → (head : Record) × (rows : List Record) × HoldsRows columns.now head rows cells.items × IfKnown known (λ all. all ≡ head ∷ rows)) }
     ensures err { IfErr result (λ fault. (known : Option (List ℕ)) → HasRead R.remaining known records.old [] → IfKnown known (λ all. IsFirstFault columns.now all fault)) }
 {
-    let (header, mut cells) = match read_start(alloc, columns, records, row) {
-        Ok(start) => start,
+    let places = match read_places(alloc, columns, records, row) {
+        Ok(places) => places,
         Err(fault) => return Err(fault),
     };
-    match read_body(alloc, columns, &header, records, row, &mut cells) {
-        Ok(()) => {}
-        Err(fault) => return Err(fault),
-    }
-    match in_order(alloc, cells, header.places.as_slice()) {
-        Ok(sorted) => Ok(sorted),
-        Err(_) => Err(CsvFault::Memory),
+    let Ok(cells) = new_cells(alloc, columns) else {
+        return Err(CsvFault::Memory);
+    };
+    let mut cells = cells;
+    match read_body(alloc, records, row, places.as_slice(), &mut cells) {
+        Ok(()) => Ok(cells),
+        Err(fault) => Err(fault),
     }
 }
 
@@ -135,6 +143,8 @@ fn read_columns<R: Read + Drop>(
     columns: &[Column],
     reader: R,
 ) -> Result<Vec<Cells>, CsvFault>
+    requires some { 0 < length columns.now }
+    requires differ { NamesDiffer columns.now }
     ensures ok { IfOk result (λ cells. (header : Record) × (rows : List Record) × HoldsRows columns.now header rows cells.items × IfKnown (R.remaining reader) (λ records. records ≡ header ∷ rows)) }
     ensures err { IfErr result (λ fault. IfKnown (R.remaining reader) (λ records. IsFirstFault columns.now records fault)) }
 {
@@ -146,7 +156,11 @@ fn read_columns<R: Read + Drop>(
 /// The rows of a catalog's table, column by column, from a text whose first record names each column once, in any order.
 ///
 /// A byte order mark is skipped, and so are empty lines. Each record after the header has a cell for each column: an int
-/// as `i64`'s `FromStr` takes it, or UTF-8 of at most 255 bytes.
+/// as `i64`'s `FromStr` takes it, or UTF-8 of at most 255 bytes. There are at most 16,777,216 of them.
+///
+/// Of several faults that of the least record comes: in the header that of the first field that is no column's name or names
+/// one again, and else the first column without a name; in a record after it its number of fields, and else the first column
+/// whose field is no cell. `Memory` and `Device` may take the place of any answer.
 pub fn read_rows<R: Read + Drop>(
     alloc: Global,
     catalog: &Catalog,
@@ -156,5 +170,6 @@ pub fn read_rows<R: Read + Drop>(
     ensures even { IfOk result (λ cells. AreEven cells.items) }
     ensures err { IfErr result (λ fault. IfKnown (R.remaining reader) (λ records. IsFirstFault catalog.now.columns records fault)) }
 {
+    let _rules = catalog.projection_count();
     read_columns(alloc, catalog.columns.as_slice(), reader)
 }

@@ -1,10 +1,11 @@
 //! From the fields of a record to cells.
-ghost use Rattle.std.specs.Prelude.{◌≡◌, ◌<◌, ℕ, [], ◌∷◌, ◌++◌, length, OnOk, IfErr};
+ghost use Rattle.std.specs.Prelude.{◌≡◌, ◌<◌, ℕ, [], ◌∷◌, ◌++◌, length, slice_index, OnOk, IfErr};
 ghost use Rattle.csv.specs.Records.{fields_of};
 ghost use Rattle.cs_schema.specs.Values.{kind_of, values};
 ghost use Rattle.cs_csv.specs.Fields.{IsCellOf, cell_of, field};
 ghost use Rattle.cs_csv.specs.Faults.{AddsField, IsFirstRefused, Refuses, kinds_of};
 
+use crate::excerpt::Excerpt;
 use crate::fault::{FieldFault, RecordFault};
 use cs_schema::{Cells, Text};
 use csv::ByteRecord;
@@ -31,11 +32,16 @@ fn push_field(alloc: Global, text: &[u8], cells: &mut Cells) -> Result<(), Field
 {
     match cells {
         Cells::Ints(ints) => {
+            let cell = text;
             let Ok(text) = str::from_utf8(text) else {
-                return Err(FieldFault::NotInt);
+                return Err(FieldFault::NotInt {
+                    cell: Excerpt::new(cell),
+                });
             };
             let Ok(int) = text.parse::<i64>() else {
-                return Err(FieldFault::NotInt);
+                return Err(FieldFault::NotInt {
+                    cell: Excerpt::new(cell),
+                });
             };
             if ints.push(int).is_err() {
                 return Err(FieldFault::Memory);
@@ -46,7 +52,7 @@ fn push_field(alloc: Global, text: &[u8], cells: &mut Cells) -> Result<(), Field
                 return Err(FieldFault::NotText);
             };
             if text.len() > 255 {
-                return Err(FieldFault::TooLong);
+                return Err(FieldFault::TooLong { bytes: text.len() });
             }
             let Ok(found) = Text::new(alloc, text) else {
                 return Err(FieldFault::Memory);
@@ -62,22 +68,24 @@ fn push_field(alloc: Global, text: &[u8], cells: &mut Cells) -> Result<(), Field
     Ok(())
 }
 
-/// Adds the cells that the fields of a record are.
+/// Adds the cells that the fields of a record are: each column's field stands at its place.
 pub(crate) fn push_record(
     alloc: Global,
     row: &ByteRecord,
+    places: &[usize],
     cells: &mut Vec<Cells>,
 ) -> Result<(), RecordFault>
-    requires { length (fields_of row.now) ≡ length cells.old.items }
+    requires count { length cells.old.items ≡ length places.now }
+    requires within { (c : ℕ) → c < length places.now → slice_index places.now c < length (fields_of row.now) }
     ensures kinds { kinds_of cells.new.items ≡ kinds_of cells.old.items }
-    ensures ok { OnOk result ((i : ℕ) → i < length cells.old.items → AddsField cells.old.items cells.new.items (fields_of row.now) i) }
-    ensures err { IfErr result (λ fault. IsFirstRefused cells.old.items (fields_of row.now) fault.place fault.why) }
+    ensures ok { OnOk result ((c : ℕ) → c < length places.now → AddsField cells.old.items cells.new.items (field (fields_of row.now) (slice_index places.now c)) c) }
+    ensures err { IfErr result (λ fault. IsFirstRefused cells.old.items places.now (fields_of row.now) fault.column fault.why) }
 {
-    for place in 0..cells.len() {
-        let text = field_at(row, place);
-        match push_field(alloc, text, &mut cells[place]) {
+    for column in 0..places.len() {
+        let text = field_at(row, places[column]);
+        match push_field(alloc, text, &mut cells[column]) {
             Ok(()) => {}
-            Err(why) => return Err(RecordFault { place, why }),
+            Err(why) => return Err(RecordFault { column, why }),
         }
     }
     Ok(())

@@ -3,3 +3,5 @@
 
 #[cfg(test)]
 mod rows;
+#[cfg(test)]
+mod streams;

@@ -1,5 +1,5 @@
 use cs_catalog::read_catalog;
-use cs_csv::{CsvFault, read_rows, write_rows};
+use cs_csv::{CsvWords, read_rows, write_rows};
 use cs_schema::samples::CITIES;
 use cs_schema::{Catalog, Cells};
 use std::test::Fail;
@@ -41,7 +41,13 @@ fn read(rt: &HostRuntime, text: &[u8]) -> Result<String, Fail> {
             }
             Ok(read)
         }
-        Err(fault) => Ok(format!(in alloc; "{fault:?}")?),
+        Err(fault) => {
+            let words = CsvWords {
+                catalog: &catalog,
+                fault: &fault,
+            };
+            Ok(format!(in alloc; "{words}")?)
+        }
     }
 }
 
@@ -75,25 +81,41 @@ fn reads_rows_with_ample_memory(rt: HostRuntime) -> Result<(), Fail> {
     Ok(())
 }
 
-/// Texts, and their faults.
-const REFUSED: [(&str, &str); 11] = [
-    ("", "Header"),
-    ("id,city\n", "Header"),
-    ("id,city,w\n", "Header"),
-    ("id,city,city\n", "Header"),
-    ("id,city,v\n1,a\n", "Width { record: 0 }"),
-    ("id,city,v\n1,a,2,3\n", "Width { record: 0 }"),
-    ("id,city,v\n1,\"a,2\n", "Width { record: 0 }"),
+/// Texts, and their first faults in words.
+const REFUSED: [(&str, &str); 17] = [
+    ("", "record 0: id is missing"),
+    ("id,city\n", "record 0: v is missing"),
+    ("id,city,zz\n", "record 0: zz is no column"),
+    ("id,city,v,\"a\nb\"\n", "record 0: a\\nb is no column"),
+    ("id,v,city,v\n", "record 0: v stands twice"),
+    ("v,v,zz\n", "record 0: v stands twice"),
+    ("id,city,v\n1,a\n", "record 1: 2 cells, 3 are wanted"),
     (
-        "id,city,v\n1,a,2\n1,a,x\n",
-        "NotInt { record: 1, column: 2 }",
+        "id,city,v\n1,a,2\n1,a,2,3\n",
+        "record 2: 4 cells, 3 are wanted",
     ),
-    ("id,city,v\n 1,a,2\n", "NotInt { record: 0, column: 0 }"),
-    ("id,city,v\n,a,2\n", "NotInt { record: 0, column: 0 }"),
+    ("id,city,v\n1,\"a,2\n", "record 1: 2 cells, 3 are wanted"),
+    (
+        "id,city,v\n1,a,2\n1,a,x7\n",
+        "record 2: v is no int: \"x7\"",
+    ),
+    ("id,city,v\n 1,a,2\n", "record 1: id is no int: \" 1\""),
+    ("id,city,v\n,a,2\n", "record 1: id is no int: \"\""),
+    (
+        "id,city,v\n\"\"\"\n\",a,2\n",
+        "record 1: id is no int: \"\\\"\\n\"",
+    ),
     (
         "id,city,v\n9223372036854775808,a,2\n",
-        "NotInt { record: 0, column: 0 }",
+        "record 1: id is no int: \"9223372036854775808\"",
     ),
+    (
+        "id,city,v\n0123456789012345678901234567890123456789a,a,2\n",
+        "record 1: id is no int: \"0123456789012345678901234567890123456789\"",
+    ),
+    // of two cells that of the table's first column, wherever it stands
+    ("v,city,id\nx,a,y\n", "record 1: id is no int: \"y\""),
+    ("id,city,v\nx,a,1\n1,a\n", "record 1: id is no int: \"x\""),
 ];
 
 #[test]
@@ -103,7 +125,11 @@ fn refuses_by_the_first_fault(rt: HostRuntime) -> Result<(), Fail> {
     }
     assert_eq!(rt;
         read(&rt, b"id,city,v\n1,\xff,2\n")?.as_str(),
-        "NotText { record: 0, column: 1 }"
+        "record 1: city is no UTF-8"
+    );
+    assert_eq!(rt;
+        read(&rt, b"id,city,v\n\xff,a,2\n")?.as_str(),
+        "record 1: id is no int: \"\\xff\""
     );
     Ok(())
 }
@@ -127,7 +153,7 @@ fn texts_end_at_255_bytes(rt: HostRuntime) -> Result<(), Fail> {
 fn texts_of_256_bytes_are_too_long(rt: HostRuntime) -> Result<(), Fail> {
     let longer = "a".repeat(rt.alloc(), 256)?;
     let read = read_city(&rt, longer.as_str())?;
-    assert_eq!(rt; read.as_str(), "TooLong { record: 0, column: 1 }");
+    assert_eq!(rt; read.as_str(), "record 1: city has 256 bytes");
     Ok(())
 }
 

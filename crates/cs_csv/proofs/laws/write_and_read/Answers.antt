@@ -4,7 +4,8 @@ use Rattle.cs_csv.specs.RoundTrip.{HasNoMark}
 use Rattle.cs_csv.proofs.CatalogNames.{names_differ, has_no_mark}
 use Rattle.cs_csv.specs.Reading.{text_records}
 use Rattle.cs_csv.specs.Writing.{names_record, row_count, rows_records, table_records, table_text}
-use Rattle.cs_csv.proofs.TripLemmas.{cells-back, if-err-then, if-ok-then, no-faults, parts-same, table-back}
+use Rattle.cs_csv.proofs.OutcomeLemmas.{if-err-then, if-ok-then}
+use Rattle.cs_csv.proofs.TripLemmas.{cells-back, no-faults, parts-same, table-back}
 use Rattle.cs_csv.proofs.laws.write_and_read.Goals as goal
 
 pub returns-clause-same : goal.returns-clause-same

@@ -1,0 +1,89 @@
+//! Faults of a text in words.
+
+use crate::fault::CsvFault;
+use cs_schema::Catalog;
+use std::fmt;
+
+/// A fault of a text for the table of this catalog, as one line without its end: the record, the column, and what is wrong.
+/// The header is record 0.
+#[derive(Clone, Copy)]
+pub struct CsvWords<'a> {
+    pub catalog: &'a Catalog,
+    pub fault: &'a CsvFault,
+}
+
+impl CsvWords<'_> {
+    /// The name of a column.
+    fn name(&self, column: usize) -> &str {
+        let catalog = self.catalog;
+        match catalog.columns.get(column) {
+            Some(column) => column.name.as_str(),
+            None => "no column",
+        }
+    }
+
+    /// What is wrong with the header.
+    fn write_header<W: fmt::Write>(&self, f: &mut fmt::Formatter<W>) -> fmt::Result {
+        match self.fault {
+            CsvFault::Missing { column } => write!(f, "{} is missing", self.name(*column)),
+            CsvFault::Unknown { name } => write!(f, "{name} is no column"),
+            CsvFault::Twice { column } => write!(f, "{} stands twice", self.name(*column)),
+            _ => Ok(()),
+        }
+    }
+
+    /// What is wrong with a cell of a column.
+    fn write_cell<W: fmt::Write>(&self, f: &mut fmt::Formatter<W>) -> fmt::Result {
+        match self.fault {
+            CsvFault::NotInt { cell, .. } => write!(f, " is no int: \"{cell}\""),
+            CsvFault::NotText { .. } => f.write_str(" is no UTF-8"),
+            CsvFault::TooLong { bytes, .. } => write!(f, " has {bytes} bytes"),
+            _ => Ok(()),
+        }
+    }
+
+    /// What is wrong with the record of this number.
+    fn write_record<W: fmt::Write>(
+        &self,
+        f: &mut fmt::Formatter<W>,
+        record: u64,
+        column: usize,
+    ) -> fmt::Result {
+        let name = self.name(column);
+        write!(f, "record {}: {name}", record.saturating_add(1))?;
+        self.write_cell(f)
+    }
+
+    /// A record of another width than the table's.
+    fn write_width<W: fmt::Write>(
+        &self,
+        f: &mut fmt::Formatter<W>,
+        record: u64,
+        cells: usize,
+    ) -> fmt::Result {
+        let record = record.saturating_add(1);
+        let catalog = self.catalog;
+        let wanted = catalog.columns.len();
+        write!(f, "record {record}: {cells} cells, {wanted} are wanted")
+    }
+}
+
+impl fmt::Display for CsvWords<'_> {
+    fn fmt<W: fmt::Write>(&self, f: &mut fmt::Formatter<W>) -> fmt::Result {
+        match self.fault {
+            CsvFault::Memory => f.write_str("want of memory"),
+            CsvFault::Device => f.write_str("the text can't be read"),
+            CsvFault::TooMany => f.write_str(
+                "record 16777217: no catalog has room for so many rows",
+            ),
+            CsvFault::Width { record, cells } => self.write_width(f, *record, *cells),
+            CsvFault::NotInt { record, column, .. }
+            | CsvFault::NotText { record, column }
+            | CsvFault::TooLong { record, column, .. } => self.write_record(f, *record, *column),
+            _ => {
+                f.write_str("record 0: ")?;
+                self.write_header(f)
+            }
+        }
+    }
+}
