@@ -2,6 +2,8 @@
 ghost use Rattle.std.specs.Prelude.{◌≡◌, ◌≤◌, ⊤, IsErrOf};
 ghost use Rattle.cs_store.specs.Fault.{CountsFault};
 
+use crate::listing::{has_restoring, names_in};
+use crate::listings::Listings;
 use crate::places::Places;
 use cs_folders::{FileLimits, OutputFolder, StoreFolder, read_catalog_file, write_picture};
 use cs_schema::Catalog;
@@ -111,5 +113,20 @@ impl<R: Files + Copy> Places for Folders<R> {
 
     fn faults(&self) -> u64 {
         self.faults
+    }
+}
+
+impl<R: Files + Alloc + Copy + Drop> Listings for Folders<R> {
+    ghost lists = { λ s path names t. ⊤ };
+
+    ghost restores = { λ s path is. ⊤ };
+
+    fn names(&mut self, path: &str) -> Result<Vec<String>, StoreFault> {
+        let names = names_in(self.alloc, &self.rt, path);
+        self.told(names)
+    }
+
+    fn is_restoring(&self, path: &str) -> Result<bool, AllocError> {
+        has_restoring(self.alloc, &self.rt, path)
     }
 }

@@ -6,10 +6,13 @@
 
 mod finding;
 mod folders;
+mod listing;
+mod listings;
 mod places;
 mod stop;
 
 pub use finding::{find_store, look_up};
 pub use folders::Folders;
+pub use listings::{Listings, RESTORING};
 pub use places::Places;
 pub use stop::{DEVICE, DONE, MEMORY, REFUSED, Stop, USAGE, report, stop_of};

@@ -1,7 +1,7 @@
 //! What a design says, as JSON.
 use crate::design::Design;
-use crate::object::{Object, number_or_null, sites};
-use cs_schema::{FileName, Loss};
+use crate::object::{Object, losses, number_or_null, sites};
+use cs_schema::FileName;
 use serde_json::Value;
 use std::alloc::{AllocError, Global};
 
@@ -14,15 +14,6 @@ pub fn design_object(alloc: Global, design: &Design) -> Result<Value, AllocError
         .member("fatal", losses(alloc, design.fatal.as_slice()))
         .member("sites", sites_with_files(alloc, design))
         .finish()
-}
-
-/// Losses, each as the list of its sites.
-fn losses(alloc: Global, losses: &[Loss]) -> Result<Value, AllocError> {
-    let mut list = Vec::new(alloc);
-    for loss in losses {
-        list.push(sites(alloc, *loss)?)?;
-    }
-    Ok(Value::Array(list))
 }
 
 /// Each site with the names of its files.

@@ -11,7 +11,14 @@ pub struct DesignText<'a> {
     pub design: &'a Design,
 }
 
-impl DesignText<'_> {
+/// The lines of a design that tell how many sites may fail, and the fatal losses.
+#[derive(Clone, Copy)]
+pub struct DesignHead<'a> {
+    pub catalog: &'a Catalog,
+    pub design: &'a Design,
+}
+
+impl DesignHead<'_> {
     /// How many sites may fail, of those that are not lost.
     fn write_head<W: fmt::Write>(&self, f: &mut fmt::Formatter<W>) -> fmt::Result {
         let (catalog, lost) = (self.catalog, self.design.lost);
@@ -35,7 +42,16 @@ impl DesignText<'_> {
         }
         writeln!(f)
     }
+}
 
+impl fmt::Display for DesignHead<'_> {
+    fn fmt<W: fmt::Write>(&self, f: &mut fmt::Formatter<W>) -> fmt::Result {
+        self.write_head(f)?;
+        self.write_fatal(f)
+    }
+}
+
+impl DesignText<'_> {
     /// What stands on a site.
     fn write_site<W: fmt::Write>(
         &self,
@@ -78,8 +94,9 @@ fn write_file<W: fmt::Write>(
 
 impl fmt::Display for DesignText<'_> {
     fn fmt<W: fmt::Write>(&self, f: &mut fmt::Formatter<W>) -> fmt::Result {
-        self.write_head(f)?;
-        self.write_fatal(f)?;
+        let DesignText { catalog, design } = *self;
+        let head = DesignHead { catalog, design };
+        write!(f, "{head}")?;
         for (at, files) in self.design.files.iter().enumerate() {
             self.write_site(f, at + 1, files.as_slice())?;
         }

@@ -28,7 +28,10 @@ impl fmt::Display for UnsafeWords<'_> {
                 f.write_str("no surviving projection reaches every column by joins")
             }
             Safety::Whole => write!(f, "no surviving projection has {lost}"),
-            Safety::Rows => f.write_str("some rows have a column on lost sites alone"),
+            Safety::Rows if lost.is_empty() => {
+                f.write_str("from some rows no surviving projection reaches every column by joins")
+            }
+            Safety::Rows => write!(f, "some rows have {lost} on lost sites alone"),
         }
     }
 }

@@ -12,9 +12,10 @@ pub mod object;
 mod placed;
 mod svg;
 
+pub use columns::ColumnNames;
 pub use design::{Design, design_of};
 pub use design_json::design_object;
-pub use design_text::DesignText;
+pub use design_text::{DesignHead, DesignText};
 pub use faults::{FaultWords, Next, SiteWords, with_site};
 pub use placed::{SitedFile, site_of};
 pub use svg::picture;

@@ -82,6 +82,15 @@ pub fn sites(alloc: Global, loss: Loss) -> Result<Value, AllocError> {
     Ok(Value::Array(list))
 }
 
+/// Losses, each as the list of its sites.
+pub fn losses(alloc: Global, losses: &[Loss]) -> Result<Value, AllocError> {
+    let mut list = Vec::new(alloc);
+    for loss in losses {
+        list.push(sites(alloc, *loss)?)?;
+    }
+    Ok(Value::Array(list))
+}
+
 /// A number, or null where there is none.
 pub fn number_or_null(number: Option<u8>) -> Value {
     match number {

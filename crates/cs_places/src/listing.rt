@@ -1,0 +1,65 @@
+//! The names in a folder of the system.
+use crate::listings::RESTORING;
+use cs_store::StoreFault;
+use std::alloc::{AllocError, Global};
+use std::rt::Files;
+use std::{fs, io};
+
+/// What is listed for a name that is no UTF-8.
+const NO_TEXT: &str = "a name that is no UTF-8";
+
+/// How a name came that was asked for next.
+fn fault_of(error: &io::Error) -> StoreFault {
+    if error.kind() == io::ErrorKind::OutOfMemory {
+        StoreFault::Memory
+    } else {
+        StoreFault::Device
+    }
+}
+
+/// Adds a name.
+fn keep(alloc: Global, names: &mut Vec<String>, name: &str) -> Result<(), StoreFault> {
+    match String::from_str(alloc, name) {
+        Ok(name) => match names.push(name) {
+            Ok(()) => Ok(()),
+            Err(_) => Err(StoreFault::Memory),
+        },
+        Err(_) => Err(StoreFault::Memory),
+    }
+}
+
+/// The names of what stands in a folder, ascending.
+pub fn names_in<R: Files + Alloc + Clone + Drop>(
+    alloc: Global,
+    rt: &R,
+    path: &str,
+) -> Result<Vec<String>, StoreFault> {
+    let folder = match fs::read_dir(rt, path) {
+        Ok(folder) => folder,
+        Err(error) => return Err(fault_of(&error)),
+    };
+    let mut names = Vec::new(alloc);
+    for entry in folder {
+        let kept = match entry {
+            Ok(entry) => keep(alloc, &mut names, entry.file_name()),
+            Err(error) if error.kind() == io::ErrorKind::InvalidFilename => {
+                keep(alloc, &mut names, NO_TEXT)
+            }
+            Err(error) => Err(fault_of(&error)),
+        };
+        if let Err(fault) = kept {
+            return Err(fault);
+        }
+    }
+    names.sort_unstable();
+    Ok(names)
+}
+
+/// Whether `RESTORING` stands in a folder, or it can't be told that it doesn't.
+pub fn has_restoring<R: Files>(alloc: Global, rt: &R, path: &str) -> Result<bool, AllocError> {
+    let path = format!(in alloc; "{path}/{RESTORING}")?;
+    match fs::symlink_metadata(rt, path.as_str()) {
+        Ok(_) => Ok(true),
+        Err(error) => Ok(error.kind() != io::ErrorKind::NotFound),
+    }
+}
