@@ -12,7 +12,7 @@ use Rattle.cs_recovery.specs.Holding.{HoldsSurvivors}
 use Rattle.cs_recovery.proofs.ChangedSites.{acceptance_grows, changed_corrected}
 use Rattle.cs_recovery.proofs.Read.{layers}
 use Rattle.cs_diagnosis.specs.declared.findings.Verdict.{Verdict}
-use Rattle.cs_diagnosis.specs.Explanations.{IsAccepted, IsLeastAccepted, AreForced}
+use Rattle.cs_diagnosis.specs.Explanations.{IsAccepted, AreForced}
 use Rattle.cs_diagnosis.specs.Findings.{IsVerdict}
 use Rattle.cs_diagnosis.specs.Laws.{AcceptedLossesGrow, ChangedSitesAreDiagnosed, IsTrueVerdict}
 

@@ -18,7 +18,7 @@ use Rattle.cs_safety.specs.Within.{IsWithin}
 use Rattle.cs_diagnosis.specs.Explanations.{IsAccepted, IsLeastAccepted, AreForced}
 use Rattle.cs_diagnosis.specs.Findings.{IsTableAt, IsExplained, AreExplanations}
 use Rattle.cs_design.specs.Order.{AreAllLosses}
-use Rattle.cs_diagnosis.specs.Tried.{IsTried, MayExplain, IsRuledOut}
+use Rattle.cs_diagnosis.specs.Tried.{IsTried, IsRuledOut}
 use Rattle.cs_design.proofs.Items.{sorted_at, kept_at, last_at, kept_or_last}
 use Rattle.cs_design.proofs.SmallerLosses.{within_size, same_loss, earlier_size}
 

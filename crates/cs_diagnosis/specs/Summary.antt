@@ -1,4 +1,4 @@
--- How a verdict is read off the explanations: words of the private functions.
+-- How a verdict is read off the explanations.
 use Rattle.std.specs.Prelude.{ℕ, ◌==◌, if◌then◌else◌, List, [], ◌∷◌, length}
 use Rattle.cs_diagnosis.specs.declared.findings.Explanation.{Explanation}
 use Rattle.cs_diagnosis.specs.declared.findings.Verdict.{Verdict}

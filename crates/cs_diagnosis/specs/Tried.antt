@@ -1,8 +1,7 @@
--- One step of the search: words of the private functions.
-use Rattle.std.specs.Prelude.{◌≡◌, ℕ, ◌++◌, ◌∷◌, List, [], length, ◌⊎◌}
+-- One step of the search.
+use Rattle.std.specs.Prelude.{◌≡◌, ℕ, ◌++◌, ◌∷◌, List, [], length}
 use Rattle.cs_schema.specs.Losses.{Sites}
 use Rattle.cs_schema.specs.Rows.{Row}
-use Rattle.std.specs.declared.alloc.Global.{Global}
 use Rattle.cs_diagnosis.specs.declared.findings.Explanation.{Explanation}
 use Rattle.cs_diagnosis.specs.declared.search.Findings.{Findings}
 use Rattle.cs_schema.specs.CatalogData.{CatalogData}

@@ -1,0 +1,5 @@
+pub mod RowsAlike
+pub mod Corrected
+pub mod Diagnosed
+pub mod FoundTables
+pub mod Retried

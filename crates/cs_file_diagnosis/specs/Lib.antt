@@ -1,0 +1,3 @@
+pub mod Forced
+pub mod Reach
+pub mod Diagnoses

@@ -1,0 +1,88 @@
+//! The diagnosis of a store.
+ghost use Rattle.std.specs.Prelude.{◌≤◌, IfOk, IfSome, List};
+ghost use Rattle.cs_schema.specs.declared.file_name.FileName.{FileName as NameData};
+ghost use Rattle.cs_store.specs.FileSet.{contents_of};
+ghost use Rattle.cs_inspection.specs.BadFiles.{AreBadFiles};
+ghost use Rattle.cs_inspection.specs.Laws.{AreAbsent};
+ghost use Rattle.cs_file_diagnosis.specs.Diagnoses.{IsDiagnosis};
+
+use crate::explaining::explain;
+use crate::forcing::bad_sites;
+use crate::reaching::{Reach, reach_of};
+use crate::tables::FoundTable;
+use cs_board::Gate;
+use cs_diagnosis::findings::{Explanation, Verdict};
+use cs_diagnosis::summary::verdict_of;
+use cs_inspection::{Badness, bad_files};
+use cs_rebuild::Run;
+use cs_schema::{Catalog, FileName, Loss};
+use cs_store::FileSet;
+use std::alloc::AllocError;
+use std::marker::Sync;
+use std::thread::Threads;
+
+/// What is wrong with a store.
+#[derive(Drop)]
+pub struct Diagnosis {
+    /// The bad files, in the order of their names.
+    pub bad: Vec<(FileName, Badness)>,
+    /// Their sites: each explanation holds them.
+    pub forced: Loss,
+    /// How many sites a loss has that was tried, and for how many changed sites that is certain.
+    pub reach: Reach,
+    /// The least accepted losses, fewest sites first, each with the place of its table.
+    pub explanations: Vec<Explanation>,
+    /// The tables of the explanations, no two of them equal, as they first come.
+    pub tables: Vec<FoundTable>,
+    pub verdict: Verdict,
+}
+
+/// What explains a store of which the bad files are known.
+fn diagnose_bad<R: Threads + Sync, G: Gate + Sync>(
+    run: &Run<'_, R, G>,
+    catalog: &Catalog,
+    files: &FileSet,
+    bad: Vec<(FileName, Badness)>,
+    at_most: Option<u8>,
+) -> Result<Diagnosis, AllocError>
+    requires at_most { IfSome at_most (λ n. n ≤ 16) }
+    requires bad { (unreadable : List NameData) × AreAbsent (contents_of files.now) unreadable × AreBadFiles catalog.now (contents_of files.now) unreadable bad.items }
+    ensures { IfOk result (λ d. (unreadable : List NameData) → AreAbsent (contents_of files.now) unreadable → AreBadFiles catalog.now (contents_of files.now) unreadable bad.items → IsDiagnosis catalog.now (contents_of files.now) unreadable at_most d) }
+{
+    let _rules = catalog.projection_count();
+    let forced = bad_sites(catalog, bad.as_slice());
+    let _sites = forced.count();
+    let reach = reach_of(catalog, forced, at_most);
+    match explain(run, catalog, files, forced, reach.at_most) {
+        Ok(found) => Ok(Diagnosis {
+            bad,
+            forced,
+            reach,
+            verdict: verdict_of(found.explanations.as_slice(), found.tables.len()),
+            explanations: found.explanations,
+            tables: found.tables,
+        }),
+        Err(refused) => Err(refused),
+    }
+}
+
+/// What is wrong with a store: its bad files, which losses of at most so many sites explain the rest, and whether these agree
+/// on one table. Without a number, losses of as many sites are tried as are certain to tell it, and of one at least.
+///
+/// No file stands under an unreadable name.
+pub fn diagnose<R: Threads + Sync, G: Gate + Sync>(
+    run: &Run<'_, R, G>,
+    catalog: &Catalog,
+    files: &FileSet,
+    unreadable: &[FileName],
+    at_most: Option<u8>,
+) -> Result<Diagnosis, AllocError>
+    requires at_most { IfSome at_most (λ n. n ≤ 16) }
+    requires absent { AreAbsent (contents_of files.now) unreadable.now }
+    ensures { IfOk result (IsDiagnosis catalog.now (contents_of files.now) unreadable.now at_most) }
+{
+    match bad_files(run.rt, run.alloc, catalog, files, unreadable) {
+        Ok(bad) => diagnose_bad(run, catalog, files, bad, at_most),
+        Err(refused) => Err(refused),
+    }
+}

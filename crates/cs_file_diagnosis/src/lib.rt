@@ -1,0 +1,19 @@
+//! A diagnosis of a store's files: which are bad, which losses of sites explain the rest, and whether these agree on one
+//! table.
+#![tactic(auto)]
+
+mod absent;
+mod comparing;
+mod diagnosing;
+mod explaining;
+mod forcing;
+mod reaching;
+mod surviving;
+mod tables;
+
+pub use absent::are_absent;
+pub use cs_diagnosis::findings::{Explanation, Verdict};
+pub use cs_inspection::Badness;
+pub use diagnosing::{Diagnosis, diagnose};
+pub use reaching::Reach;
+pub use tables::FoundTable;
