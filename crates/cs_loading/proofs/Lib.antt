@@ -1,0 +1,5 @@
+pub mod LoadLemmas
+pub mod RepeatLemmas
+pub mod CountLemmas
+pub mod TableLemmas
+pub mod DumpLemmas
