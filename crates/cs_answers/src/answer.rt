@@ -1,6 +1,8 @@
 //! What a verb did.
 use crate::checked::Checked;
 use crate::designed::Designed;
+use crate::dumped::Dumped;
+use crate::loaded::Loaded;
 use crate::recovered::Recovered;
 use std::fmt;
 
@@ -15,6 +17,10 @@ pub enum Answer {
     Recovered(Recovered),
     /// A catalog was looked at.
     Designed(Designed),
+    /// A store was made from a CSV.
+    Loaded(Loaded),
+    /// The table of a store was written as CSV.
+    Dumped(Dumped),
 }
 
 impl fmt::Display for Answer {
@@ -24,6 +30,8 @@ impl fmt::Display for Answer {
             Answer::Checked(checked) => write!(f, "{checked}"),
             Answer::Recovered(recovered) => write!(f, "{recovered}"),
             Answer::Designed(designed) => write!(f, "{designed}"),
+            Answer::Loaded(loaded) => write!(f, "{loaded}"),
+            Answer::Dumped(dumped) => write!(f, "{dumped}"),
         }
     }
 }

@@ -3,6 +3,7 @@ use crate::answer::Answer;
 use crate::badness::word;
 use crate::checked::{Checked, Verdict, Wrong};
 use crate::recovered::Recovered;
+use crate::tables_json::{dumped_object, loaded_object};
 use cs_inspection::Badness;
 use cs_reports::object::{Object, number_or_null, sites};
 use cs_reports::{design_object, site_of};
@@ -19,6 +20,8 @@ pub fn answer_object(alloc: Global, answer: &Answer) -> Result<Value, AllocError
         Answer::Checked(checked) => checked_object(alloc, checked),
         Answer::Recovered(recovered) => recovered_object(alloc, recovered),
         Answer::Designed(designed) => design_object(alloc, &designed.design),
+        Answer::Loaded(loaded) => loaded_object(alloc, loaded),
+        Answer::Dumped(dumped) => dumped_object(alloc, dumped),
     }
 }
 
@@ -106,14 +109,14 @@ fn written_objects(alloc: Global, recovered: &Recovered) -> Result<Value, AllocE
     Ok(Value::Array(list))
 }
 
-/// A recovery that was refused, whose lines these are.
-pub fn refusal_object(alloc: Global, lines: &str) -> Result<Value, AllocError> {
+/// That a verb was refused, whose lines these are.
+pub fn refusal_object(alloc: Global, verb: &str, lines: &str) -> Result<Value, AllocError> {
     let line = match lines.split_once("\n") {
         Some((line, _)) => line,
         None => lines,
     };
     let words = line.strip_prefix("fault: ").unwrap_or(line);
-    Object::of_verb(alloc, "recover")
+    Object::of_verb(alloc, verb)
         .truth("ok", false)
         .member("files", Ok(Value::Array(Vec::new(alloc))))
         .text("fault", words)

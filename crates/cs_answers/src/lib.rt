@@ -5,12 +5,17 @@ mod answer;
 mod badness;
 mod checked;
 mod designed;
+mod dumped;
 mod json;
+mod loaded;
 mod printing;
 mod recovered;
+mod tables_json;
 
 pub use answer::Answer;
 pub use checked::{Checked, Verdict};
 pub use designed::Designed;
+pub use dumped::Dumped;
+pub use loaded::Loaded;
 pub use printing::{say, say_refusal};
 pub use recovered::Recovered;

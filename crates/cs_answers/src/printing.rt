@@ -3,6 +3,7 @@ ghost use Rattle.std.specs.Prelude.{◌≡◌, ◌≤◌, ◌⊎◌};
 ghost use Rattle.cs_answers.specs.Statuses.{answer_status};
 
 use crate::answer::Answer;
+use crate::dumped::Dumped;
 use crate::json::{answer_object, refusal_object};
 use cs_places::{DEVICE, DONE, MEMORY, REFUSED};
 use serde_json::Value;
@@ -14,7 +15,11 @@ fn status(answer: &Answer) -> u8
     ensures { result ≡ answer_status answer.now }
 {
     match answer {
-        Answer::Told(_) | Answer::Recovered(_) | Answer::Designed(_) => DONE,
+        Answer::Told(_)
+        | Answer::Recovered(_)
+        | Answer::Designed(_)
+        | Answer::Loaded(_)
+        | Answer::Dumped(_) => DONE,
         Answer::Checked(checked) => checked.status(),
     }
 }
@@ -56,15 +61,33 @@ fn print<W: Write>(text: Option<String>, status: u8, out: &mut W) -> u8
 pub fn say<W: Write>(alloc: Global, answer: &Answer, json: bool, out: &mut W) -> u8
     ensures { (result ≡ answer_status answer.now) ⊎ ((result ≡ MEMORY) ⊎ (result ≡ DEVICE)) }
 {
-    print(text_of(alloc, answer, json), status(answer), out)
+    match answer {
+        Answer::Dumped(
+            Dumped {
+                text: Some(text),
+                ..
+            },
+        ) => print_bytes(text.as_slice(), out),
+        _ => print(text_of(alloc, answer, json), status(answer), out),
+    }
 }
 
-/// Prints a refusal as JSON.
-pub fn say_refusal<W: Write>(alloc: Global, lines: &str, out: &mut W) -> u8
+/// Writes the text of a table, and gives the status.
+fn print_bytes<W: Write>(text: &[u8], out: &mut W) -> u8
+    ensures { (result ≡ DONE) ⊎ (result ≡ DEVICE) }
+{
+    match out.write_all(text) {
+        Ok(()) => DONE,
+        Err(_) => DEVICE,
+    }
+}
+
+/// Prints that a verb was refused as JSON.
+pub fn say_refusal<W: Write>(alloc: Global, verb: &str, lines: &str, out: &mut W) -> u8
     ensures { (result ≡ REFUSED) ⊎ ((result ≡ MEMORY) ⊎ (result ≡ DEVICE)) }
 {
     print(
-        object_text(alloc, refusal_object(alloc, lines)),
+        object_text(alloc, refusal_object(alloc, verb, lines)),
         REFUSED,
         out,
     )

@@ -5,14 +5,18 @@
 #![tactic(auto)]
 
 mod limits;
+mod new_store;
 mod output;
 mod paths;
 mod picture;
 mod reading;
 mod store;
+mod texts;
 
 pub use limits::{CATALOG_LIMIT, FileLimits};
+pub use new_store::{NewStoreFolder, Way, partial_path, way_to};
 pub use output::OutputFolder;
 pub use picture::write_picture;
 pub use reading::{read_bounded, read_catalog_file};
 pub use store::StoreFolder;
+pub use texts::{open_text, write_text};

@@ -93,13 +93,13 @@ impl<R: Files> Sink for OutputFolder<R> {
 }
 
 /// Writes the whole file, in the place of one that is there, and brings it to the disk.
-fn write_file<R: Files>(rt: &R, path: &str, bytes: &[u8]) -> io::Result<()> {
+pub(crate) fn write_file<R: Files>(rt: &R, path: &str, bytes: &[u8]) -> io::Result<()> {
     let mut file = fs::create(rt, path)?;
     file.write_all(bytes)?;
     file.sync_all()
 }
 
 /// Brings a folder's names to the disk.
-fn sync_folder<R: Files>(rt: &R, path: &str) -> io::Result<()> {
+pub(crate) fn sync_folder<R: Files>(rt: &R, path: &str) -> io::Result<()> {
     fs::open(rt, path)?.sync_all()
 }

@@ -1,1 +1,2 @@
+pub mod TablePromises
 pub mod Promises

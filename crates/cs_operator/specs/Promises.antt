@@ -19,6 +19,7 @@ use Rattle.cs_reports.specs.declared.design.Design.{Design}
 use Rattle.cs_places.specs.Finding.{FindsCatalog, FindsStore, LooksUp}
 use Rattle.cs_answers.specs.declared.checked.Verdict.{Verdict}
 use Rattle.cs_answers.specs.declared.checked.Verdict.TheVariants.{Sound, Fatal, BadFiles, Unsound}
+use Rattle.cs_operator.specs.TablePromises.{DumpsStore, LoadsStore}
 use Rattle.cs_answers.specs.declared.answer.Answer.{Answer}
 use Rattle.cs_answers.specs.declared.answer.Answer.TheVariants as answer
 
@@ -90,10 +91,13 @@ module _ {P : Type 0} (reads : P → List ℕ → List ℕ → P → Type 0) (dr
     pub is : IsDesign catalog lost design
     pub drawn : IsDrawn reached t
 
-module _ {P S K : Type 0} (reads : P → List ℕ → List ℕ → P → Type 0) (opens : P → List ℕ → CatalogData → S → Type 0) (draws : P → List ℕ → List ℕ → P → Type 0) (makes : P → List ℕ → K → P → Type 0) (gives : S → FileName → Option (List ℕ) → S → Type 0) (refuses : S → FileName → StoreFault → S → Type 0) (takes : K → FileName → List ℕ → K → Type 0) (marks : K → ℕ → K → Type 0) where
+module _ {P S K I N : Type 0} (reads : P → List ℕ → List ℕ → P → Type 0) (opens : P → List ℕ → CatalogData → S → Type 0) (draws : P → List ℕ → List ℕ → P → Type 0) (makes : P → List ℕ → K → P → Type 0) (gives : S → FileName → Option (List ℕ) → S → Type 0) (refuses : S → FileName → StoreFault → S → Type 0) (takes : K → FileName → List ℕ → K → Type 0) (marks : K → ℕ → K → Type 0)
+    (opens_table : P → List ℕ → I → P → Type 0) (remaining : I → Option (List ℕ)) (begins : P → List ℕ → List ℕ → N → P → Type 0) (takes_new : N → FileName → List ℕ → N → Type 0) (marks_new : N → ℕ → N → Type 0) (writes_table : P → List ℕ → List ℕ → P → Type 0) where
   -- what was done for this answer; for a help text nothing
   abbrev pub Performs : P → P → Answer → Type 0
   Performs s t (answer.Told text) = t ≡ s
   Performs s t (answer.Checked checked) = (path : List ℕ) × ChecksStore reads opens gives refuses s path checked.bad.items checked.verdict t
   Performs s t (answer.Recovered recovered) = (path : List ℕ) × (L : Sites) × (output_path : List ℕ) × RecoversStore reads opens gives makes takes marks s path L output_path recovered.files t
   Performs s t (answer.Designed designed) = (path : List ℕ) × (lost : Sites) × DesignsCatalog reads draws s path lost designed.design t
+  Performs s t (answer.Loaded loaded) = (catalog : List ℕ) × (table : List ℕ) × (store : List ℕ) × LoadsStore reads opens_table remaining begins takes_new marks_new s catalog table store loaded.files loaded.rows t
+  Performs s t (answer.Dumped dumped) = (path : List ℕ) × (L : Sites) × DumpsStore reads opens gives writes_table s path L dumped t

@@ -1,7 +1,7 @@
 //! What a program runs on, and by what its verbs work.
 ghost use Rattle.std.specs.Prelude.{◌≤◌};
 
-use cs_places::{Folders, Places};
+use cs_places::{Folders, Places, Tables};
 use cs_rebuild::Run;
 use std::alloc::Global;
 use std::rt::Files;
@@ -36,6 +36,6 @@ impl<'a, R, G> Host<'a, R, G> {
 }
 
 /// All that the verbs of a program find and make by path.
-pub trait World: Places {}
+pub trait World: Places + Tables {}
 
 impl<R: Files + Copy> World for Folders<R> {}

@@ -6,15 +6,20 @@
 
 mod checking;
 mod designing;
+mod dumping;
 mod host;
 mod judging;
+mod loading;
 mod program;
 mod recovering;
+mod ways;
 
 pub use checking::check;
-pub use cs_answers::{Answer, Checked, Designed, Recovered, Verdict};
+pub use cs_answers::{Answer, Checked, Designed, Dumped, Loaded, Recovered, Verdict};
 pub use cs_places::{Folders, Places, Stop, report};
 pub use designing::design;
+pub use dumping::dump;
 pub use host::{CUT, Host, World};
+pub use loading::load;
 pub use program::run;
 pub use recovering::recover;

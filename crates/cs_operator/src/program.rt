@@ -6,7 +6,9 @@ ghost use Rattle.cs_answers.specs.declared.answer.Answer.{Answer};
 
 use crate::checking::check;
 use crate::designing::design;
+use crate::dumping::dump;
 use crate::host::{Host, World};
+use crate::loading::load;
 use crate::recovering::recover;
 use cs_answers::{Answer, say, say_refusal};
 use cs_operator_words::{Request, Unasked, parse};
@@ -28,7 +30,8 @@ pub fn run<R: Threads + Sync, G: Progress + Sync, P: World, W: Write, E: Write>(
 ) -> u8
     ensures status { result ≤ 6 }
     ensures done { result ≡ DONE → (answer : Answer) × (answer_status answer ≡ 0) × Performs P.reads P.opens P.draws P.makes
-        P.Store.gives P.Store.refuses P.Output.takes P.Output.marks places.old places.new answer }
+        P.Store.gives P.Store.refuses P.Output.takes P.Output.marks
+        P.opens_table P.Input.remaining P.begins P.NewStore.takes P.NewStore.marks P.writes_table places.old places.new answer }
 {
     let alloc = host.alloc;
     match parse(alloc, words, host.processors) {
@@ -45,6 +48,8 @@ fn wants_json(request: &Request<'_>) -> bool {
         Request::Check(checking) => checking.json,
         Request::Recover(recovering) => recovering.json,
         Request::Design(designing) => designing.json,
+        Request::Load(loading) => loading.json,
+        Request::Dump(_) => false,
     }
 }
 
@@ -54,6 +59,8 @@ fn is_quiet(request: &Request<'_>) -> bool {
         Request::Check(checking) => checking.quiet,
         Request::Recover(recovering) => recovering.quiet,
         Request::Design(_) => false,
+        Request::Load(loading) => loading.quiet,
+        Request::Dump(dumping) => dumping.quiet,
     }
 }
 
@@ -67,7 +74,8 @@ fn run_request<R: Threads + Sync, G: Progress + Sync, P: World, W: Write, E: Wri
 ) -> u8
     ensures status { result ≤ 6 }
     ensures done { result ≡ DONE → (answer : Answer) × (answer_status answer ≡ 0) × Performs P.reads P.opens P.draws P.makes
-        P.Store.gives P.Store.refuses P.Output.takes P.Output.marks places.old places.new answer }
+        P.Store.gives P.Store.refuses P.Output.takes P.Output.marks
+        P.opens_table P.Input.remaining P.begins P.NewStore.takes P.NewStore.marks P.writes_table places.old places.new answer }
 {
     let json = wants_json(request);
     if is_quiet(request) {
@@ -77,7 +85,21 @@ fn run_request<R: Threads + Sync, G: Progress + Sync, P: World, W: Write, E: Wri
     host.gate.erase();
     match done {
         Ok(answer) => say(host.alloc, &answer, json, out),
-        Err(stop) => say_stop(host.alloc, &stop, json, out, err),
+        Err(stop) => say_stop(host.alloc, &stop, refusing(request, json), out, err),
+    }
+}
+
+/// The verb that a refusal as JSON is of, where that is wanted.
+fn refusing(request: &Request<'_>, json: bool) -> Option<&'static str> {
+    if !json {
+        return None;
+    }
+    match request {
+        Request::Check(_) => Some("check"),
+        Request::Recover(_) => Some("recover"),
+        Request::Design(_) => Some("design"),
+        Request::Load(_) => Some("load"),
+        Request::Dump(_) => Some("dump"),
     }
 }
 
@@ -85,20 +107,17 @@ fn run_request<R: Threads + Sync, G: Progress + Sync, P: World, W: Write, E: Wri
 fn say_stop<W: Write, E: Write>(
     alloc: Global,
     stop: &Stop,
-    json: bool,
+    verb: Option<&str>,
     out: &mut W,
     err: &mut E,
 ) -> u8
     ensures { (1 ≤ result) × (result ≤ 6) }
 {
     match stop {
-        Stop::Refused(lines) => {
-            if json {
-                say_refusal(alloc, lines.as_str(), out)
-            } else {
-                report(stop, err)
-            }
-        }
+        Stop::Refused(lines) => match verb {
+            Some(verb) => say_refusal(alloc, verb, lines.as_str(), out),
+            None => report(stop, err),
+        },
         _ => report(stop, err),
     }
 }
@@ -110,7 +129,8 @@ fn perform<R: Threads + Sync, G: Progress + Sync, P: World>(
     places: &mut P,
 ) -> Result<Answer, Stop>
     ensures { IfOk result (Performs P.reads P.opens P.draws P.makes P.Store.gives P.Store.refuses
-        P.Output.takes P.Output.marks places.old places.new) }
+        P.Output.takes P.Output.marks P.opens_table P.Input.remaining P.begins P.NewStore.takes P.NewStore.marks P.writes_table
+        places.old places.new) }
 {
     match request {
         Request::Check(request) => match check(host, places, request) {
@@ -123,6 +143,14 @@ fn perform<R: Threads + Sync, G: Progress + Sync, P: World>(
         },
         Request::Design(request) => match design(host.alloc, places, request) {
             Ok(designed) => Ok(Answer::Designed(designed)),
+            Err(stop) => Err(stop),
+        },
+        Request::Load(request) => match load(host, places, request) {
+            Ok(loaded) => Ok(Answer::Loaded(loaded)),
+            Err(stop) => Err(stop),
+        },
+        Request::Dump(request) => match dump(host, places, request) {
+            Ok(dumped) => Ok(Answer::Dumped(dumped)),
             Err(stop) => Err(stop),
         },
     }

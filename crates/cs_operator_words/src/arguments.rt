@@ -65,3 +65,19 @@ pub fn lost_already<'a>(alloc: Global) -> Arg<'a> {
         .value_parser(value_parser!(u8).range(1..=16))
         .help("The sites that are lost already, each 1 to 16")
 }
+
+/// `--replace-partial`.
+pub fn replace_partial<'a>(alloc: Global) -> Arg<'a> {
+    Arg::new(alloc, "replace-partial")
+        .long("replace-partial")
+        .action(ArgAction::SetTrue)
+        .help("Replace what an earlier run began there and did not end")
+}
+
+/// `CATALOG`, the file of a catalog.
+pub fn catalog<'a>(alloc: Global) -> Arg<'a> {
+    Arg::new(alloc, "catalog")
+        .value_name("CATALOG")
+        .required(true)
+        .help("The file of the catalog, or the folder of a store")
+}

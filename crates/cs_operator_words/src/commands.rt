@@ -1,16 +1,17 @@
 //! The verbs, as the command line knows them.
-use crate::{arguments, help};
+use crate::{arguments, help, tables};
 use clap::{Arg, Command, Error};
 use std::alloc::Global;
 
 /// A command, or why there is none.
-type Made<'a> = Result<Command<'a>, Error>;
+pub(crate) type Made<'a> = Result<Command<'a>, Error>;
 
 /// The program with its verbs.
 pub fn program<'a>(alloc: Global) -> Made<'a> {
     let program = named(Command::new(alloc, "pinepolo"), "pinepolo");
     let whole = with_verb(described(program), check(alloc));
-    with_verb(with_verb(whole, recover(alloc)), design(alloc))
+    let whole = with_verb(with_verb(whole, recover(alloc)), design(alloc));
+    with_verb(with_verb(whole, tables::load(alloc)), tables::dump(alloc))
 }
 
 /// The program's settings and texts.
@@ -35,12 +36,14 @@ pub fn verb<'a>(alloc: Global, name: &str) -> Option<Made<'a>> {
         "check" => Some(check(alloc)),
         "recover" => Some(recover(alloc)),
         "design" => Some(design(alloc)),
+        "load" => Some(tables::load(alloc)),
+        "dump" => Some(tables::dump(alloc)),
         _ => None,
     }
 }
 
 /// A command with one more argument.
-fn with<'a>(command: Made<'a>, argument: Arg<'a>) -> Made<'a> {
+pub(crate) fn with<'a>(command: Made<'a>, argument: Arg<'a>) -> Made<'a> {
     let command = command?;
     Ok(command.arg(argument)?)
 }
@@ -52,7 +55,7 @@ fn with_verb<'a>(program: Made<'a>, verb: Made<'a>) -> Made<'a> {
 }
 
 /// A command that its usage calls by this name.
-fn named<'a>(command: Command<'a>, name: &str) -> Made<'a> {
+pub(crate) fn named<'a>(command: Command<'a>, name: &str) -> Made<'a> {
     Ok(command.bin_name(name)?)
 }
 

@@ -1,7 +1,7 @@
 //! A verb's arguments, as they were found among the words.
 ghost use Rattle.std.specs.Prelude.{◌≤◌, IfSome};
 
-use crate::request::{Checking, Designing, Recovering, Request};
+use crate::request::{Checking, Designing, Dumping, Loading, Recovering, Request};
 use crate::sites::sites_of;
 use clap::ArgMatches;
 
@@ -61,5 +61,36 @@ pub fn designing<'a>(found: &ArgMatches<'a>) -> Option<Request<'a>> {
         json: found.get_flag("json"),
         svg: found.get_str("svg"),
         catalog,
+    }))
+}
+
+/// What `load` asks for, if all arguments are there and within their limits.
+pub fn loading<'a>(found: &ArgMatches<'a>, processors: u32) -> Option<Request<'a>> {
+    let workers = workers_of(found, processors)?;
+    let catalog = found.get_str("catalog")?;
+    let table = found.get_str("table")?;
+    let store = found.get_str("store")?;
+    Some(Request::Load(Loading {
+        workers,
+        quiet: found.get_flag("quiet"),
+        json: found.get_flag("json"),
+        replaces: found.get_flag("replace-partial"),
+        catalog,
+        table,
+        store,
+    }))
+}
+
+/// What `dump` asks for, if all arguments are there and within their limits.
+pub fn dumping<'a>(found: &ArgMatches<'a>, processors: u32) -> Option<Request<'a>> {
+    let workers = workers_of(found, processors)?;
+    let store = found.get_str("store")?;
+    let lost = sites_of(found, "lost")?;
+    Some(Request::Dump(Dumping {
+        workers,
+        quiet: found.get_flag("quiet"),
+        lost,
+        store,
+        table: found.get_str("table"),
     }))
 }

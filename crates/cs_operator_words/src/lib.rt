@@ -11,6 +11,8 @@ mod help;
 mod parsing;
 mod request;
 mod sites;
+mod table_help;
+mod tables;
 
 pub use parsing::{Unasked, parse};
-pub use request::{Checking, Designing, Recovering, Request};
+pub use request::{Checking, Designing, Dumping, Loading, Recovering, Request};

@@ -75,6 +75,8 @@ fn asked<'a>(matches: &ArgMatches<'a>, processors: u32) -> Option<Request<'a>> {
         Some(("check", found)) => found::checking(found, processors),
         Some(("recover", found)) => found::recovering(found, processors),
         Some(("design", found)) => found::designing(found),
+        Some(("load", found)) => found::loading(found, processors),
+        Some(("dump", found)) => found::dumping(found, processors),
         _ => None,
     }
 }

@@ -12,6 +12,10 @@ pub enum Request<'a> {
     Recover(Recovering<'a>),
     /// Which losses a catalog does not survive.
     Design(Designing<'a>),
+    /// A new store from a CSV.
+    Load(Loading<'a>),
+    /// The table of a store as CSV.
+    Dump(Dumping<'a>),
 }
 
 /// Which store to check, and for how many lost sites.
@@ -59,4 +63,40 @@ pub struct Designing<'a> {
     pub svg: Option<&'a str>,
     /// The file of the catalog, or the folder of a store.
     pub catalog: &'a str,
+}
+
+/// What to load, from where, to where, and by how many workers.
+#[derive(Clone, Copy)]
+pub struct Loading<'a> {
+    /// How many workers there are.
+    pub workers: u32,
+    /// Whether no line shows how far it has come.
+    pub quiet: bool,
+    /// Whether the answer is JSON.
+    pub json: bool,
+    /// Whether a store that was begun there and not ended is replaced.
+    pub replaces: bool,
+    /// The file of the catalog, or the folder of a store.
+    pub catalog: &'a str,
+    /// The file of the CSV, or `-`.
+    pub table: &'a str,
+    /// The folder to make for the store.
+    pub store: &'a str,
+    ghost workers_in_limits: { (1 ≤ workers) × (workers ≤ 64) },
+}
+
+/// What to write as CSV, to where, and by how many workers.
+#[derive(Clone, Copy)]
+pub struct Dumping<'a> {
+    /// How many workers there are.
+    pub workers: u32,
+    /// Whether no line shows how far it has come.
+    pub quiet: bool,
+    /// The sites that are lost.
+    pub lost: Loss,
+    /// The folder of the store.
+    pub store: &'a str,
+    /// The file to make for the CSV; standard output where it is none.
+    pub table: Option<&'a str>,
+    ghost workers_in_limits: { (1 ≤ workers) × (workers ≤ 64) },
 }

@@ -1,5 +1,6 @@
 //! Catalogs and stores by path.
 ghost use Rattle.std.specs.Prelude.{◌≡◌, IfOk, OnErr};
+ghost use Rattle.cs_catalog.specs.Reading.{IsCatalogOf};
 ghost use Rattle.cs_places.specs.Finding.{FindsCatalog, FindsStore, LooksUp};
 
 use crate::places::Places;
@@ -57,6 +58,25 @@ pub fn look_up<P: Places>(alloc: Global, places: &mut P, path: &str) -> Result<C
     };
     match read_catalog(alloc, bytes.as_slice()) {
         Ok(catalog) => Ok(catalog),
+        Err(fault) => Err(refused(alloc, bytes.as_slice(), fault)),
+    }
+}
+
+/// The catalog of a file or of a store at this path, with its bytes.
+pub fn look_up_text<P: Places>(
+    alloc: Global,
+    places: &mut P,
+    path: &str,
+) -> Result<(Catalog, Vec<u8>), Stop>
+    ensures ok { IfOk result (λ found. (P.reads places.old path.now found.1.items places.new) × IsCatalogOf found.1.items found.0) }
+    ensures err { OnErr result (LooksUp P.reads P.misses places.old path.now places.new) }
+{
+    let bytes = match places.catalog_or_file(path) {
+        Ok(bytes) => bytes,
+        Err(fault) => return Err(unread(alloc, fault, path)),
+    };
+    match read_catalog(alloc, bytes.as_slice()) {
+        Ok(catalog) => Ok((catalog, bytes)),
         Err(fault) => Err(refused(alloc, bytes.as_slice(), fault)),
     }
 }

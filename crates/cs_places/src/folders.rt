@@ -5,7 +5,11 @@ ghost use Rattle.cs_store.specs.Fault.{CountsFault};
 use crate::listing::{has_restoring, names_in};
 use crate::listings::Listings;
 use crate::places::Places;
-use cs_folders::{FileLimits, OutputFolder, StoreFolder, read_catalog_file, write_picture};
+use crate::tables::Tables;
+use cs_folders::{
+    FileLimits, NewStoreFolder, OutputFolder, StoreFolder, Way, open_text, read_catalog_file,
+    way_to, write_picture, write_text,
+};
 use cs_schema::Catalog;
 use cs_store::StoreFault;
 use std::alloc::{AllocError, Global};
@@ -128,5 +132,36 @@ impl<R: Files + Alloc + Copy + Drop> Listings for Folders<R> {
 
     fn is_restoring(&self, path: &str) -> Result<bool, AllocError> {
         has_restoring(self.alloc, &self.rt, path)
+    }
+}
+
+impl<R: Files + Copy> Tables for Folders<R> {
+    type Input = R::File;
+
+    type NewStore = NewStoreFolder<R>;
+
+    ghost opens_table = { λ s path input t. ⊤ };
+
+    ghost begins = { λ s path catalog store t. ⊤ };
+
+    ghost writes_table = { λ s path text t. ⊤ };
+
+    fn way(&self, path: &str) -> Result<Way, StoreFault> {
+        way_to(self.alloc, &self.rt, path)
+    }
+
+    fn table(&mut self, path: &str) -> Result<R::File, StoreFault> {
+        let opened = open_text(&self.rt, path);
+        self.told(opened)
+    }
+
+    fn new_store(&mut self, path: &str, catalog: &[u8]) -> Result<NewStoreFolder<R>, StoreFault> {
+        let made = NewStoreFolder::make(self.alloc, self.rt, path, catalog);
+        self.told(made)
+    }
+
+    fn write_table(&mut self, path: &str, text: &[u8]) -> Result<(), StoreFault> {
+        let written = write_text(self.alloc, &self.rt, path, text);
+        self.told(written)
     }
 }

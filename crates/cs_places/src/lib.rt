@@ -10,9 +10,12 @@ mod listing;
 mod listings;
 mod places;
 mod stop;
+mod tables;
 
-pub use finding::{find_store, look_up};
+pub use cs_folders::Way;
+pub use finding::{find_store, look_up, look_up_text};
 pub use folders::Folders;
 pub use listings::{Listings, RESTORING};
 pub use places::Places;
 pub use stop::{DEVICE, DONE, MEMORY, REFUSED, Stop, USAGE, report, stop_of};
+pub use tables::Tables;

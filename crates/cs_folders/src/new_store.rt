@@ -1,0 +1,166 @@
+//! A new store in one folder, which gets its name when all of it is on the disk.
+ghost use Rattle.std.specs.Prelude.{◌≡◌, ◌≤◌, ⊤, IsErrOf};
+ghost use Rattle.cs_store.specs.Fault.{CountsFault};
+
+use crate::output::{sync_folder, write_file};
+use crate::paths::{file_in, no_memory, path_in};
+use crate::reading::read_file;
+use cs_schema::FileName;
+use cs_store::{Sink, StoreFault};
+use std::alloc::{AllocError, Global};
+use std::rt::Files;
+use std::{fs, io};
+
+/// What stands where something new is to be made.
+#[derive(Debug, Clone, Copy, PartialEq, Eq)]
+pub enum Way {
+    /// Nothing.
+    Free,
+    /// Something has the name already.
+    Taken,
+    /// What was begun under the name and not ended.
+    Begun,
+}
+
+/// The path under which something new is made, until it gets its name.
+pub fn partial_path(alloc: Global, path: &str) -> Result<String, AllocError> {
+    let path = path.trim_end_matches('/');
+    format!(in alloc; "{path}.partial")
+}
+
+/// Whether something is at this path, be it a link that leads nowhere.
+fn is_there<R: Files>(rt: &R, path: &str) -> Result<bool, StoreFault> {
+    match fs::symlink_metadata(rt, path) {
+        Ok(_) => Ok(true),
+        Err(e) if e.kind() == io::ErrorKind::NotFound => Ok(false),
+        Err(_) => Err(StoreFault::Device),
+    }
+}
+
+/// What stands where something new is to be made. Nothing is changed.
+pub fn way_to<R: Files>(alloc: Global, rt: &R, path: &str) -> Result<Way, StoreFault> {
+    let partial = partial_path(alloc, path).map_err(no_memory)?;
+    if is_there(rt, path.trim_end_matches('/'))? {
+        return Ok(Way::Taken);
+    }
+    if is_there(rt, partial.as_str())? {
+        return Ok(Way::Begun);
+    }
+    Ok(Way::Free)
+}
+
+/// A new store that is made beside its path, with the number of faults that were met up to its last write.
+#[derive(Drop)]
+pub struct NewStoreFolder<R> {
+    alloc: Global,
+    rt: R,
+    path: String,
+    partial: String,
+    catalog: Vec<u8>,
+    faults: u64,
+}
+
+impl<R: Files + Drop> NewStoreFolder<R> {
+    /// Makes the folder beside the path of the store, in the place of one that was begun there; its catalog is written last.
+    pub fn make(alloc: Global, rt: R, path: &str, catalog: &[u8]) -> Result<Self, StoreFault> {
+        let mut bytes = Vec::new(alloc);
+        bytes.extend_from_slice(catalog).map_err(no_memory)?;
+        let store = Self {
+            alloc,
+            rt,
+            path: String::from_str(alloc, path.trim_end_matches('/')).map_err(no_memory)?,
+            partial: partial_path(alloc, path).map_err(no_memory)?,
+            catalog: bytes,
+            faults: 0,
+        };
+        match store.begin() {
+            Ok(()) => Ok(store),
+            Err(_) => Err(StoreFault::Device),
+        }
+    }
+
+    /// Makes the folder anew.
+    fn begin(&self) -> io::Result<()> {
+        match self.rt.remove_dir_all(self.alloc, self.partial.as_str()) {
+            Ok(()) => {}
+            Err(e) if e.kind() == io::ErrorKind::NotFound => {}
+            Err(e) => return Err(e),
+        }
+        fs::create_dir(&self.rt, self.partial.as_str())
+    }
+}
+
+impl<R: Files> NewStoreFolder<R> {
+    /// Counts a fault of the device, or takes the answer.
+    fn told(&mut self, answer: Result<(), StoreFault>) -> Result<(), StoreFault>
+        ensures device { IsErrOf result StoreFault.Device → CountsFault self.old.faults self.new.faults }
+        ensures counted { self.old.faults ≤ self.new.faults }
+    {
+        match answer {
+            Err(StoreFault::Device) => {
+                self.faults = self.faults.saturating_add(1);
+                Err(StoreFault::Device)
+            }
+            other => other,
+        }
+    }
+
+    /// Writes a file, brings it to the disk, and reads it back: it must have the same bytes.
+    fn write_checked(&self, path: &str, bytes: &[u8]) -> Result<(), StoreFault> {
+        if write_file(&self.rt, path, bytes).is_err() {
+            return Err(StoreFault::Device);
+        }
+        // what is longer than was written is none of it
+        let limit = (bytes.len() as u64).min(u64::MAX / 2);
+        match read_file(self.alloc, &self.rt, path, limit) {
+            Ok(Some(found)) if found.as_slice() == bytes => Ok(()),
+            Err(StoreFault::Memory) => Err(StoreFault::Memory),
+            _ => Err(StoreFault::Device),
+        }
+    }
+
+    /// Gives the folder its name, once the names in it are on the disk, and brings that name there too.
+    fn name(&self, parent: &str) -> io::Result<()> {
+        sync_folder(&self.rt, self.partial.as_str())?;
+        fs::rename(&self.rt, self.partial.as_str(), self.path.as_str())?;
+        sync_folder(&self.rt, parent)
+    }
+
+    /// Writes the catalog and gives the folder its name.
+    fn finish(&self) -> Result<(), StoreFault> {
+        let catalog = path_in(self.alloc, self.partial.as_str(), "catalog.toml").map_err(
+            no_memory,
+        )?;
+        let parent = path_in(self.alloc, self.path.as_str(), "..").map_err(no_memory)?;
+        self.write_checked(catalog.as_str(), self.catalog.as_slice())?;
+        match self.name(parent.as_str()) {
+            Ok(()) => Ok(()),
+            Err(_) => Err(StoreFault::Device),
+        }
+    }
+}
+
+impl<R: Files> Sink for NewStoreFolder<R> {
+    ghost takes = { λ s name bytes t. ⊤ };
+
+    ghost marks = { λ s files t. ⊤ };
+
+    ghost refuses = { λ s at fault t. ⊤ };
+
+    ghost fault_count = { λ s. s.faults };
+
+    fn put(&mut self, name: FileName, bytes: &[u8]) -> Result<(), StoreFault> {
+        let path = file_in(self.alloc, self.partial.as_str(), name).map_err(no_memory)?;
+        let written = self.write_checked(path.as_str(), bytes);
+        self.told(written)
+    }
+
+    fn mark(&mut self, _files: u64) -> Result<(), StoreFault> {
+        let finished = self.finish();
+        self.told(finished)
+    }
+
+    fn faults(&self) -> u64 {
+        self.faults
+    }
+}

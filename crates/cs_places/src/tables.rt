@@ -1,0 +1,41 @@
+//! Tables as CSV, and new stores, by path.
+ghost use Rattle.std.specs.Prelude.{◌≡◌, ℕ, List, ◌≤◌, IfOk, OnOk, IsErrOf};
+
+use cs_folders::Way;
+use cs_store::{Sink, StoreFault};
+use std::io::Read;
+
+/// Tables as CSV, and new stores, by path. Places in memory can say by their ghost members what they found and made; those
+/// over folders say nothing.
+pub trait Tables {
+    /// A CSV, as a stream.
+    type Input: Read + Drop;
+
+    /// What takes the files of a new store. Its mark gives the store its name.
+    type NewStore: Sink + Drop;
+
+    /// A CSV that was found: the state before, the path, the stream, and the state after.
+    ghost opens_table: { Self → List ℕ → Self.Input → Self → Type 0 };
+
+    /// A new store that was begun: the state before, the path, the bytes of its catalog, what takes its files, and the state
+    /// after.
+    ghost begins: { Self → List ℕ → List ℕ → Self.NewStore → Self → Type 0 };
+
+    /// A CSV that was written: the state before, the path, the text, and the state after.
+    ghost writes_table: { Self → List ℕ → List ℕ → Self → Type 0 };
+
+    /// What stands where something new is to be made. Nothing is changed.
+    fn way(&self, path: &str) -> Result<Way, StoreFault>;
+
+    /// The CSV at this path, or that of standard input where it is `-`.
+    fn table(&mut self, path: &str) -> Result<Self::Input, StoreFault>
+        ensures { IfOk result (λ input. opens_table self.old path.now input self.new) };
+
+    /// Begins a new store of this catalog beside this path, in the place of one that was begun there.
+    fn new_store(&mut self, path: &str, catalog: &[u8]) -> Result<Self::NewStore, StoreFault>
+        ensures { IfOk result (λ store. begins self.old path.now catalog.now store self.new) };
+
+    /// Writes a CSV to a new file, which gets its name when all of it is on the disk.
+    fn write_table(&mut self, path: &str, text: &[u8]) -> Result<(), StoreFault>
+        ensures { OnOk result (writes_table self.old path.now text.now self.new) };
+}
