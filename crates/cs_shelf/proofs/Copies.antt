@@ -63,4 +63,4 @@ copied_more names c j k k' i name at so_far added here = record {
 
 -- where what is held and what is kept are known
 pub copies_known : (c j k : Files) → AddsCopiesOf c j k → Follows (AddsCopies (λ x. x ≡ c)) (λ x. x ≡ j) (λ x. x ≡ k)
-copies_known c j k added x now = (j, refl, λ d held n. subst (λ f. (contents_of f n ≡ contents_of j n) ⊎ ((contents_of j n ≡ None) × (contents_of f n ≡ contents_of d n))) (sym now) (subst (λ f. (contents_of k n ≡ contents_of j n) ⊎ ((contents_of j n ≡ None) × (contents_of k n ≡ contents_of f n))) (sym held) (added n)))
+copies_known c j k added x now = (j, refl, λ n. ⊎_elim (λ same. inl (ap (λ f. contents_of f n) now ∙ same)) (λ new. inr (new.0, (c, refl, ap (λ f. contents_of f n) now ∙ new.1))) (added n))

@@ -25,9 +25,9 @@ MayHave name bytes old new = (new ≡ old) ⊎ (new ≡ insert old name bytes)
 abbrev pub AddsCopiesOf : Files → Files → Files → Type 0
 AddsCopiesOf c j k = (n : FileName) → (contents_of k n ≡ contents_of j n) ⊎ ((contents_of j n ≡ None) × (contents_of k n ≡ contents_of c n))
 
--- copies of what is held were added
+-- no copy was overwritten, and each new one is that of a file that is held
 abbrev pub AddsCopies : (Files → Type 0) → Files → Files → Type 0
-AddsCopies held j k = (c : Files) → held c → AddsCopiesOf c j k
+AddsCopies held j k = (n : FileName) → (contents_of k n ≡ contents_of j n) ⊎ ((contents_of j n ≡ None) × ((c : Files) × held c × (contents_of k n ≡ contents_of c n)))
 
 -- each of these names that has a file has a copy
 abbrev pub HasCopiesOf : List FileName → Files → Files → Type 0

@@ -1,0 +1,11 @@
+mod Again
+mod Among
+mod Compared
+mod Finished
+mod Found
+mod Loop
+mod Moments
+mod NameLists
+mod Parts
+mod Places
+mod Whole

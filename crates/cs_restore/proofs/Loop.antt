@@ -1,0 +1,123 @@
+-- What holds after the first files of an answer were put in place.
+use Rattle.std.proofs.Common.{◌≡◌, ℕ, ◌+◌, ◌≤◌, List, Some, length, inl, inr, ⊎_elim, refl, slice_get, arith, Result, Ok, Err, OnOk, IfErr}
+use Rattle.cs_schema.specs.declared.file_name.FileName.{FileName}
+use Rattle.cs_store.specs.FileSet.{Files}
+use Rattle.cs_shelf.specs.Shelf.{Elapses, Follows, HasCopies, IsNoMore, LeavesOnly}
+use Rattle.cs_restore.specs.Placing.{HasOne, IsOldOrPartOver, IsPartOf, IsPartOver, IsPutOver, KeepsOld, MayHaveOne, OthersAreThere, TouchesOnly}
+use Rattle.cs_restore.proofs.Moments.{started, goes_on, then_run}
+use Rattle.cs_restore.proofs.Parts.{HasFirst, first_none, first_more, first_all, part_none, part_more, may_touch, as_touched}
+
+pub no_more : (step : Files → Files → Type 0) (old mid new : Files → Type 0) → Follows step old mid → IsNoMore mid new → Follows step old new
+no_more step old mid new so_far none c now = so_far c (none c now)
+
+pub from_more : (step : Files → Files → Type 0) (old mid new : Files → Type 0) → IsNoMore old mid → Follows step mid new → Follows step old new
+from_more step old mid new none follows c now = let from = follows c now in (from.0, none from.0 from.1, from.2)
+
+pub weaker : (step weak : Files → Files → Type 0) (old new : Files → Type 0) → ((d c : Files) → step d c → weak d c) → Follows step old new → Follows weak old new
+weaker step weak old new w so_far c now = let from = so_far c now in (from.0, from.1, w from.0 c from.2)
+
+module _ {S : Type 0} (holds may_leave kept : S → Files → Type 0) (moment : S → ℕ) (left_since : S → ℕ → Files → Type 0) (faults : S → ℕ) (out : Files) (names : List FileName) (s : S) where
+  -- the first i files stand in place in what is held, and what a stop leaves or left is a part
+  pub record SoFar (i : ℕ) (t : S) : Type 0 where
+    pub held : Follows (HasFirst out names i) (holds s) (holds t)
+    pub copies : IsNoMore (kept s) (kept t)
+    pub left : Follows (IsPartOf out) (may_leave s) (may_leave t)
+    pub moments : LeavesOnly moment left_since s t (IsPartOver out (may_leave s))
+    pub counted : faults s ≤ faults t
+
+  pub begun : ((c : Files) → left_since s (moment s) c → may_leave s c) → SoFar 0 s
+  begun only_now = record {
+    held = λ c now. (c, now, first_none out names c);
+    copies = λ k now. now;
+    left = λ c now. (c, now, part_none out c);
+    moments = started moment left_since s (IsPartOver out (may_leave s)) (λ c was. (c, only_now c was, part_none out c));
+    counted = omega arith;
+  }
+
+  module _ (i : ℕ) (t : S) (so_far : SoFar i t) where
+    -- a call after which what a stop may leave is a part still
+    after_call : (u : S) → Follows (IsPartOf out) (may_leave s) (may_leave u) → Elapses (moment t) (moment u) (left_since t) (left_since u) (may_leave u) → LeavesOnly moment left_since s u (IsPartOver out (may_leave s))
+    after_call u left time = goes_on moment left_since s t u (IsPartOver out (may_leave s)) (may_leave u) so_far.moments time left
+
+    pub copies_then : (u : S) → IsNoMore (kept t) (kept u) → IsNoMore (kept s) (kept u)
+    copies_then u none k now = so_far.copies k (none k now)
+
+    pub counted_then : (u : S) → faults t ≤ faults u → faults s ≤ faults u
+    counted_then u counted = omega (arith, so_far.counted)
+
+    module _ (name : FileName) (at : slice_get names i ≡ Some name) (u : S) (stop : Follows (MayHaveOne out name) (may_leave t) (may_leave u)) (time : Elapses (moment t) (moment u) (left_since t) (left_since u) (may_leave u)) where
+      left_more : Follows (IsPartOf out) (may_leave s) (may_leave u)
+      left_more c now =
+          let step = stop c now in
+          let before = so_far.left step.0 step.1 in
+          (before.0, before.1, part_more out before.0 step.0 c name before.2 step.2)
+
+      -- a file more was put in place, or not
+      pub refused_moments : LeavesOnly moment left_since s u (IsPartOver out (may_leave s))
+      refused_moments = after_call u left_more time
+
+      pub refused : Follows (MayHaveOne out name) (holds t) (holds u) → Follows (TouchesOnly out names) (holds s) (holds u)
+      refused may c now =
+          let step = may c now in
+          let before = so_far.held step.0 step.1 in
+          (before.0, before.1, may_touch out names i name at before.0 step.0 c before.2 step.2)
+
+      pub put_more : Follows (HasOne out name) (holds t) (holds u) → IsNoMore (kept t) (kept u) → faults t ≤ faults u → SoFar (i + 1) u
+      put_more more none counted = record {
+        held = λ c now.
+            let step = more c now in
+            let before = so_far.held step.0 step.1 in
+            (before.0, before.1, first_more out names i name at before.0 step.0 c before.2 step.2);
+        copies = copies_then u none;
+        left = left_more;
+        moments = refused_moments;
+        counted = omega (arith, so_far.counted);
+      }
+
+    -- a sync
+    module _ (u : S) (stop : IsNoMore (may_leave t) (may_leave u)) (time : Elapses (moment t) (moment u) (left_since t) (left_since u) (may_leave u)) where
+      pub synced_moments : LeavesOnly moment left_since s u (IsPartOver out (may_leave s))
+      synced_moments = after_call u (no_more (IsPartOf out) (may_leave s) (may_leave t) (may_leave u) so_far.left stop) time
+
+    -- what is no more than what is held
+    pub touched_held : (new : Files → Type 0) → IsNoMore (holds t) new → Follows (TouchesOnly out names) (holds s) new
+    touched_held new none = no_more (TouchesOnly out names) (holds s) (holds t) new (weaker (HasFirst out names i) (TouchesOnly out names) (holds s) (holds t) (λ d c f. as_touched out names i d c f) so_far.held) none
+
+    -- and all files were put
+    pub all_held : length names ≤ i → OthersAreThere out names (holds s) → (new : Files → Type 0) → IsNoMore (holds t) new → Follows (IsPutOver out) (holds s) new
+    all_held enough others new none c now =
+        let before = so_far.held c (none c now) in
+        (before.0, before.1, first_all out names i before.0 c enough (others before.0 before.1) before.2)
+
+-- what holds after Ok and after a fault
+pub either : {A E P Q : Type 0} (r : Result A E) → OnOk r P → IfErr r (λ _. Q) → (P → Q) → Q
+either (Ok a) p q weak = weak p
+either (Err e) p q weak = q
+
+-- ---- the old files are kept first
+
+module _ {S : Type 0} (holds may_leave kept : S → Files → Type 0) (moment : S → ℕ) (left_since : S → ℕ → Files → Type 0) (out : Files) (names : List FileName) (s t : S)
+    (same : IsNoMore (holds s) (holds t)) (stop : IsNoMore (may_leave s) (may_leave t)) (time : Elapses (moment s) (moment t) (left_since s) (left_since t) (may_leave t)) (only_now : (c : Files) → left_since s (moment s) c → may_leave s c) where
+  pub kept_moments : LeavesOnly moment left_since s t (IsOldOrPartOver out (holds s) (may_leave s))
+  kept_moments = goes_on moment left_since s s t (IsOldOrPartOver out (holds s) (may_leave s)) (may_leave t) (started moment left_since s (IsOldOrPartOver out (holds s) (may_leave s)) (λ c was. inl (only_now c was))) time (λ c now. inl (stop c now))
+
+  pub old_part : Follows (IsPartOf out) (holds s) (holds t)
+  old_part c now = (c, same c now, part_none out c)
+
+  pub old_kept : KeepsOld (holds s) (holds t) (kept t)
+  old_kept c now = (c, same c now, λ k kk n. inl refl)
+
+  pub others_there : OthersAreThere out names (holds s) → OthersAreThere out names (holds t)
+  others_there others d now = others d (same d now)
+
+  module _ (u : S) (synced : IsNoMore (holds s) (may_leave t)) where
+    pub then_moments : LeavesOnly moment left_since t u (IsPartOver out (may_leave t)) → LeavesOnly moment left_since s u (IsOldOrPartOver out (holds s) (may_leave s))
+    then_moments run = then_run moment left_since s t u (IsOldOrPartOver out (holds s) (may_leave s)) (IsPartOver out (may_leave t)) kept_moments run (λ c over. inr (over.0, synced over.0 over.1, over.2))
+
+    pub then_part : Follows (TouchesOnly out names) (holds t) (holds u) → Follows (IsPartOf out) (holds s) (holds u)
+    then_part follows c now = let from = follows c now in (from.0, same from.0 from.1, from.2.part)
+
+    pub then_kept : HasCopies names (holds s) (kept t) → IsNoMore (kept t) (kept u) → Follows (TouchesOnly out names) (holds t) (holds u) → KeepsOld (holds s) (holds u) (kept u)
+    then_kept copies none follows c now =
+        let from = follows c now in
+        (from.0, same from.0 from.1, λ k kk n. ⊎_elim (λ old. inl old) (λ among. inr (λ some. copies k (none k kk) from.0 (same from.0 from.1) among.0 n among.1 some)) (from.2.touched n))

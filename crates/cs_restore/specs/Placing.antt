@@ -1,0 +1,69 @@
+-- Files of a set that are put in place, in part or whole.
+use Rattle.std.specs.Prelude.{◌≡◌, ◌⊎◌, ℕ, List, ◌∷◌, [], ◌++◌, Some, slice_get, IsSome}
+use Rattle.cs_schema.specs.declared.file_name.FileName.{FileName}
+use Rattle.cs_store.specs.FileSet.{Files, contents_of}
+use Rattle.cs_recovery.specs.Claims.{put_over}
+use Rattle.cs_restore.specs.declared.step.Step.{Step}
+use Rattle.cs_restore.specs.declared.step.What.TheVariants.{Same}
+
+-- the name is one of these
+abbrev pub IsAmong : List FileName → FileName → Type 0
+IsAmong names n = (i : ℕ) × (slice_get names i ≡ Some n)
+
+-- what the set has under each name stands there, whichever of the contents is held
+abbrev pub HasAtLeast : Files → (Files → Type 0) → Type 0
+HasAtLeast files held = (c : Files) → held c → (n : FileName) (bytes : List ℕ) → contents_of files n ≡ Some bytes → contents_of c n ≡ Some bytes
+
+-- these bytes stand under the name
+abbrev pub HasUnder : FileName → List ℕ → (Files → Type 0) → Type 0
+HasUnder name bytes held = (c : Files) → held c → contents_of c name ≡ Some bytes
+
+-- what is to stand under a name stands there: the set's bytes, or what stood there
+abbrev pub IsThere : Files → Files → FileName → Type 0
+IsThere out d n = put_over (contents_of out) (contents_of d) n ≡ contents_of d n
+
+-- under all names but these the set's bytes stand already
+abbrev pub OthersAreThere : Files → List FileName → (Files → Type 0) → Type 0
+OthersAreThere out names held = (d : Files) → held d → (n : FileName) → IsAmong names n ⊎ IsThere out d n
+
+-- a name joined the changes, or its bytes stand there
+abbrev pub AddsStep : Step → List FileName → List FileName → Type 0
+AddsStep step old new = (new ≡ old ++ step.name ∷ []) ⊎ ((new ≡ old) × (step.what ≡ Same))
+
+-- each name has what it had, or the set's bytes
+abbrev pub IsPartOf : Files → Files → Files → Type 0
+IsPartOf out d c = (n : FileName) → (contents_of c n ≡ contents_of d n) ⊎ (contents_of c n ≡ put_over (contents_of out) (contents_of d) n)
+
+-- each name of the set has its bytes, and no other changed
+abbrev pub IsPutOver : Files → Files → Files → Type 0
+IsPutOver out d c = (n : FileName) → contents_of c n ≡ put_over (contents_of out) (contents_of d) n
+
+-- the name has the set's bytes, and no other changed
+pub record HasOne (out : Files) (name : FileName) (d c : Files) : Type 0 where
+  pub here : contents_of c name ≡ put_over (contents_of out) (contents_of d) name
+  pub others : (n : FileName) → (contents_of c n ≡ contents_of d n) ⊎ (n ≡ name)
+
+-- the name has what it had or the set's bytes, and no other changed
+abbrev pub MayHaveOne : Files → FileName → Files → Files → Type 0
+MayHaveOne out name d c = ((n : FileName) → contents_of c n ≡ contents_of d n) ⊎ HasOne out name d c
+
+-- a part, and none but these names changed
+pub record TouchesOnly (out : Files) (names : List FileName) (d c : Files) : Type 0 where
+  pub part : IsPartOf out d c
+  pub touched : (n : FileName) → (contents_of c n ≡ contents_of d n) ⊎ IsAmong names n
+
+-- what a stop may leave of a set that is put over one of these
+abbrev pub IsPartOver : Files → (Files → Type 0) → Files → Type 0
+IsPartOver out old c = (d : Files) × old d × IsPartOf out d c
+
+-- what a stop might have left before, or may leave of a set that is put over what is held
+abbrev pub IsOldOrPartOver : Files → (Files → Type 0) → (Files → Type 0) → Files → Type 0
+IsOldOrPartOver out held left c = left c ⊎ IsPartOver out held c
+
+-- each file is as it was, or there is a copy under its name, if there was one
+abbrev pub HasOld : Files → Files → Files → Type 0
+HasOld d c k = (n : FileName) → (contents_of c n ≡ contents_of d n) ⊎ (IsSome (contents_of d n) → IsSome (contents_of k n))
+
+-- what was held and is replaced is kept
+abbrev pub KeepsOld : (Files → Type 0) → (Files → Type 0) → (Files → Type 0) → Type 0
+KeepsOld old new kept = (c : Files) → new c → (d : Files) × old d × ((k : Files) → kept k → HasOld d c k)

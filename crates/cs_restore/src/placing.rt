@@ -1,0 +1,85 @@
+//! Putting the rebuilt files in place.
+ghost use Rattle.std.specs.Prelude.{◌≡◌, ◌≤◌, Option, OnOk, OnErr, IsErrOf};
+ghost use Rattle.cs_schema.specs.declared.file_name.FileName.{FileName};
+ghost use Rattle.cs_store.specs.Fault.{CountsFault};
+ghost use Rattle.cs_store.specs.Save.{refusal as refusal_at};
+ghost use Rattle.cs_shelf.specs.Shelf.{AddsCopies, Elapses, Follows, IsNoMore, LeavesOnly};
+ghost use Rattle.cs_restore.specs.Placing.{HasOne, IsOldOrPartOver, IsPartOf, IsPartOver, IsPutOver, KeepsOld, MayHaveOne, OthersAreThere, TouchesOnly};
+
+use cs_schema::FileName;
+use cs_shelf::Shelf;
+use cs_store::{Fault, FileSet, StoreFault};
+
+/// Puts the file of this name in place, if the answer has it.
+fn put_one<S: Shelf>(answer: &FileSet, name: FileName, shelf: &mut S) -> Result<(), StoreFault>
+    ensures ok { OnOk result (Follows (HasOne answer.now name) (S.holds shelf.old) (S.holds shelf.new)) }
+    ensures may { Follows (MayHaveOne answer.now name) (S.holds shelf.old) (S.holds shelf.new) }
+    ensures copies { IsNoMore (S.kept shelf.old) (S.kept shelf.new) }
+    ensures stop { Follows (MayHaveOne answer.now name) (S.may_leave shelf.old) (S.may_leave shelf.new) }
+    ensures time { Elapses (S.moment shelf.old) (S.moment shelf.new) (S.left_since shelf.old) (S.left_since shelf.new) (S.may_leave shelf.new) }
+    ensures device { IsErrOf result StoreFault.Device
+        → CountsFault (S.fault_count shelf.old) (S.fault_count shelf.new) }
+    ensures counted { S.fault_count shelf.old ≤ S.fault_count shelf.new }
+{
+    match answer.get(name) {
+        Some(bytes) => shelf.replace(name, bytes),
+        None => Ok(()),
+    }
+}
+
+/// Puts the files of these names in place, in this order, and then syncs. All other files of the answer stand there.
+///
+/// A stop at any moment leaves each name what it had or the answer's bytes, and changes no name that the answer lacks.
+fn put_all<S: Shelf>(answer: &FileSet, names: &[FileName], shelf: &mut S) -> Result<(), Fault>
+    requires { OthersAreThere answer.now names.now (S.holds shelf.old) }
+    ensures whole { OnOk result (Follows (IsPutOver answer.now) (S.holds shelf.old) (S.holds shelf.new)) }
+    ensures durable { OnOk result (Follows (IsPutOver answer.now) (S.holds shelf.old) (S.may_leave shelf.new)) }
+    ensures part { Follows (TouchesOnly answer.now names.now) (S.holds shelf.old) (S.holds shelf.new) }
+    ensures copies { IsNoMore (S.kept shelf.old) (S.kept shelf.new) }
+    ensures any_moment { LeavesOnly S.moment S.left_since shelf.old shelf.new
+        (IsPartOver answer.now (S.may_leave shelf.old)) }
+    ensures device { (at : Option FileName) → IsErrOf result (Fault.Write at)
+        → CountsFault (S.fault_count shelf.old) (S.fault_count shelf.new) }
+    ensures counted { S.fault_count shelf.old ≤ S.fault_count shelf.new }
+{
+    for name in names {
+        match put_one(answer, *name, shelf) {
+            Ok(()) => {}
+            Err(fault) => return Err(refusal(Some(*name), fault)),
+        }
+    }
+    match shelf.sync() {
+        Ok(()) => Ok(()),
+        Err(fault) => Err(refusal(None, fault)),
+    }
+}
+
+/// Keeps what stands under these names, and then puts their files in place. All other files of the answer stand there.
+pub fn exchange<S: Shelf>(answer: &FileSet, names: &[FileName], shelf: &mut S) -> Result<(), Fault>
+    requires { OthersAreThere answer.now names.now (S.holds shelf.old) }
+    ensures whole { OnOk result (Follows (IsPutOver answer.now) (S.holds shelf.old) (S.holds shelf.new)) }
+    ensures durable { OnOk result (Follows (IsPutOver answer.now) (S.holds shelf.old) (S.may_leave shelf.new)) }
+    ensures part { Follows (IsPartOf answer.now) (S.holds shelf.old) (S.holds shelf.new) }
+    ensures kept { KeepsOld (S.holds shelf.old) (S.holds shelf.new) (S.kept shelf.new) }
+    ensures copies { Follows (AddsCopies (S.holds shelf.old)) (S.kept shelf.old) (S.kept shelf.new) }
+    ensures any_moment { LeavesOnly S.moment S.left_since shelf.old shelf.new
+        (IsOldOrPartOver answer.now (S.holds shelf.old) (S.may_leave shelf.old)) }
+    ensures device { (at : Option FileName) → IsErrOf result (Fault.Write at)
+        → CountsFault (S.fault_count shelf.old) (S.fault_count shelf.new) }
+    ensures counted { S.fault_count shelf.old ≤ S.fault_count shelf.new }
+{
+    match shelf.keep(names) {
+        Ok(()) => put_all(answer, names, shelf),
+        Err(fault) => Err(refusal(names.first().copied(), fault)),
+    }
+}
+
+/// How a refusal at this file, or at the sync, is answered.
+fn refusal(at: Option<FileName>, fault: StoreFault) -> Fault
+    ensures { result ≡ refusal_at at fault }
+{
+    match fault {
+        StoreFault::Memory => Fault::Memory,
+        StoreFault::Device => Fault::Write(at),
+    }
+}
