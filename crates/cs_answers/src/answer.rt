@@ -4,6 +4,7 @@ use crate::designed::Designed;
 use crate::dumped::Dumped;
 use crate::loaded::Loaded;
 use crate::recovered::Recovered;
+use cs_overview::{FileView, StoreView};
 use std::fmt;
 
 /// What a verb did. Its text is lines, each ended by a line break.
@@ -13,6 +14,10 @@ pub enum Answer {
     Told(String),
     /// A store was checked.
     Checked(Checked),
+    /// A store was looked at as a whole.
+    Shown(StoreView),
+    /// One file of a store was looked at.
+    ShownFile(FileView),
     /// What a store had lost was recovered.
     Recovered(Recovered),
     /// A catalog was looked at.
@@ -28,6 +33,8 @@ impl fmt::Display for Answer {
         match self {
             Answer::Told(text) => f.write_str(text.as_str()),
             Answer::Checked(checked) => write!(f, "{checked}"),
+            Answer::Shown(view) => write!(f, "{view}"),
+            Answer::ShownFile(view) => write!(f, "{view}"),
             Answer::Recovered(recovered) => write!(f, "{recovered}"),
             Answer::Designed(designed) => write!(f, "{designed}"),
             Answer::Loaded(loaded) => write!(f, "{loaded}"),

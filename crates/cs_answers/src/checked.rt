@@ -4,7 +4,7 @@ ghost use Rattle.cs_answers.specs.Statuses.{checked_status};
 
 use crate::badness::word;
 use cs_inspection::Badness;
-use cs_places::{DEVICE, DONE, REFUSED};
+use cs_places::{DEVICE, DONE, REFUSED, RESTORING};
 use cs_reports::{FaultWords, Next, SiteWords, SitedFile, site_of, with_site};
 use cs_safety::safe;
 use cs_schema::{Catalog, FileName, Loss};
@@ -35,6 +35,8 @@ pub struct Checked {
     pub is_unreadable: bool,
     /// What it came to.
     pub verdict: Verdict,
+    /// Whether a restore was left unfinished.
+    pub is_restoring: bool,
 }
 
 impl Checked {
@@ -104,6 +106,10 @@ impl Checked {
 
     /// What to do next.
     fn write_next<W: fmt::Write>(&self, f: &mut fmt::Formatter<W>) -> fmt::Result {
+        if self.is_restoring {
+            writeln!(f, "unfinished restore: {RESTORING} is there")?;
+            return writeln!(f, "next: pinepolo restore --resume STORE");
+        }
         match &self.verdict {
             Verdict::Sound { .. } => Ok(()),
             Verdict::BadFiles => self.write_recovery(f),
@@ -141,12 +147,12 @@ impl fmt::Display for Checked {
     fn fmt<W: fmt::Write>(&self, f: &mut fmt::Formatter<W>) -> fmt::Result {
         self.write_files(f)?;
         match &self.verdict {
-            Verdict::Sound { rows, k } => writeln!(f, "ok rows={rows} k={k}"),
+            Verdict::Sound { rows, k } => writeln!(f, "ok rows={rows} k={k}")?,
             _ => {
                 let wrong = Wrong(self);
                 writeln!(f, "fault: {wrong}")?;
-                self.write_next(f)
             }
         }
+        self.write_next(f)
     }
 }

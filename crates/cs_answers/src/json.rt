@@ -5,6 +5,7 @@ use crate::checked::{Checked, Verdict, Wrong};
 use crate::recovered::Recovered;
 use crate::tables_json::{dumped_object, loaded_object};
 use cs_inspection::Badness;
+use cs_overview::{file_object as shown_file_object, store_object};
 use cs_reports::object::{Object, number_or_null, sites};
 use cs_reports::{design_object, site_of};
 use cs_schema::{Catalog, FileName};
@@ -18,6 +19,8 @@ pub fn answer_object(alloc: Global, answer: &Answer) -> Result<Value, AllocError
             .text("text", text.as_str())
             .finish(),
         Answer::Checked(checked) => checked_object(alloc, checked),
+        Answer::Shown(view) => store_object(alloc, view),
+        Answer::ShownFile(view) => shown_file_object(alloc, view),
         Answer::Recovered(recovered) => recovered_object(alloc, recovered),
         Answer::Designed(designed) => design_object(alloc, &designed.design),
         Answer::Loaded(loaded) => loaded_object(alloc, loaded),
@@ -27,7 +30,9 @@ pub fn answer_object(alloc: Global, answer: &Answer) -> Result<Value, AllocError
 
 /// What a check came to.
 fn checked_object(alloc: Global, checked: &Checked) -> Result<Value, AllocError> {
-    let object = Object::of_verb(alloc, "check").member("files", bad_objects(alloc, checked));
+    let object = Object::of_verb(alloc, "check")
+        .truth("restoring", checked.is_restoring)
+        .member("files", bad_objects(alloc, checked));
     match &checked.verdict {
         Verdict::Sound { rows, k } => object
             .truth("ok", true)

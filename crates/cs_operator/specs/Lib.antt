@@ -1,2 +1,3 @@
 pub mod TablePromises
 pub mod Promises
+pub mod Showing

@@ -12,11 +12,12 @@ use Rattle.cs_store.specs.Save.{Saves}
 use Rattle.cs_store.specs.declared.fault.StoreFault.{StoreFault}
 use Rattle.cs_recovery.specs.Claims.{IsRebuildAnswer, IsCheckAnswer}
 use Rattle.cs_inspection.specs.BadFiles.{AreBadFiles}
-use Rattle.cs_inspection.specs.declared.badness.Badness.{Badness}
 use Rattle.cs_design.specs.Fatal.{IsSafeBeyond}
 use Rattle.cs_reports.specs.Design.{IsDesign}
 use Rattle.cs_reports.specs.declared.design.Design.{Design}
 use Rattle.cs_places.specs.Finding.{FindsCatalog, FindsStore, LooksUp}
+use Rattle.cs_operator.specs.Showing.{ShowsStore, ShowsFile}
+use Rattle.cs_answers.specs.declared.checked.Checked.{Checked}
 use Rattle.cs_answers.specs.declared.checked.Verdict.{Verdict}
 use Rattle.cs_answers.specs.declared.checked.Verdict.TheVariants.{Sound, Fatal, BadFiles, Unsound}
 use Rattle.cs_operator.specs.TablePromises.{DumpsStore, LoadsStore}
@@ -32,7 +33,7 @@ Judges C F is_bad (Unsound fault) = (is_bad ≡ false) × IsCheckAnswer C F 0 (E
 
 module _ {P S : Type 0} (reads : P → List ℕ → List ℕ → P → Type 0) (opens : P → List ℕ → CatalogData → S → Type 0) (gives : S → FileName → Option (List ℕ) → S → Type 0) where
   -- the store at this path was found and each of its files read; these are its bad files, and the verdict was given on what could be read
-  pub record ChecksStore (refuses : S → FileName → StoreFault → S → Type 0) (s : P) (path : List ℕ) (bad : List (FileName × Badness)) (verdict : Verdict) (t : P) : Type 0 where
+  pub record ChecksStore (refuses : S → FileName → StoreFault → S → Type 0) (restores : P → List ℕ → Bool → Type 0) (s : P) (path : List ℕ) (checked : Checked) (t : P) : Type 0 where
     pub catalog : CatalogData
     pub files : Files
     pub unreadable : List FileName
@@ -41,9 +42,10 @@ module _ {P S : Type 0} (reads : P → List ℕ → List ℕ → P → Type 0) (
     pub left : S
     pub finds : FindsStore reads opens s path catalog store t
     pub loads : LoadsReadable gives refuses (surviving catalog []) store files unreadable left
-    pub inspected : AreBadFiles catalog (contents_of files) unreadable bad
-    pub none_bad : is_bad ≡ false → (bad ≡ []) × (unreadable ≡ [])
-    pub judged : Judges catalog (contents_of files) is_bad verdict
+    pub inspected : AreBadFiles catalog (contents_of files) unreadable checked.bad.items
+    pub none_bad : is_bad ≡ false → (checked.bad.items ≡ []) × (unreadable ≡ [])
+    pub judged : Judges catalog (contents_of files) is_bad checked.verdict
+    pub restoring : restores t path checked.is_restoring
 
   -- the store at this path was loaded without the lost sites, and its rebuild answered these files
   pub record RebuildsStore (s : P) (path : List ℕ) (L : Sites) (rebuilt : Files) (t : P) : Type 0 where
@@ -92,11 +94,13 @@ module _ {P : Type 0} (reads : P → List ℕ → List ℕ → P → Type 0) (dr
     pub drawn : IsDrawn reached t
 
 module _ {P S K I N : Type 0} (reads : P → List ℕ → List ℕ → P → Type 0) (opens : P → List ℕ → CatalogData → S → Type 0) (draws : P → List ℕ → List ℕ → P → Type 0) (makes : P → List ℕ → K → P → Type 0) (gives : S → FileName → Option (List ℕ) → S → Type 0) (refuses : S → FileName → StoreFault → S → Type 0) (takes : K → FileName → List ℕ → K → Type 0) (marks : K → ℕ → K → Type 0)
-    (opens_table : P → List ℕ → I → P → Type 0) (remaining : I → Option (List ℕ)) (begins : P → List ℕ → List ℕ → N → P → Type 0) (takes_new : N → FileName → List ℕ → N → Type 0) (marks_new : N → ℕ → N → Type 0) (writes_table : P → List ℕ → List ℕ → P → Type 0) where
+    (opens_table : P → List ℕ → I → P → Type 0) (remaining : I → Option (List ℕ)) (begins : P → List ℕ → List ℕ → N → P → Type 0) (takes_new : N → FileName → List ℕ → N → Type 0) (marks_new : N → ℕ → N → Type 0) (writes_table : P → List ℕ → List ℕ → P → Type 0) (lists : P → List ℕ → List (List ℕ) → P → Type 0) (restores : P → List ℕ → Bool → Type 0) where
   -- what was done for this answer; for a help text nothing
   abbrev pub Performs : P → P → Answer → Type 0
   Performs s t (answer.Told text) = t ≡ s
-  Performs s t (answer.Checked checked) = (path : List ℕ) × ChecksStore reads opens gives refuses s path checked.bad.items checked.verdict t
+  Performs s t (answer.Checked checked) = (path : List ℕ) × ChecksStore reads opens gives refuses restores s path checked t
+  Performs s t (answer.Shown view) = (path : List ℕ) × ShowsStore reads opens gives refuses lists restores s path view t
+  Performs s t (answer.ShownFile view) = (path : List ℕ) × (text : List ℕ) × ShowsFile reads opens gives s path text view t
   Performs s t (answer.Recovered recovered) = (path : List ℕ) × (L : Sites) × (output_path : List ℕ) × RecoversStore reads opens gives makes takes marks s path L output_path recovered.files t
   Performs s t (answer.Designed designed) = (path : List ℕ) × (lost : Sites) × DesignsCatalog reads draws s path lost designed.design t
   Performs s t (answer.Loaded loaded) = (catalog : List ℕ) × (table : List ℕ) × (store : List ℕ) × LoadsStore reads opens_table remaining begins takes_new marks_new s catalog table store loaded.files loaded.rows t

@@ -8,7 +8,7 @@ use crate::judging::judge;
 use cs_answers::Checked;
 use cs_inspection::{Badness, bad_files};
 use cs_operator_words::Checking;
-use cs_places::{Places, Stop, find_store};
+use cs_places::{Listings, Stop, find_store};
 use cs_progress::{Progress, Stage};
 use cs_schema::{FileName, Loss};
 use cs_store::load_readable;
@@ -23,13 +23,13 @@ fn any_bad(bad: &[(FileName, Badness)], unreadable: &[FileName]) -> bool
 }
 
 /// Whether a store is sound, and how many of its sites may fail; all its bad files.
-pub fn check<R: Threads + Sync, G: Progress + Sync, P: Places>(
+pub fn check<R: Threads + Sync, G: Progress + Sync, P: Listings>(
     host: &Host<'_, R, G>,
     places: &mut P,
     request: &Checking<'_>,
 ) -> Result<Checked, Stop>
-    ensures ok { IfOk result (λ checked. ChecksStore P.reads P.opens P.Store.gives P.Store.refuses
-        places.old request.now.store.now checked.bad.items checked.verdict places.new) }
+    ensures ok { IfOk result (λ checked. ChecksStore P.reads P.opens P.Store.gives P.Store.refuses P.restores
+        places.old request.now.store.now checked places.new) }
     ensures err { OnErr result (LooksUp P.reads P.misses places.old request.now.store.now places.new) }
 {
     let alloc = host.alloc;
@@ -46,6 +46,9 @@ pub fn check<R: Threads + Sync, G: Progress + Sync, P: Places>(
     let Ok(bad) = bad_files(host.rt, alloc, &catalog, &found.files, unreadable) else {
         return Err(Stop::Memory);
     };
+    let Ok(is_restoring) = places.is_restoring(request.store) else {
+        return Err(Stop::Memory);
+    };
     let is_unreadable = !unreadable.is_empty();
     let is_bad = any_bad(bad.as_slice(), unreadable);
     match judge(&run, &catalog, &found.files, is_bad, request.k) {
@@ -54,6 +57,7 @@ pub fn check<R: Threads + Sync, G: Progress + Sync, P: Places>(
             bad,
             is_unreadable,
             verdict,
+            is_restoring,
         }),
         Err(stop) => Err(stop),
     }

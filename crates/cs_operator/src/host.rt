@@ -1,7 +1,7 @@
 //! What a program runs on, and by what its verbs work.
 ghost use Rattle.std.specs.Prelude.{◌≤◌};
 
-use cs_places::{Folders, Places, Tables};
+use cs_places::{Folders, Listings, Places, Tables};
 use cs_rebuild::Run;
 use std::alloc::Global;
 use std::rt::Files;
@@ -36,6 +36,6 @@ impl<'a, R, G> Host<'a, R, G> {
 }
 
 /// All that the verbs of a program find and make by path.
-pub trait World: Places + Tables {}
+pub trait World: Places + Tables + Listings {}
 
-impl<R: Files + Copy> World for Folders<R> {}
+impl<R: Files + Alloc + Copy + Drop> World for Folders<R> {}

@@ -12,14 +12,17 @@ mod judging;
 mod loading;
 mod program;
 mod recovering;
+mod showing;
 mod ways;
 
 pub use checking::check;
 pub use cs_answers::{Answer, Checked, Designed, Dumped, Loaded, Recovered, Verdict};
-pub use cs_places::{Folders, Places, Stop, report};
+pub use cs_overview::{FileView, StoreView};
+pub use cs_places::{Folders, Listings, Places, Stop, report};
 pub use designing::design;
 pub use dumping::dump;
 pub use host::{CUT, Host, World};
 pub use loading::load;
 pub use program::run;
 pub use recovering::recover;
+pub use showing::{show, show_file};

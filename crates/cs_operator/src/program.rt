@@ -10,8 +10,9 @@ use crate::dumping::dump;
 use crate::host::{Host, World};
 use crate::loading::load;
 use crate::recovering::recover;
+use crate::showing::{show, show_file};
 use cs_answers::{Answer, say, say_refusal};
-use cs_operator_words::{Request, Unasked, parse};
+use cs_operator_words::{Request, Showing, Unasked, parse};
 use cs_places::{DONE, Stop, report};
 use cs_progress::Progress;
 use std::alloc::Global;
@@ -31,7 +32,7 @@ pub fn run<R: Threads + Sync, G: Progress + Sync, P: World, W: Write, E: Write>(
     ensures status { result ≤ 6 }
     ensures done { result ≡ DONE → (answer : Answer) × (answer_status answer ≡ 0) × Performs P.reads P.opens P.draws P.makes
         P.Store.gives P.Store.refuses P.Output.takes P.Output.marks
-        P.opens_table P.Input.remaining P.begins P.NewStore.takes P.NewStore.marks P.writes_table places.old places.new answer }
+        P.opens_table P.Input.remaining P.begins P.NewStore.takes P.NewStore.marks P.writes_table P.lists P.restores places.old places.new answer }
 {
     let alloc = host.alloc;
     match parse(alloc, words, host.processors) {
@@ -46,6 +47,7 @@ pub fn run<R: Threads + Sync, G: Progress + Sync, P: World, W: Write, E: Write>(
 fn wants_json(request: &Request<'_>) -> bool {
     match request {
         Request::Check(checking) => checking.json,
+        Request::Show(showing) => showing.json,
         Request::Recover(recovering) => recovering.json,
         Request::Design(designing) => designing.json,
         Request::Load(loading) => loading.json,
@@ -57,6 +59,7 @@ fn wants_json(request: &Request<'_>) -> bool {
 fn is_quiet(request: &Request<'_>) -> bool {
     match request {
         Request::Check(checking) => checking.quiet,
+        Request::Show(showing) => showing.quiet,
         Request::Recover(recovering) => recovering.quiet,
         Request::Design(_) => false,
         Request::Load(loading) => loading.quiet,
@@ -75,7 +78,7 @@ fn run_request<R: Threads + Sync, G: Progress + Sync, P: World, W: Write, E: Wri
     ensures status { result ≤ 6 }
     ensures done { result ≡ DONE → (answer : Answer) × (answer_status answer ≡ 0) × Performs P.reads P.opens P.draws P.makes
         P.Store.gives P.Store.refuses P.Output.takes P.Output.marks
-        P.opens_table P.Input.remaining P.begins P.NewStore.takes P.NewStore.marks P.writes_table places.old places.new answer }
+        P.opens_table P.Input.remaining P.begins P.NewStore.takes P.NewStore.marks P.writes_table P.lists P.restores places.old places.new answer }
 {
     let json = wants_json(request);
     if is_quiet(request) {
@@ -96,6 +99,7 @@ fn refusing(request: &Request<'_>, json: bool) -> Option<&'static str> {
     }
     match request {
         Request::Check(_) => Some("check"),
+        Request::Show(_) => Some("show"),
         Request::Recover(_) => Some("recover"),
         Request::Design(_) => Some("design"),
         Request::Load(_) => Some("load"),
@@ -122,6 +126,29 @@ fn say_stop<W: Write, E: Write>(
     }
 }
 
+/// Shows a store or one of its files.
+fn perform_show<R: Threads + Sync, G: Progress + Sync, P: World>(
+    host: &Host<'_, R, G>,
+    places: &mut P,
+    request: &Showing<'_>,
+) -> Result<Answer, Stop>
+    ensures { IfOk result (Performs P.reads P.opens P.draws P.makes P.Store.gives P.Store.refuses
+        P.Output.takes P.Output.marks P.opens_table P.Input.remaining P.begins P.NewStore.takes P.NewStore.marks P.writes_table P.lists P.restores
+        places.old places.new) }
+{
+    let (store, file) = (request.store, request.file);
+    match file {
+        Some(file) => match show_file(host.alloc, places, store, file) {
+            Ok(view) => Ok(Answer::ShownFile(view)),
+            Err(stop) => Err(stop),
+        },
+        None => match show(host, places, store) {
+            Ok(view) => Ok(Answer::Shown(view)),
+            Err(stop) => Err(stop),
+        },
+    }
+}
+
 /// Does what a request asks for.
 fn perform<R: Threads + Sync, G: Progress + Sync, P: World>(
     host: &Host<'_, R, G>,
@@ -129,7 +156,7 @@ fn perform<R: Threads + Sync, G: Progress + Sync, P: World>(
     places: &mut P,
 ) -> Result<Answer, Stop>
     ensures { IfOk result (Performs P.reads P.opens P.draws P.makes P.Store.gives P.Store.refuses
-        P.Output.takes P.Output.marks P.opens_table P.Input.remaining P.begins P.NewStore.takes P.NewStore.marks P.writes_table
+        P.Output.takes P.Output.marks P.opens_table P.Input.remaining P.begins P.NewStore.takes P.NewStore.marks P.writes_table P.lists P.restores
         places.old places.new) }
 {
     match request {
@@ -137,6 +164,7 @@ fn perform<R: Threads + Sync, G: Progress + Sync, P: World>(
             Ok(checked) => Ok(Answer::Checked(checked)),
             Err(stop) => Err(stop),
         },
+        Request::Show(request) => perform_show(host, places, request),
         Request::Recover(request) => match recover(host, places, request) {
             Ok(recovered) => Ok(Answer::Recovered(recovered)),
             Err(stop) => Err(stop),

@@ -2,6 +2,8 @@
 use anyhow::Result;
 use cs_operator::{Folders, Host, run};
 use cs_progress::OpenGate;
+use std::io;
+use std::io::Write;
 use std::marker::Sync;
 use std::rt::Files;
 use std::thread::Threads;
@@ -9,12 +11,28 @@ use std::thread::Threads;
 /// How many processors there are.
 const PROCESSORS: u32 = 2;
 
-/// Runs a verb over the folders, and prints its lines and its status.
-pub fn answered<R: Threads + Sync + AllocGlobal + Print, F: Files + Copy + Drop>(
-    rt: &R,
-    files: F,
-    words: &[&str],
-) -> Result<()> {
+/// A stream that takes nothing.
+#[derive(Drop)]
+struct Full;
+
+impl Write for Full {
+    fn write(&mut self, _bytes: &[u8]) -> io::Result<usize> {
+        Err(io::Error::from(io::ErrorKind::StorageFull))
+    }
+
+    fn flush(&mut self) -> io::Result<()> {
+        Ok(())
+    }
+}
+
+/// Runs a verb over the folders, and gives its status.
+fn run_over<R, F, W, E>(rt: &R, files: F, words: &[&str], out: &mut W, err: &mut E) -> Result<u8>
+where
+    R: Threads + Sync + AllocGlobal,
+    F: Files + Alloc + Copy + Drop,
+    W: Write,
+    E: Write,
+{
     let alloc = rt.alloc();
     let mut owned = Vec::new(alloc);
     for word in words {
@@ -27,9 +45,23 @@ pub fn answered<R: Threads + Sync + AllocGlobal + Print, F: Files + Copy + Drop>
         gate: &OpenGate,
     };
     let mut places = Folders::new(alloc, files);
+    Ok(run(&host, owned.as_slice(), &mut places, out, err))
+}
+
+/// Runs a verb over the folders, and prints its lines and its status. Words that begin with `full` are those of a verb
+/// whose standard output takes nothing.
+pub fn answered<R: Threads + Sync + AllocGlobal + Print, F: Files + Alloc + Copy + Drop>(
+    rt: &R,
+    files: F,
+    words: &[&str],
+) -> Result<()> {
+    let alloc = rt.alloc();
     let mut out = Vec::new(alloc);
     let mut err = Vec::new(alloc);
-    let status = run(&host, owned.as_slice(), &mut places, &mut out, &mut err);
+    let status = match words {
+        ["full", verb @ ..] => run_over(rt, files, verb, &mut Full, &mut err)?,
+        verb => run_over(rt, files, verb, &mut out, &mut err)?,
+    };
     let out = String::from_utf8_lossy(alloc, out.as_slice())?;
     let err = String::from_utf8_lossy(alloc, err.as_slice())?;
     let (out, err) = (out.as_str(), err.as_str());

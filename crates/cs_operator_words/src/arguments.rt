@@ -10,6 +10,13 @@ pub fn store<'a>(alloc: Global) -> Arg<'a> {
         .help("The folder of the store")
 }
 
+/// `FILE`, the name of a file of the store.
+pub fn file<'a>(alloc: Global) -> Arg<'a> {
+    Arg::new(alloc, "file")
+        .value_name("FILE")
+        .help("The name of one of its files, as p0.s1.seg")
+}
+
 /// `--json`.
 pub fn json<'a>(alloc: Global) -> Arg<'a> {
     Arg::new(alloc, "json")

@@ -10,6 +10,7 @@ pub(crate) type Made<'a> = Result<Command<'a>, Error>;
 pub fn program<'a>(alloc: Global) -> Made<'a> {
     let program = named(Command::new(alloc, "pinepolo"), "pinepolo");
     let whole = with_verb(described(program), check(alloc));
+    let whole = with_verb(whole, show(alloc));
     let whole = with_verb(with_verb(whole, recover(alloc)), design(alloc));
     with_verb(with_verb(whole, tables::load(alloc)), tables::dump(alloc))
 }
@@ -34,6 +35,7 @@ fn described<'a>(program: Made<'a>) -> Made<'a> {
 pub fn verb<'a>(alloc: Global, name: &str) -> Option<Made<'a>> {
     match name {
         "check" => Some(check(alloc)),
+        "show" => Some(show(alloc)),
         "recover" => Some(recover(alloc)),
         "design" => Some(design(alloc)),
         "load" => Some(tables::load(alloc)),
@@ -69,6 +71,17 @@ fn check<'a>(alloc: Global) -> Made<'a> {
     let command = with(command, arguments::quiet(alloc));
     let command = with(command, arguments::json(alloc));
     with(command, arguments::store(alloc))
+}
+
+/// `show [--quiet] [--json] STORE [FILE]`.
+fn show<'a>(alloc: Global) -> Made<'a> {
+    let command = Command::new(alloc, "show")
+        .about(help::SHOW)
+        .after_help(help::SHOW_END);
+    let command = with(named(command, "pinepolo show"), arguments::quiet(alloc));
+    let command = with(command, arguments::json(alloc));
+    let command = with(command, arguments::store(alloc));
+    with(command, arguments::file(alloc))
 }
 
 /// `recover [--workers N] [--quiet] [--json] STORE OUT SITE..`.

@@ -1,7 +1,7 @@
 //! A verb's arguments, as they were found among the words.
 ghost use Rattle.std.specs.Prelude.{◌≤◌, IfSome};
 
-use crate::request::{Checking, Designing, Dumping, Loading, Recovering, Request};
+use crate::request::{Checking, Designing, Dumping, Loading, Recovering, Request, Showing};
 use crate::sites::sites_of;
 use clap::ArgMatches;
 
@@ -33,6 +33,17 @@ pub fn checking<'a>(found: &ArgMatches<'a>, processors: u32) -> Option<Request<'
         quiet: found.get_flag("quiet"),
         json: found.get_flag("json"),
         store,
+    }))
+}
+
+/// What `show` asks for, if its store is there.
+pub fn showing<'a>(found: &ArgMatches<'a>) -> Option<Request<'a>> {
+    let store = found.get_str("store")?;
+    Some(Request::Show(Showing {
+        quiet: found.get_flag("quiet"),
+        json: found.get_flag("json"),
+        store,
+        file: found.get_str("file"),
     }))
 }
 

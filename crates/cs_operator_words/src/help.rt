@@ -40,6 +40,25 @@ pub const CHECK_END: &str = concat!(
     "  4  a file, a folder or a stream failed",
 );
 
+/// What `show` does.
+pub const SHOW: &str = "Show what a store holds, or what the bytes of one of its files say";
+
+/// What stands below the help of `show`.
+pub const SHOW_END: &str = concat!(
+    "Prints the catalog in words, a line for each file, and about how much memory a recovery takes. With FILE, its\n",
+    "digests, and its first and last rows, items or entries; of a damaged file, where it stops making sense.\n",
+    "\n",
+    "Example:\n",
+    "  pinepolo show store p0.s1.seg\n",
+    "\n",
+    "Statuses:\n",
+    "  0  shown, also where files are bad\n",
+    "  1  the catalog is refused, or the catalog or the store has no such file\n",
+    "  2  wrong words\n",
+    "  3  out of memory\n",
+    "  4  a file, a folder or a stream failed",
+);
+
 /// What `recover` does.
 pub const RECOVER: &str = "Rebuild the files of lost sites into a new folder";
 

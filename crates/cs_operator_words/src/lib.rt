@@ -15,4 +15,4 @@ mod table_help;
 mod tables;
 
 pub use parsing::{Unasked, parse};
-pub use request::{Checking, Designing, Dumping, Loading, Recovering, Request};
+pub use request::{Checking, Designing, Dumping, Loading, Recovering, Request, Showing};

@@ -73,6 +73,7 @@ fn joined(alloc: Global, text: &str, usage: &str) -> Unasked {
 fn asked<'a>(matches: &ArgMatches<'a>, processors: u32) -> Option<Request<'a>> {
     match matches.subcommand() {
         Some(("check", found)) => found::checking(found, processors),
+        Some(("show", found)) => found::showing(found),
         Some(("recover", found)) => found::recovering(found, processors),
         Some(("design", found)) => found::designing(found),
         Some(("load", found)) => found::loading(found, processors),

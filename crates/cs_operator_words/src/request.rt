@@ -8,6 +8,8 @@ use cs_schema::Loss;
 pub enum Request<'a> {
     /// Whether a store is sound, and how many sites may fail.
     Check(Checking<'a>),
+    /// What a store holds, or one of its files.
+    Show(Showing<'a>),
     /// The files that a loss took from a store.
     Recover(Recovering<'a>),
     /// Which losses a catalog does not survive.
@@ -32,6 +34,19 @@ pub struct Checking<'a> {
     /// The folder of the store.
     pub store: &'a str,
     ghost workers_in_limits: { (1 ≤ workers) × (workers ≤ 64) },
+}
+
+/// What to show.
+#[derive(Clone, Copy)]
+pub struct Showing<'a> {
+    /// Whether no line shows how far it has come.
+    pub quiet: bool,
+    /// Whether the answer is JSON.
+    pub json: bool,
+    /// The folder of the store.
+    pub store: &'a str,
+    /// The name of the file, where one is asked for.
+    pub file: Option<&'a str>,
 }
 
 /// What to recover, from where, to where, and by how many workers.

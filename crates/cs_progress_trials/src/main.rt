@@ -1,0 +1,68 @@
+//! Shows how the line of a gate moves, by a clock that is 60 milliseconds on at each look.
+#![tactic(auto)]
+
+use anyhow::Result;
+use cs_board::{Gate, Round};
+use cs_progress::{Progress, ProgressLine, Stage};
+use std::io;
+use std::sync::atomic::{AtomicU64, Ordering};
+use std::time::{Clock, Duration};
+
+/// How far each look is from the one before, in milliseconds.
+const STEP: u64 = 60;
+
+/// A clock that is some steps on at each look.
+#[derive(Drop)]
+struct Ticks {
+    now: AtomicU64,
+}
+
+impl Clock for Ticks {
+    fn monotonic(&self) -> io::Result<Duration> {
+        Ok(Duration::from_millis(self.now.fetch_add(STEP, Ordering::SeqCst)))
+    }
+
+    fn since_1970(&self) -> io::Result<Duration> {
+        self.monotonic()
+    }
+}
+
+/// A gate over a stream that is a terminal or not.
+fn gate<P: Print>(stream: P, is_terminal: bool) -> ProgressLine<Ticks, P> {
+    let clock = Ticks {
+        now: AtomicU64::new(0),
+    };
+    ProgressLine::new(clock, stream, is_terminal, 65_536)
+}
+
+/// Tells a gate of a walk in four pieces, of two rounds of columns, and of what is written.
+fn tell<G: Progress>(gate: &G) {
+    gate.reached(Stage::Reading);
+    gate.opened(Round::Walk, 4);
+    for piece in 0..4 {
+        gate.entered(piece);
+    }
+    for _ in 0..2 {
+        gate.opened(Round::Columns, 2);
+        gate.entered(0);
+    }
+    gate.reached(Stage::Writing);
+    gate.reached(Stage::Inspecting);
+    gate.erase();
+    gate.erase();
+}
+
+fn main(rt: HostRuntime) -> Result<()> {
+    let shown = gate(rt.stdout(), true);
+    tell(&shown);
+    println!(rt; "erased")?;
+    let told = shown.shown();
+    println!(rt; "{told}")?;
+    println!(rt; "no terminal")?;
+    tell(&gate(rt.stdout(), false));
+    println!(rt; "quiet")?;
+    let quiet = gate(rt.stdout(), true);
+    quiet.silence();
+    tell(&quiet);
+    Ok(())
+}
