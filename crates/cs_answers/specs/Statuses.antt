@@ -2,6 +2,8 @@
 use Rattle.std.specs.Prelude.{ℕ, Bool, true, false}
 use Rattle.cs_answers.specs.declared.checked.Verdict.{Verdict}
 use Rattle.cs_answers.specs.declared.checked.Verdict.TheVariants.{Sound}
+use Rattle.cs_diagnosis.specs.declared.findings.Verdict.{Verdict as FoundVerdict}
+use Rattle.cs_diagnosis.specs.declared.findings.Verdict.TheVariants as Found
 use Rattle.cs_answers.specs.declared.answer.Answer.{Answer}
 use Rattle.cs_answers.specs.declared.answer.Answer.TheVariants as answer
 
@@ -11,7 +13,15 @@ checked_status (Sound rows k) is_unreadable = 0
 checked_status _ true = 4
 checked_status _ false = 1
 
--- 0, but of a check that of its verdict
+-- 0 where the store is sound, 1 where one table explains it, 5 where more than one does, 6 where none does
+abbrev pub diagnosed_status : FoundVerdict → ℕ
+diagnosed_status Found.Sound = 0
+diagnosed_status Found.OneTable = 1
+diagnosed_status Found.Ambiguous = 5
+diagnosed_status Found.NotRecoverable = 6
+
+-- 0, but of a check and of a diagnosis that of its verdict
 abbrev pub answer_status : Answer → ℕ
 answer_status (answer.Checked checked) = checked_status checked.verdict checked.is_unreadable
+answer_status (answer.Diagnosed diagnosed) = diagnosed_status diagnosed.diagnosis.verdict
 answer_status _ = 0

@@ -1,6 +1,7 @@
 //! What a verb did.
 use crate::checked::Checked;
 use crate::designed::Designed;
+use crate::diagnosed::Diagnosed;
 use crate::dumped::Dumped;
 use crate::loaded::Loaded;
 use crate::recovered::Recovered;
@@ -18,6 +19,8 @@ pub enum Answer {
     Shown(StoreView),
     /// One file of a store was looked at.
     ShownFile(FileView),
+    /// A store was diagnosed.
+    Diagnosed(Diagnosed),
     /// What a store had lost was recovered.
     Recovered(Recovered),
     /// A catalog was looked at.
@@ -35,6 +38,7 @@ impl fmt::Display for Answer {
             Answer::Checked(checked) => write!(f, "{checked}"),
             Answer::Shown(view) => write!(f, "{view}"),
             Answer::ShownFile(view) => write!(f, "{view}"),
+            Answer::Diagnosed(diagnosed) => write!(f, "{diagnosed}"),
             Answer::Recovered(recovered) => write!(f, "{recovered}"),
             Answer::Designed(designed) => write!(f, "{designed}"),
             Answer::Loaded(loaded) => write!(f, "{loaded}"),

@@ -2,6 +2,7 @@
 use crate::answer::Answer;
 use crate::badness::word;
 use crate::checked::{Checked, Verdict, Wrong};
+use crate::diagnosed_json::diagnosed_object;
 use crate::recovered::Recovered;
 use crate::tables_json::{dumped_object, loaded_object};
 use cs_inspection::Badness;
@@ -21,6 +22,7 @@ pub fn answer_object(alloc: Global, answer: &Answer) -> Result<Value, AllocError
         Answer::Checked(checked) => checked_object(alloc, checked),
         Answer::Shown(view) => store_object(alloc, view),
         Answer::ShownFile(view) => shown_file_object(alloc, view),
+        Answer::Diagnosed(diagnosed) => diagnosed_object(alloc, diagnosed),
         Answer::Recovered(recovered) => recovered_object(alloc, recovered),
         Answer::Designed(designed) => design_object(alloc, &designed.design),
         Answer::Loaded(loaded) => loaded_object(alloc, loaded),
@@ -81,7 +83,7 @@ fn file_object(alloc: Global, catalog: &Catalog, name: FileName) -> Object {
 }
 
 /// A bad file.
-fn bad_object(
+pub fn bad_object(
     alloc: Global,
     catalog: &Catalog,
     name: FileName,

@@ -2,19 +2,25 @@
 #![tactic(auto)]
 
 mod answer;
+mod bad_files;
 mod badness;
 mod checked;
 mod designed;
+mod diagnosed;
+mod diagnosed_json;
 mod dumped;
+mod explained;
 mod json;
 mod loaded;
 mod printing;
 mod recovered;
 mod tables_json;
+mod unrecoverable;
 
 pub use answer::Answer;
 pub use checked::{Checked, Verdict};
 pub use designed::Designed;
+pub use diagnosed::Diagnosed;
 pub use dumped::Dumped;
 pub use loaded::Loaded;
 pub use printing::{say, say_refusal};

@@ -16,6 +16,7 @@ fn status(answer: &Answer) -> u8
 {
     match answer {
         Answer::Checked(checked) => checked.status(),
+        Answer::Diagnosed(diagnosed) => diagnosed.status(),
         _ => DONE,
     }
 }

@@ -1,2 +1,3 @@
 mod SafeNumbers
 mod SaidStatus
+mod AskedDiagnosis

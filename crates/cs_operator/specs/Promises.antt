@@ -13,6 +13,8 @@ use Rattle.cs_store.specs.declared.fault.StoreFault.{StoreFault}
 use Rattle.cs_recovery.specs.Claims.{IsRebuildAnswer, IsCheckAnswer}
 use Rattle.cs_inspection.specs.BadFiles.{AreBadFiles}
 use Rattle.cs_design.specs.Fatal.{IsSafeBeyond}
+use Rattle.cs_file_diagnosis.specs.Diagnoses.{IsDiagnosis}
+use Rattle.cs_file_diagnosis.specs.declared.diagnosing.Diagnosis.{Diagnosis}
 use Rattle.cs_reports.specs.Design.{IsDesign}
 use Rattle.cs_reports.specs.declared.design.Design.{Design}
 use Rattle.cs_places.specs.Finding.{FindsCatalog, FindsStore, LooksUp}
@@ -46,6 +48,17 @@ module _ {P S : Type 0} (reads : P → List ℕ → List ℕ → P → Type 0) (
     pub none_bad : is_bad ≡ false → (checked.bad.items ≡ []) × (unreadable ≡ [])
     pub judged : Judges catalog (contents_of files) is_bad checked.verdict
     pub restoring : restores t path checked.is_restoring
+
+  -- the store at this path was found and each of its files read, and this is the diagnosis of what could be read
+  pub record DiagnosesStore (refuses : S → FileName → StoreFault → S → Type 0) (s : P) (path : List ℕ) (at_most : Option ℕ) (diagnosis : Diagnosis) (t : P) : Type 0 where
+    pub catalog : CatalogData
+    pub files : Files
+    pub unreadable : List FileName
+    pub store : S
+    pub left : S
+    pub finds : FindsStore reads opens s path catalog store t
+    pub loads : LoadsReadable gives refuses (surviving catalog []) store files unreadable left
+    pub diagnosed : IsDiagnosis catalog (contents_of files) unreadable at_most diagnosis
 
   -- the store at this path was loaded without the lost sites, and its rebuild answered these files
   pub record RebuildsStore (s : P) (path : List ℕ) (L : Sites) (rebuilt : Files) (t : P) : Type 0 where
@@ -101,6 +114,7 @@ module _ {P S K I N : Type 0} (reads : P → List ℕ → List ℕ → P → Typ
   Performs s t (answer.Checked checked) = (path : List ℕ) × ChecksStore reads opens gives refuses restores s path checked t
   Performs s t (answer.Shown view) = (path : List ℕ) × ShowsStore reads opens gives refuses lists restores s path view t
   Performs s t (answer.ShownFile view) = (path : List ℕ) × (text : List ℕ) × ShowsFile reads opens gives s path text view t
+  Performs s t (answer.Diagnosed diagnosed) = (path : List ℕ) × (at_most : Option ℕ) × DiagnosesStore reads opens gives refuses s path at_most diagnosed.diagnosis t
   Performs s t (answer.Recovered recovered) = (path : List ℕ) × (L : Sites) × (output_path : List ℕ) × RecoversStore reads opens gives makes takes marks s path L output_path recovered.files t
   Performs s t (answer.Designed designed) = (path : List ℕ) × (lost : Sites) × DesignsCatalog reads draws s path lost designed.design t
   Performs s t (answer.Loaded loaded) = (catalog : List ℕ) × (table : List ℕ) × (store : List ℕ) × LoadsStore reads opens_table remaining begins takes_new marks_new s catalog table store loaded.files loaded.rows t

@@ -6,6 +6,7 @@
 
 mod checking;
 mod designing;
+mod diagnosing;
 mod dumping;
 mod host;
 mod judging;
@@ -16,10 +17,11 @@ mod showing;
 mod ways;
 
 pub use checking::check;
-pub use cs_answers::{Answer, Checked, Designed, Dumped, Loaded, Recovered, Verdict};
+pub use cs_answers::{Answer, Checked, Designed, Diagnosed, Dumped, Loaded, Recovered, Verdict};
 pub use cs_overview::{FileView, StoreView};
 pub use cs_places::{Folders, Listings, Places, Stop, report};
 pub use designing::design;
+pub use diagnosing::diagnose;
 pub use dumping::dump;
 pub use host::{CUT, Host, World};
 pub use loading::load;

@@ -6,6 +6,7 @@ ghost use Rattle.cs_answers.specs.declared.answer.Answer.{Answer};
 
 use crate::checking::check;
 use crate::designing::design;
+use crate::diagnosing::diagnose;
 use crate::dumping::dump;
 use crate::host::{Host, World};
 use crate::loading::load;
@@ -48,6 +49,7 @@ fn wants_json(request: &Request<'_>) -> bool {
     match request {
         Request::Check(checking) => checking.json,
         Request::Show(showing) => showing.json,
+        Request::Diagnose(diagnosing) => diagnosing.json,
         Request::Recover(recovering) => recovering.json,
         Request::Design(designing) => designing.json,
         Request::Load(loading) => loading.json,
@@ -60,6 +62,7 @@ fn is_quiet(request: &Request<'_>) -> bool {
     match request {
         Request::Check(checking) => checking.quiet,
         Request::Show(showing) => showing.quiet,
+        Request::Diagnose(diagnosing) => diagnosing.quiet,
         Request::Recover(recovering) => recovering.quiet,
         Request::Design(_) => false,
         Request::Load(loading) => loading.quiet,
@@ -100,6 +103,7 @@ fn refusing(request: &Request<'_>, json: bool) -> Option<&'static str> {
     match request {
         Request::Check(_) => Some("check"),
         Request::Show(_) => Some("show"),
+        Request::Diagnose(_) => Some("diagnose"),
         Request::Recover(_) => Some("recover"),
         Request::Design(_) => Some("design"),
         Request::Load(_) => Some("load"),
@@ -165,6 +169,10 @@ fn perform<R: Threads + Sync, G: Progress + Sync, P: World>(
             Err(stop) => Err(stop),
         },
         Request::Show(request) => perform_show(host, places, request),
+        Request::Diagnose(request) => match diagnose(host, places, request) {
+            Ok(diagnosed) => Ok(Answer::Diagnosed(diagnosed)),
+            Err(stop) => Err(stop),
+        },
         Request::Recover(request) => match recover(host, places, request) {
             Ok(recovered) => Ok(Answer::Recovered(recovered)),
             Err(stop) => Err(stop),

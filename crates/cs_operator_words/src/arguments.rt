@@ -51,6 +51,17 @@ pub fn k<'a>(alloc: Global) -> Arg<'a> {
         .help("Any K sites may fail, 0 to 16 [default: as many as the catalog allows]")
 }
 
+/// `--at-most N`.
+pub fn at_most<'a>(alloc: Global) -> Arg<'a> {
+    Arg::new(alloc, "at_most")
+        .long("at-most")
+        .value_name("N")
+        .value_parser(value_parser!(u8).range(1..=16))
+        .help(
+            "Try losses of at most N sites, 1 to 16 [default: as many as make the verdict certain]",
+        )
+}
+
 /// `SITE..`, the sites that are lost.
 pub fn lost_sites<'a>(alloc: Global) -> Arg<'a> {
     Arg::new(alloc, "sites")

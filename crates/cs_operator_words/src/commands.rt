@@ -11,6 +11,7 @@ pub fn program<'a>(alloc: Global) -> Made<'a> {
     let program = named(Command::new(alloc, "pinepolo"), "pinepolo");
     let whole = with_verb(described(program), check(alloc));
     let whole = with_verb(whole, show(alloc));
+    let whole = with_verb(whole, diagnose(alloc));
     let whole = with_verb(with_verb(whole, recover(alloc)), design(alloc));
     with_verb(with_verb(whole, tables::load(alloc)), tables::dump(alloc))
 }
@@ -36,6 +37,7 @@ pub fn verb<'a>(alloc: Global, name: &str) -> Option<Made<'a>> {
     match name {
         "check" => Some(check(alloc)),
         "show" => Some(show(alloc)),
+        "diagnose" => Some(diagnose(alloc)),
         "recover" => Some(recover(alloc)),
         "design" => Some(design(alloc)),
         "load" => Some(tables::load(alloc)),
@@ -82,6 +84,21 @@ fn show<'a>(alloc: Global) -> Made<'a> {
     let command = with(command, arguments::json(alloc));
     let command = with(command, arguments::store(alloc));
     with(command, arguments::file(alloc))
+}
+
+/// `diagnose [--at-most N] [--workers N] [--quiet] [--json] STORE`.
+fn diagnose<'a>(alloc: Global) -> Made<'a> {
+    let command = Command::new(alloc, "diagnose")
+        .about(help::DIAGNOSE)
+        .after_help(help::DIAGNOSE_END);
+    let command = with(
+        named(command, "pinepolo diagnose"),
+        arguments::at_most(alloc),
+    );
+    let command = with(command, arguments::workers(alloc));
+    let command = with(command, arguments::quiet(alloc));
+    let command = with(command, arguments::json(alloc));
+    with(command, arguments::store(alloc))
 }
 
 /// `recover [--workers N] [--quiet] [--json] STORE OUT SITE..`.

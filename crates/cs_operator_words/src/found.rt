@@ -1,7 +1,9 @@
 //! A verb's arguments, as they were found among the words.
-ghost use Rattle.std.specs.Prelude.{◌≤◌, IfSome};
+ghost use Rattle.std.specs.Prelude.{◌≡◌, ℕ, ◌≤◌, Some, IfSome, IfOk};
 
-use crate::request::{Checking, Designing, Dumping, Loading, Recovering, Request, Showing};
+use crate::request::{
+    Checking, Designing, Diagnosing, Dumping, Loading, Recovering, Request, Showing,
+};
 use crate::sites::sites_of;
 use clap::ArgMatches;
 
@@ -44,6 +46,36 @@ pub fn showing<'a>(found: &ArgMatches<'a>) -> Option<Request<'a>> {
         json: found.get_flag("json"),
         store,
         file: found.get_str("file"),
+    }))
+}
+
+/// How many sites a loss may have that is tried; an error where the number is no number of sites.
+fn at_most_of(found: &ArgMatches<'_>) -> Result<Option<u8>, ()>
+    ensures { IfOk result (λ at_most. (n : ℕ) → at_most ≡ Some n → n ≤ 16) }
+{
+    match found.get_one::<u8>("at_most") {
+        Some(sites) => {
+            if (1..=16).contains(&sites) {
+                Ok(Some(sites))
+            } else {
+                Err(())
+            }
+        }
+        None => Ok(None),
+    }
+}
+
+/// What `diagnose` asks for, if all arguments are there and within their limits.
+pub fn diagnosing<'a>(found: &ArgMatches<'a>, processors: u32) -> Option<Request<'a>> {
+    let workers = workers_of(found, processors)?;
+    let store = found.get_str("store")?;
+    let at_most = at_most_of(found).ok()?;
+    Some(Request::Diagnose(Diagnosing {
+        at_most,
+        workers,
+        quiet: found.get_flag("quiet"),
+        json: found.get_flag("json"),
+        store,
     }))
 }
 

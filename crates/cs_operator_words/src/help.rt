@@ -59,6 +59,28 @@ pub const SHOW_END: &str = concat!(
     "  4  a file, a folder or a stream failed",
 );
 
+/// What `diagnose` does.
+pub const DIAGNOSE: &str =
+    "Say which files are bad, and which lost sites explain the rest by which table";
+
+/// What stands below the help of `diagnose`.
+pub const DIAGNOSE_END: &str = concat!(
+    "Prints a line for each bad file, a line for each least loss of sites beside which the other files hold a table, and\n",
+    "whether these agree on one table.\n",
+    "\n",
+    "Example:\n",
+    "  pinepolo diagnose store\n",
+    "\n",
+    "Statuses:\n",
+    "  0  the store is sound\n",
+    "  1  one table explains the store\n",
+    "  2  wrong words\n",
+    "  3  out of memory\n",
+    "  4  a file, a folder or a stream failed\n",
+    "  5  ambiguous: more than one table explains the store\n",
+    "  6  not recoverable",
+);
+
 /// What `recover` does.
 pub const RECOVER: &str = "Rebuild the files of lost sites into a new folder";
 

@@ -15,4 +15,6 @@ mod table_help;
 mod tables;
 
 pub use parsing::{Unasked, parse};
-pub use request::{Checking, Designing, Dumping, Loading, Recovering, Request, Showing};
+pub use request::{
+    Checking, Designing, Diagnosing, Dumping, Loading, Recovering, Request, Showing,
+};

@@ -74,6 +74,7 @@ fn asked<'a>(matches: &ArgMatches<'a>, processors: u32) -> Option<Request<'a>> {
     match matches.subcommand() {
         Some(("check", found)) => found::checking(found, processors),
         Some(("show", found)) => found::showing(found),
+        Some(("diagnose", found)) => found::diagnosing(found, processors),
         Some(("recover", found)) => found::recovering(found, processors),
         Some(("design", found)) => found::designing(found),
         Some(("load", found)) => found::loading(found, processors),

@@ -1,5 +1,5 @@
 //! What the words of the command line can ask for.
-ghost use Rattle.std.specs.Prelude.{◌≤◌};
+ghost use Rattle.std.specs.Prelude.{◌≡◌, ℕ, ◌≤◌, Some};
 
 use cs_schema::Loss;
 
@@ -10,6 +10,8 @@ pub enum Request<'a> {
     Check(Checking<'a>),
     /// What a store holds, or one of its files.
     Show(Showing<'a>),
+    /// What is broken in a store, and what explains it.
+    Diagnose(Diagnosing<'a>),
     /// The files that a loss took from a store.
     Recover(Recovering<'a>),
     /// Which losses a catalog does not survive.
@@ -47,6 +49,23 @@ pub struct Showing<'a> {
     pub store: &'a str,
     /// The name of the file, where one is asked for.
     pub file: Option<&'a str>,
+}
+
+/// Which store to diagnose, and by the loss of how many sites.
+#[derive(Clone, Copy)]
+pub struct Diagnosing<'a> {
+    /// The greatest number of sites of a loss to try; where it is none, as many as make a verdict certain, and one at least.
+    pub at_most: Option<u8>,
+    /// How many workers there are.
+    pub workers: u32,
+    /// Whether no line shows how far it has come.
+    pub quiet: bool,
+    /// Whether the answer is JSON.
+    pub json: bool,
+    /// The folder of the store.
+    pub store: &'a str,
+    ghost workers_in_limits: { (1 ≤ workers) × (workers ≤ 64) },
+    pub ghost sites_in_limits: { (n : ℕ) → at_most ≡ Some n → n ≤ 16 },
 }
 
 /// What to recover, from where, to where, and by how many workers.

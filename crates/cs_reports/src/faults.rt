@@ -199,9 +199,7 @@ impl fmt::Display for Next<'_> {
             Fault::Write(_) => {
                 f.write_str("see that the disk has room, remove OUT, and run it again")
             }
-            _ => f.write_str(
-                "the files of one site were perhaps taken from another time: compare them with a backup",
-            ),
+            _ => f.write_str("run: pinepolo diagnose STORE"),
         }
     }
 }

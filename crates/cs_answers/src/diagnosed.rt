@@ -1,0 +1,108 @@
+//! What a diagnosis answers.
+ghost use Rattle.std.specs.Prelude.{◌≡◌};
+ghost use Rattle.cs_answers.specs.Statuses.{diagnosed_status};
+
+use crate::bad_files::BadLines;
+use crate::explained::{ExplanationLines, VerdictLine};
+use crate::unrecoverable::BringBack;
+use cs_file_diagnosis::{Diagnosis, Verdict};
+use cs_places::{DONE, REFUSED};
+use cs_reports::SiteWords;
+use cs_schema::{Catalog, Loss};
+use std::fmt;
+
+/// The status of a store that more than one table explains.
+pub const AMBIGUOUS: u8 = 5;
+
+/// The status of a store that nothing explains.
+pub const NOT_RECOVERABLE: u8 = 6;
+
+/// What a diagnosis found.
+#[derive(Drop)]
+pub struct Diagnosed {
+    /// The catalog of the store.
+    pub catalog: Catalog,
+    /// What is wrong with the store.
+    pub diagnosis: Diagnosis,
+    /// The least losses that must not come beside the first explanation, where all explanations have one table.
+    pub fatal: Vec<Loss>,
+}
+
+impl Diagnosed {
+    /// The status that tells it: 0 where the store is sound, 1 where one table explains it, 5 where more than one does, 6 where
+    /// none does.
+    pub fn status(&self) -> u8
+        ensures { result ≡ diagnosed_status self.now.diagnosis.verdict }
+    {
+        match self.diagnosis.verdict {
+            Verdict::Sound => DONE,
+            Verdict::OneTable => REFUSED,
+            Verdict::Ambiguous => AMBIGUOUS,
+            Verdict::NotRecoverable => NOT_RECOVERABLE,
+        }
+    }
+
+    /// The sites whose files are not to be kept.
+    fn write_forced<W: fmt::Write>(&self, f: &mut fmt::Formatter<W>) -> fmt::Result {
+        let forced = self.diagnosis.forced;
+        if forced.count() == 0 {
+            return Ok(());
+        }
+        writeln!(f, "not to be kept: sites {forced}")
+    }
+
+    /// The restoring that one table allows, and what must not be lost after the first explanation.
+    fn write_restoring<W: fmt::Write>(&self, f: &mut fmt::Formatter<W>) -> fmt::Result {
+        let Some(first) = self.diagnosis.explanations.first() else {
+            return Ok(());
+        };
+        let sites = SiteWords(first.loss);
+        writeln!(f, "next: pinepolo restore STORE{sites}")?;
+        if self.fatal.is_empty() {
+            return Ok(());
+        }
+        let mut separator = "then fatal: ";
+        for loss in &self.fatal {
+            write!(f, "{separator}{loss}")?;
+            separator = "  ";
+        }
+        writeln!(f)
+    }
+
+    /// What to do next.
+    fn write_next<W: fmt::Write>(&self, f: &mut fmt::Formatter<W>) -> fmt::Result {
+        match self.diagnosis.verdict {
+            Verdict::Sound => Ok(()),
+            Verdict::OneTable => self.write_restoring(f),
+            Verdict::Ambiguous => f.write_str(
+                "which of the tables is the store's, its files don't say: compare them with a manifest or a backup, or look at them\n",
+            ),
+            Verdict::NotRecoverable => {
+                let back = BringBack {
+                    catalog: &self.catalog,
+                    forced: self.diagnosis.forced,
+                };
+                write!(f, "{back}")
+            }
+        }
+    }
+}
+
+impl fmt::Display for Diagnosed {
+    fn fmt<W: fmt::Write>(&self, f: &mut fmt::Formatter<W>) -> fmt::Result {
+        let diagnosis = &self.diagnosis;
+        let verdict = VerdictLine(diagnosis);
+        if let Verdict::Sound = diagnosis.verdict {
+            return write!(f, "{verdict}");
+        }
+        let bad = BadLines {
+            catalog: &self.catalog,
+            bad: diagnosis.bad.as_slice(),
+        };
+        write!(f, "{bad}")?;
+        self.write_forced(f)?;
+        let explanations = ExplanationLines(diagnosis);
+        write!(f, "{explanations}{verdict}")?;
+        self.write_next(f)
+    }
+}
