@@ -282,7 +282,7 @@ impl FileView {
         let (at, length, wanted) = (nonsense.at, self.report.length, nonsense.wanted);
         writeln!(
             f,
-            "damaged: byte {at} of {length} begins no sense, wanted there: {wanted}"
+            "damaged: byte {at} of {length} makes no sense; expected there: {wanted}"
         )?;
         let site = site_of(&self.catalog, self.name.projection(), self.name.segment());
         let sites = SiteWords(with_site(Loss::none(), site));

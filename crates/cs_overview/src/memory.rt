@@ -16,8 +16,8 @@ fn image_bytes(catalog: &Catalog, p: u16, rows: u64) -> u64 {
     }
 }
 
-/// About how many bytes a recovery takes, by the files that are sound: each file three times, as it is read, as its cells
-/// are kept and as files are written, and 12 bytes for each cell of a segment.
+/// About how many bytes a recovery takes, by the files that were read: each file three times, as it is read, as its cells
+/// are kept and as files are written, and 12 bytes for each cell of a sound segment.
 pub fn recovery_memory(catalog: &Catalog, lines: &[FileLine]) -> u64 {
     let mut bytes = 0u64;
     for line in lines {

@@ -199,7 +199,7 @@ impl fmt::Display for Next<'_> {
             Fault::Write(_) => {
                 f.write_str("see that the disk has room, remove OUT, and run it again")
             }
-            _ => f.write_str("run: pinepolo diagnose STORE"),
+            _ => f.write_str("pinepolo diagnose STORE"),
         }
     }
 }
