@@ -1,7 +1,7 @@
-//! A new store from a CSV, the table of a store as CSV, and a store's table laid out anew.
+//! A new store from a CSV, and the table of a store as CSV.
 //!
-//! Promises that the files of a load hold exactly the table of the CSV's rows, that a dump's text is that of the table
-//! which the surviving files hold, and that a store laid out anew holds that table.
+//! Promises that the files of a load hold exactly the table of the CSV's rows, and that a dump's text is that of the table
+//! which the surviving files hold.
 #![tactic(auto)]
 
 mod building;

@@ -1,0 +1,9 @@
+pub mod NameLemmas
+pub mod ArrangeLemmas
+pub mod CatalogNames
+pub mod RowLemmas
+pub mod TableLemmas
+pub mod DifferenceLemmas
+pub mod BackLemmas
+pub mod AnswerLemmas
+pub mod RoomLemmas

@@ -1,0 +1,4 @@
+pub mod ByName
+pub mod Differences
+pub mod Relayout
+pub mod Laws

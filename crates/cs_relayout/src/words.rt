@@ -1,0 +1,82 @@
+//! Why a store is not laid out anew, in words.
+
+use crate::differences::Difference;
+use crate::fault::RelayoutFault;
+use cs_schema::{Catalog, Kind};
+use std::fmt;
+
+/// Why a store of the old catalog is not laid out under the new one, as one line without its end.
+#[derive(Clone, Copy)]
+pub struct RelayoutWords<'a> {
+    pub old: &'a Catalog,
+    pub new: &'a Catalog,
+    pub fault: &'a RelayoutFault,
+}
+
+/// The name of a column.
+fn column_name(catalog: &Catalog, column: usize) -> &str {
+    match catalog.columns.get(column) {
+        Some(column) => column.name.as_str(),
+        None => "no column",
+    }
+}
+
+impl RelayoutWords<'_> {
+    /// A column of two kinds.
+    fn write_kinds<W: fmt::Write>(&self, f: &mut fmt::Formatter<W>, column: usize) -> fmt::Result {
+        let new = self.new;
+        let name = column_name(new, column);
+        let (kind, was) = match new.columns.get(column) {
+            Some(column) if column.kind == Kind::Int => ("int", "text"),
+            _ => ("text", "int"),
+        };
+        write!(
+            f,
+            "column {name} is {kind} in the new catalog, {was} in the store"
+        )
+    }
+
+    /// How the catalogs differ.
+    fn write_difference<W: fmt::Write>(
+        &self,
+        f: &mut fmt::Formatter<W>,
+        difference: Difference,
+    ) -> fmt::Result {
+        let (old, new) = (self.old, self.new);
+        match difference {
+            Difference::Missing { column } => {
+                let name = column_name(old, column);
+                write!(f, "column {name} is missing in the new catalog")
+            }
+            Difference::Unknown { column } => {
+                let name = column_name(new, column);
+                write!(f, "column {name} is no column of the store")
+            }
+            Difference::Kind { column } => self.write_kinds(f, column),
+            Difference::Key => {
+                let name = column_name(new, new.key as usize);
+                let was = column_name(old, old.key as usize);
+                write!(
+                    f,
+                    "the primary key is {name} in the new catalog, {was} in the store"
+                )
+            }
+        }
+    }
+}
+
+impl fmt::Display for RelayoutWords<'_> {
+    fn fmt<W: fmt::Write>(&self, f: &mut fmt::Formatter<W>) -> fmt::Result {
+        match self.fault {
+            RelayoutFault::Memory => f.write_str("want of memory"),
+            RelayoutFault::Differs(difference) => self.write_difference(f, *difference),
+            RelayoutFault::Unsafe => f.write_str(
+                "the new catalog is unsafe: no projection reaches every column by joins",
+            ),
+            RelayoutFault::Store(fault) => write!(f, "{fault}"),
+            RelayoutFault::Full { p, s, rows } => {
+                write!(f, "p{p}.s{s} of the new catalog is full: {rows} rows")
+            }
+        }
+    }
+}
