@@ -4,6 +4,8 @@ use Rattle.cs_answers.specs.declared.checked.Verdict.{Verdict}
 use Rattle.cs_answers.specs.declared.checked.Verdict.TheVariants.{Sound}
 use Rattle.cs_diagnosis.specs.declared.findings.Verdict.{Verdict as FoundVerdict}
 use Rattle.cs_diagnosis.specs.declared.findings.Verdict.TheVariants as Found
+use Rattle.cs_answers.specs.declared.restoration.Restoration.{Restoration}
+use Rattle.cs_answers.specs.declared.restoration.Restoration.TheVariants as restoration
 use Rattle.cs_answers.specs.declared.answer.Answer.{Answer}
 use Rattle.cs_answers.specs.declared.answer.Answer.TheVariants as answer
 
@@ -20,8 +22,14 @@ diagnosed_status Found.OneTable = 1
 diagnosed_status Found.Ambiguous = 5
 diagnosed_status Found.NotRecoverable = 6
 
--- 0, but of a check and of a diagnosis that of its verdict
+-- 0 where a store was restored, 5 where its loss is doubtful
+abbrev pub restoration_status : Restoration → ℕ
+restoration_status (restoration.Done _) = 0
+restoration_status (restoration.Doubted _) = 5
+
+-- 0, but of a check, of a diagnosis and of a restore that of what it came to
 abbrev pub answer_status : Answer → ℕ
 answer_status (answer.Checked checked) = checked_status checked.verdict checked.is_unreadable
 answer_status (answer.Diagnosed diagnosed) = diagnosed_status diagnosed.diagnosis.verdict
+answer_status (answer.Restored restored) = restoration_status restored
 answer_status _ = 0

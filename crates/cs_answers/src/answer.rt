@@ -5,6 +5,7 @@ use crate::diagnosed::Diagnosed;
 use crate::dumped::Dumped;
 use crate::loaded::Loaded;
 use crate::recovered::Recovered;
+use crate::restoration::Restoration;
 use cs_overview::{FileView, StoreView};
 use std::fmt;
 
@@ -23,6 +24,8 @@ pub enum Answer {
     Diagnosed(Diagnosed),
     /// What a store had lost was recovered.
     Recovered(Recovered),
+    /// A store was restored in place, or it was doubtful what it had lost.
+    Restored(Restoration),
     /// A catalog was looked at.
     Designed(Designed),
     /// A store was made from a CSV.
@@ -40,6 +43,7 @@ impl fmt::Display for Answer {
             Answer::ShownFile(view) => write!(f, "{view}"),
             Answer::Diagnosed(diagnosed) => write!(f, "{diagnosed}"),
             Answer::Recovered(recovered) => write!(f, "{recovered}"),
+            Answer::Restored(restoration) => write!(f, "{restoration}"),
             Answer::Designed(designed) => write!(f, "{designed}"),
             Answer::Loaded(loaded) => write!(f, "{loaded}"),
             Answer::Dumped(dumped) => write!(f, "{dumped}"),

@@ -1,14 +1,16 @@
 //! What a diagnosis answers.
-ghost use Rattle.std.specs.Prelude.{◌≡◌};
+ghost use Rattle.std.specs.Prelude.{◌≡◌, IfOk};
 ghost use Rattle.cs_answers.specs.Statuses.{diagnosed_status};
 
 use crate::bad_files::BadLines;
 use crate::explained::{ExplanationLines, VerdictLine};
 use crate::unrecoverable::BringBack;
+use cs_design::fatal_losses;
 use cs_file_diagnosis::{Diagnosis, Verdict};
 use cs_places::{DONE, REFUSED};
 use cs_reports::SiteWords;
 use cs_schema::{Catalog, Loss};
+use std::alloc::{AllocError, Global};
 use std::fmt;
 
 /// The status of a store that more than one table explains.
@@ -28,7 +30,33 @@ pub struct Diagnosed {
     pub fatal: Vec<Loss>,
 }
 
+/// The losses that must not come beside the first explanation, where one table explains a store.
+fn fatal_beside(
+    alloc: Global,
+    catalog: &Catalog,
+    diagnosis: &Diagnosis,
+) -> Result<Vec<Loss>, AllocError> {
+    match (diagnosis.verdict, diagnosis.explanations.first()) {
+        (Verdict::OneTable, Some(first)) => fatal_losses(alloc, catalog, first.loss),
+        _ => Ok(Vec::new(alloc)),
+    }
+}
+
 impl Diagnosed {
+    /// What a diagnosis of a store with this catalog found.
+    pub fn new(alloc: Global, catalog: Catalog, diagnosis: Diagnosis) -> Result<Self, AllocError>
+        ensures { IfOk result (λ found. (found.catalog ≡ catalog) × (found.diagnosis ≡ diagnosis)) }
+    {
+        match fatal_beside(alloc, &catalog, &diagnosis) {
+            Ok(fatal) => Ok(Self {
+                catalog,
+                diagnosis,
+                fatal,
+            }),
+            Err(refused) => Err(refused),
+        }
+    }
+
     /// The status that tells it: 0 where the store is sound, 1 where one table explains it, 5 where more than one does, 6 where
     /// none does.
     pub fn status(&self) -> u8

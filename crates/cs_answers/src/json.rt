@@ -4,6 +4,7 @@ use crate::badness::word;
 use crate::checked::{Checked, Verdict, Wrong};
 use crate::diagnosed_json::diagnosed_object;
 use crate::recovered::Recovered;
+use crate::restored_json::restoration_object;
 use crate::tables_json::{dumped_object, loaded_object};
 use cs_inspection::Badness;
 use cs_overview::{file_object as shown_file_object, store_object};
@@ -24,6 +25,7 @@ pub fn answer_object(alloc: Global, answer: &Answer) -> Result<Value, AllocError
         Answer::ShownFile(view) => shown_file_object(alloc, view),
         Answer::Diagnosed(diagnosed) => diagnosed_object(alloc, diagnosed),
         Answer::Recovered(recovered) => recovered_object(alloc, recovered),
+        Answer::Restored(restoration) => restoration_object(alloc, restoration),
         Answer::Designed(designed) => design_object(alloc, &designed.design),
         Answer::Loaded(loaded) => loaded_object(alloc, loaded),
         Answer::Dumped(dumped) => dumped_object(alloc, dumped),
@@ -74,7 +76,7 @@ fn bad_objects(alloc: Global, checked: &Checked) -> Result<Value, AllocError> {
 }
 
 /// A file by its path and its site.
-fn file_object(alloc: Global, catalog: &Catalog, name: FileName) -> Object {
+pub fn file_object(alloc: Global, catalog: &Catalog, name: FileName) -> Object {
     let site = site_of(catalog, name.projection(), name.segment());
     let path = name.path();
     Object::new(alloc)

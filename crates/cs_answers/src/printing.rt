@@ -17,6 +17,7 @@ fn status(answer: &Answer) -> u8
     match answer {
         Answer::Checked(checked) => checked.status(),
         Answer::Diagnosed(diagnosed) => diagnosed.status(),
+        Answer::Restored(restoration) => restoration.status(),
         _ => DONE,
     }
 }

@@ -32,27 +32,28 @@ pub struct FolderShelf<R> {
 }
 
 impl<R: Files + Copy + Drop> FolderShelf<R> {
-    /// The store at this path, whose files have at most so many bytes, and which was taken so, or is only looked at. Nothing
-    /// is read or made.
-    pub fn new(
-        alloc: Global,
-        rt: R,
-        path: &str,
-        limits: FileLimits,
-        taken: Option<Taken>,
-    ) -> Result<Self, StoreFault> {
+    /// The store at this path, whose files have at most so many bytes. It is only looked at: nothing is read or made.
+    pub fn new(alloc: Global, rt: R, path: &str, limits: FileLimits) -> Result<Self, StoreFault> {
         let source = StoreFolder::new(alloc, rt, path, limits)?;
         let path = String::from_str(alloc, path).map_err(no_memory)?;
         Ok(Self {
             alloc,
             rt,
             path,
-            taken,
+            taken: None,
             source,
             has_kept: false,
             has_changed: false,
             faults: 0,
         })
+    }
+
+    /// The same store, whose folder was taken so.
+    pub fn taken_by(self, taken: Taken) -> Self {
+        Self {
+            taken: Some(taken),
+            ..self
+        }
     }
 
     /// The N of `replaced/N`.

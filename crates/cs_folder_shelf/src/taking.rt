@@ -31,6 +31,13 @@ pub struct Taken {
     lock: File,
 }
 
+impl Taken {
+    /// The sites whose loss the folder is taken for.
+    pub fn lost(&self) -> Loss {
+        self.record.lost
+    }
+}
+
 /// Why a folder isn't taken.
 #[derive(Debug, Drop)]
 pub enum Untaken {
@@ -112,6 +119,9 @@ pub fn take<R: Files<File = File>>(
         Ok(path) => path,
         Err(_) => return Err(Untaken::Memory),
     };
+    if fs::exists(rt, path.as_str()).map_err(failed)? {
+        return Err(Untaken::Unfinished);
+    }
     let kept = free_number(alloc, rt, store).map_err(failed)?;
     let record = Record { lost, kept };
     let (beside, mut file) = new_beside(alloc, rt, path.as_str()).map_err(failed)?;

@@ -23,6 +23,7 @@ use Rattle.cs_answers.specs.declared.checked.Checked.{Checked}
 use Rattle.cs_answers.specs.declared.checked.Verdict.{Verdict}
 use Rattle.cs_answers.specs.declared.checked.Verdict.TheVariants.{Sound, Fatal, BadFiles, Unsound}
 use Rattle.cs_operator.specs.TablePromises.{DumpsStore, LoadsStore}
+use Rattle.cs_restoring.specs.Restores.{DoesRestore}
 use Rattle.cs_answers.specs.declared.answer.Answer.{Answer}
 use Rattle.cs_answers.specs.declared.answer.Answer.TheVariants as answer
 
@@ -106,8 +107,9 @@ module _ {P : Type 0} (reads : P → List ℕ → List ℕ → P → Type 0) (dr
     pub is : IsDesign catalog lost design
     pub drawn : IsDrawn reached t
 
-module _ {P S K I N : Type 0} (reads : P → List ℕ → List ℕ → P → Type 0) (opens : P → List ℕ → CatalogData → S → Type 0) (draws : P → List ℕ → List ℕ → P → Type 0) (makes : P → List ℕ → K → P → Type 0) (gives : S → FileName → Option (List ℕ) → S → Type 0) (refuses : S → FileName → StoreFault → S → Type 0) (takes : K → FileName → List ℕ → K → Type 0) (marks : K → ℕ → K → Type 0)
-    (opens_table : P → List ℕ → I → P → Type 0) (remaining : I → Option (List ℕ)) (begins : P → List ℕ → List ℕ → N → P → Type 0) (takes_new : N → FileName → List ℕ → N → Type 0) (marks_new : N → ℕ → N → Type 0) (writes_table : P → List ℕ → List ℕ → P → Type 0) (lists : P → List ℕ → List (List ℕ) → P → Type 0) (restores : P → List ℕ → Bool → Type 0) where
+module _ {P S K I N B : Type 0} (reads : P → List ℕ → List ℕ → P → Type 0) (opens : P → List ℕ → CatalogData → S → Type 0) (draws : P → List ℕ → List ℕ → P → Type 0) (makes : P → List ℕ → K → P → Type 0) (gives : S → FileName → Option (List ℕ) → S → Type 0) (refuses : S → FileName → StoreFault → S → Type 0) (takes : K → FileName → List ℕ → K → Type 0) (marks : K → ℕ → K → Type 0)
+    (opens_table : P → List ℕ → I → P → Type 0) (remaining : I → Option (List ℕ)) (begins : P → List ℕ → List ℕ → N → P → Type 0) (takes_new : N → FileName → List ℕ → N → Type 0) (marks_new : N → ℕ → N → Type 0) (writes_table : P → List ℕ → List ℕ → P → Type 0) (lists : P → List ℕ → List (List ℕ) → P → Type 0) (restores : P → List ℕ → Bool → Type 0)
+    (takes_store : P → List ℕ → CatalogData → Sites → B → P → Type 0) (looks_at : P → List ℕ → CatalogData → B → Type 0) (gives_back : P → B → Bool → P → Type 0) (holds may_leave : B → Files → Type 0) where
   -- what was done for this answer; for a help text nothing
   abbrev pub Performs : P → P → Answer → Type 0
   Performs s t (answer.Told text) = t ≡ s
@@ -116,6 +118,7 @@ module _ {P S K I N : Type 0} (reads : P → List ℕ → List ℕ → P → Typ
   Performs s t (answer.ShownFile view) = (path : List ℕ) × (text : List ℕ) × ShowsFile reads opens gives s path text view t
   Performs s t (answer.Diagnosed diagnosed) = (path : List ℕ) × (at_most : Option ℕ) × DiagnosesStore reads opens gives refuses s path at_most diagnosed.diagnosis t
   Performs s t (answer.Recovered recovered) = (path : List ℕ) × (L : Sites) × (output_path : List ℕ) × RecoversStore reads opens gives makes takes marks s path L output_path recovered.files t
+  Performs s t (answer.Restored restoration) = (path : List ℕ) × DoesRestore reads opens takes_store looks_at gives_back holds may_leave s path restoration t
   Performs s t (answer.Designed designed) = (path : List ℕ) × (lost : Sites) × DesignsCatalog reads draws s path lost designed.design t
   Performs s t (answer.Loaded loaded) = (catalog : List ℕ) × (table : List ℕ) × (store : List ℕ) × LoadsStore reads opens_table remaining begins takes_new marks_new s catalog table store loaded.files loaded.rows t
   Performs s t (answer.Dumped dumped) = (path : List ℕ) × (L : Sites) × DumpsStore reads opens gives writes_table s path L dumped t

@@ -5,28 +5,14 @@ ghost use Rattle.cs_operator.specs.Promises.{DiagnosesStore};
 
 use crate::host::Host;
 use cs_answers::Diagnosed;
-use cs_design::fatal_losses;
-use cs_file_diagnosis::{Diagnosis, Verdict, diagnose as diagnose_files};
+use cs_file_diagnosis::diagnose as diagnose_files;
 use cs_operator_words::Diagnosing;
 use cs_places::{Places, Stop, find_store};
 use cs_progress::{Progress, Stage};
-use cs_schema::{Catalog, Loss};
+use cs_schema::Loss;
 use cs_store::load_readable;
-use std::alloc::{AllocError, Global};
 use std::marker::Sync;
 use std::thread::Threads;
-
-/// The losses that must not come beside the first explanation, where one table explains a store.
-fn fatal_beside(
-    alloc: Global,
-    catalog: &Catalog,
-    diagnosis: &Diagnosis,
-) -> Result<Vec<Loss>, AllocError> {
-    match (diagnosis.verdict, diagnosis.explanations.first()) {
-        (Verdict::OneTable, Some(first)) => fatal_losses(alloc, catalog, first.loss),
-        _ => Ok(Vec::new(alloc)),
-    }
-}
 
 /// What is broken in a store, and which lost sites explain the rest by which table.
 pub fn diagnose<R: Threads + Sync, G: Progress + Sync, P: Places>(
@@ -53,12 +39,8 @@ pub fn diagnose<R: Threads + Sync, G: Progress + Sync, P: Places>(
     else {
         return Err(Stop::Memory);
     };
-    match fatal_beside(alloc, &catalog, &diagnosis) {
-        Ok(fatal) => Ok(Diagnosed {
-            catalog,
-            diagnosis,
-            fatal,
-        }),
+    match Diagnosed::new(alloc, catalog, diagnosis) {
+        Ok(diagnosed) => Ok(diagnosed),
         Err(_) => Err(Stop::Memory),
     }
 }

@@ -1,9 +1,10 @@
 //! What a program runs on, and by what its verbs work.
 ghost use Rattle.std.specs.Prelude.{◌≤◌};
 
-use cs_places::{Folders, Listings, Places, Tables};
+use cs_places::{Folders, Listings, Places, Shelves, Tables};
 use cs_rebuild::Run;
 use std::alloc::Global;
+use std::fs::File;
 use std::rt::Files;
 
 /// How many rows a piece of work has.
@@ -36,6 +37,6 @@ impl<'a, R, G> Host<'a, R, G> {
 }
 
 /// All that the verbs of a program find and make by path.
-pub trait World: Places + Tables + Listings {}
+pub trait World: Places + Tables + Listings + Shelves {}
 
-impl<R: Files + Alloc + Copy + Drop> World for Folders<R> {}
+impl<R: Files<File = File> + Alloc + Copy + Drop> World for Folders<R> {}

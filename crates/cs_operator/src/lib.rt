@@ -17,9 +17,12 @@ mod showing;
 mod ways;
 
 pub use checking::check;
-pub use cs_answers::{Answer, Checked, Designed, Diagnosed, Dumped, Loaded, Recovered, Verdict};
+pub use cs_answers::{
+    Answer, Checked, Designed, Diagnosed, Dumped, Loaded, Recovered, Restoration, Verdict,
+};
 pub use cs_overview::{FileView, StoreView};
-pub use cs_places::{Folders, Listings, Places, Stop, report};
+pub use cs_places::{Folders, Listings, Places, Shelves, Stop, report};
+pub use cs_restoring::restore;
 pub use designing::design;
 pub use diagnosing::diagnose;
 pub use dumping::dump;

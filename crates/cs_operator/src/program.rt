@@ -13,9 +13,10 @@ use crate::loading::load;
 use crate::recovering::recover;
 use crate::showing::{show, show_file};
 use cs_answers::{Answer, say, say_refusal};
-use cs_operator_words::{Request, Showing, Unasked, parse};
+use cs_operator_words::{Request, Restoring, Showing, Unasked, parse};
 use cs_places::{DONE, Stop, report};
 use cs_progress::Progress;
+use cs_restoring::restore;
 use std::alloc::Global;
 use std::io::Write;
 use std::marker::Sync;
@@ -33,7 +34,7 @@ pub fn run<R: Threads + Sync, G: Progress + Sync, P: World, W: Write, E: Write>(
     ensures status { result ≤ 6 }
     ensures done { result ≡ DONE → (answer : Answer) × (answer_status answer ≡ 0) × Performs P.reads P.opens P.draws P.makes
         P.Store.gives P.Store.refuses P.Output.takes P.Output.marks
-        P.opens_table P.Input.remaining P.begins P.NewStore.takes P.NewStore.marks P.writes_table P.lists P.restores places.old places.new answer }
+        P.opens_table P.Input.remaining P.begins P.NewStore.takes P.NewStore.marks P.writes_table P.lists P.restores P.takes_store P.looks_at P.gives_back P.Shelf.holds P.Shelf.may_leave places.old places.new answer }
 {
     let alloc = host.alloc;
     match parse(alloc, words, host.processors) {
@@ -51,6 +52,7 @@ fn wants_json(request: &Request<'_>) -> bool {
         Request::Show(showing) => showing.json,
         Request::Diagnose(diagnosing) => diagnosing.json,
         Request::Recover(recovering) => recovering.json,
+        Request::Restore(restoring) => restoring.json,
         Request::Design(designing) => designing.json,
         Request::Load(loading) => loading.json,
         Request::Dump(_) => false,
@@ -64,6 +66,7 @@ fn is_quiet(request: &Request<'_>) -> bool {
         Request::Show(showing) => showing.quiet,
         Request::Diagnose(diagnosing) => diagnosing.quiet,
         Request::Recover(recovering) => recovering.quiet,
+        Request::Restore(restoring) => restoring.quiet,
         Request::Design(_) => false,
         Request::Load(loading) => loading.quiet,
         Request::Dump(dumping) => dumping.quiet,
@@ -81,7 +84,7 @@ fn run_request<R: Threads + Sync, G: Progress + Sync, P: World, W: Write, E: Wri
     ensures status { result ≤ 6 }
     ensures done { result ≡ DONE → (answer : Answer) × (answer_status answer ≡ 0) × Performs P.reads P.opens P.draws P.makes
         P.Store.gives P.Store.refuses P.Output.takes P.Output.marks
-        P.opens_table P.Input.remaining P.begins P.NewStore.takes P.NewStore.marks P.writes_table P.lists P.restores places.old places.new answer }
+        P.opens_table P.Input.remaining P.begins P.NewStore.takes P.NewStore.marks P.writes_table P.lists P.restores P.takes_store P.looks_at P.gives_back P.Shelf.holds P.Shelf.may_leave places.old places.new answer }
 {
     let json = wants_json(request);
     if is_quiet(request) {
@@ -105,6 +108,7 @@ fn refusing(request: &Request<'_>, json: bool) -> Option<&'static str> {
         Request::Show(_) => Some("show"),
         Request::Diagnose(_) => Some("diagnose"),
         Request::Recover(_) => Some("recover"),
+        Request::Restore(_) => Some("restore"),
         Request::Design(_) => Some("design"),
         Request::Load(_) => Some("load"),
         Request::Dump(_) => Some("dump"),
@@ -138,7 +142,7 @@ fn perform_show<R: Threads + Sync, G: Progress + Sync, P: World>(
 ) -> Result<Answer, Stop>
     ensures { IfOk result (Performs P.reads P.opens P.draws P.makes P.Store.gives P.Store.refuses
         P.Output.takes P.Output.marks P.opens_table P.Input.remaining P.begins P.NewStore.takes P.NewStore.marks P.writes_table P.lists P.restores
-        places.old places.new) }
+        P.takes_store P.looks_at P.gives_back P.Shelf.holds P.Shelf.may_leave places.old places.new) }
 {
     let (store, file) = (request.store, request.file);
     match file {
@@ -153,6 +157,23 @@ fn perform_show<R: Threads + Sync, G: Progress + Sync, P: World>(
     }
 }
 
+/// Restores a store in place.
+fn perform_restore<R: Threads + Sync, G: Progress + Sync, P: World>(
+    host: &Host<'_, R, G>,
+    places: &mut P,
+    request: &Restoring<'_>,
+) -> Result<Answer, Stop>
+    ensures { IfOk result (Performs P.reads P.opens P.draws P.makes P.Store.gives P.Store.refuses
+        P.Output.takes P.Output.marks P.opens_table P.Input.remaining P.begins P.NewStore.takes P.NewStore.marks P.writes_table P.lists P.restores
+        P.takes_store P.looks_at P.gives_back P.Shelf.holds P.Shelf.may_leave places.old places.new) }
+{
+    let run = host.run_by(request.workers);
+    match restore(&run, places, request) {
+        Ok(restoration) => Ok(Answer::Restored(restoration)),
+        Err(stop) => Err(stop),
+    }
+}
+
 /// Does what a request asks for.
 fn perform<R: Threads + Sync, G: Progress + Sync, P: World>(
     host: &Host<'_, R, G>,
@@ -161,7 +182,7 @@ fn perform<R: Threads + Sync, G: Progress + Sync, P: World>(
 ) -> Result<Answer, Stop>
     ensures { IfOk result (Performs P.reads P.opens P.draws P.makes P.Store.gives P.Store.refuses
         P.Output.takes P.Output.marks P.opens_table P.Input.remaining P.begins P.NewStore.takes P.NewStore.marks P.writes_table P.lists P.restores
-        places.old places.new) }
+        P.takes_store P.looks_at P.gives_back P.Shelf.holds P.Shelf.may_leave places.old places.new) }
 {
     match request {
         Request::Check(request) => match check(host, places, request) {
@@ -177,6 +198,7 @@ fn perform<R: Threads + Sync, G: Progress + Sync, P: World>(
             Ok(recovered) => Ok(Answer::Recovered(recovered)),
             Err(stop) => Err(stop),
         },
+        Request::Restore(request) => perform_restore(host, places, request),
         Request::Design(request) => match design(host.alloc, places, request) {
             Ok(designed) => Ok(Answer::Designed(designed)),
             Err(stop) => Err(stop),

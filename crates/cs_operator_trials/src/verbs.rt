@@ -2,6 +2,7 @@
 use anyhow::Result;
 use cs_operator::{Folders, Host, run};
 use cs_progress::OpenGate;
+use std::fs::File;
 use std::io;
 use std::io::Write;
 use std::marker::Sync;
@@ -29,7 +30,7 @@ impl Write for Full {
 fn run_over<R, F, W, E>(rt: &R, files: F, words: &[&str], out: &mut W, err: &mut E) -> Result<u8>
 where
     R: Threads + Sync + AllocGlobal,
-    F: Files + Alloc + Copy + Drop,
+    F: Files<File = File> + Alloc + Copy + Drop,
     W: Write,
     E: Write,
 {
@@ -50,11 +51,10 @@ where
 
 /// Runs a verb over the folders, and prints its lines and its status. Words that begin with `full` are those of a verb
 /// whose standard output takes nothing.
-pub fn answered<R: Threads + Sync + AllocGlobal + Print, F: Files + Alloc + Copy + Drop>(
-    rt: &R,
-    files: F,
-    words: &[&str],
-) -> Result<()> {
+pub fn answered<
+    R: Threads + Sync + AllocGlobal + Print,
+    F: Files<File = File> + Alloc + Copy + Drop,
+>(rt: &R, files: F, words: &[&str]) -> Result<()> {
     let alloc = rt.alloc();
     let mut out = Vec::new(alloc);
     let mut err = Vec::new(alloc);

@@ -1,5 +1,5 @@
 //! The verbs, as the command line knows them.
-use crate::{arguments, help, tables};
+use crate::{arguments, help, restores, tables};
 use clap::{Arg, Command, Error};
 use std::alloc::Global;
 
@@ -12,7 +12,8 @@ pub fn program<'a>(alloc: Global) -> Made<'a> {
     let whole = with_verb(described(program), check(alloc));
     let whole = with_verb(whole, show(alloc));
     let whole = with_verb(whole, diagnose(alloc));
-    let whole = with_verb(with_verb(whole, recover(alloc)), design(alloc));
+    let whole = with_verb(with_verb(whole, recover(alloc)), restores::restore(alloc));
+    let whole = with_verb(whole, design(alloc));
     with_verb(with_verb(whole, tables::load(alloc)), tables::dump(alloc))
 }
 
@@ -39,6 +40,7 @@ pub fn verb<'a>(alloc: Global, name: &str) -> Option<Made<'a>> {
         "show" => Some(show(alloc)),
         "diagnose" => Some(diagnose(alloc)),
         "recover" => Some(recover(alloc)),
+        "restore" => Some(restores::restore(alloc)),
         "design" => Some(design(alloc)),
         "load" => Some(tables::load(alloc)),
         "dump" => Some(tables::dump(alloc)),

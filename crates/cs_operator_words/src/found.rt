@@ -2,7 +2,7 @@
 ghost use Rattle.std.specs.Prelude.{◌≡◌, ℕ, ◌≤◌, Some, IfSome, IfOk};
 
 use crate::request::{
-    Checking, Designing, Diagnosing, Dumping, Loading, Recovering, Request, Showing,
+    Checking, Designing, Diagnosing, Dumping, Loading, Recovering, Request, Restoring, Showing,
 };
 use crate::sites::sites_of;
 use clap::ArgMatches;
@@ -91,6 +91,23 @@ pub fn recovering<'a>(found: &ArgMatches<'a>, processors: u32) -> Option<Request
         json: found.get_flag("json"),
         store,
         output,
+        loss,
+    }))
+}
+
+/// What `restore` asks for, if all arguments are there and within their limits.
+pub fn restoring<'a>(found: &ArgMatches<'a>, processors: u32) -> Option<Request<'a>> {
+    let workers = workers_of(found, processors)?;
+    let store = found.get_str("store")?;
+    let loss = sites_of(found, "sites")?;
+    Some(Request::Restore(Restoring {
+        workers,
+        quiet: found.get_flag("quiet"),
+        json: found.get_flag("json"),
+        is_dry_run: found.get_flag("dry-run"),
+        accepts_loss: found.get_flag("accept-loss"),
+        resumes: found.get_flag("resume"),
+        store,
         loss,
     }))
 }

@@ -10,11 +10,13 @@ mod found;
 mod help;
 mod parsing;
 mod request;
+mod restore_help;
+mod restores;
 mod sites;
 mod table_help;
 mod tables;
 
 pub use parsing::{Unasked, parse};
 pub use request::{
-    Checking, Designing, Diagnosing, Dumping, Loading, Recovering, Request, Showing,
+    Checking, Designing, Diagnosing, Dumping, Loading, Recovering, Request, Restoring, Showing,
 };

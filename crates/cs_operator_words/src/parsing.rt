@@ -76,6 +76,7 @@ fn asked<'a>(matches: &ArgMatches<'a>, processors: u32) -> Option<Request<'a>> {
         Some(("show", found)) => found::showing(found),
         Some(("diagnose", found)) => found::diagnosing(found, processors),
         Some(("recover", found)) => found::recovering(found, processors),
+        Some(("restore", found)) => found::restoring(found, processors),
         Some(("design", found)) => found::designing(found),
         Some(("load", found)) => found::loading(found, processors),
         Some(("dump", found)) => found::dumping(found, processors),

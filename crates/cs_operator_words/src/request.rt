@@ -14,6 +14,8 @@ pub enum Request<'a> {
     Diagnose(Diagnosing<'a>),
     /// The files that a loss took from a store.
     Recover(Recovering<'a>),
+    /// What a loss took from a store, rebuilt in place.
+    Restore(Restoring<'a>),
     /// Which losses a catalog does not survive.
     Design(Designing<'a>),
     /// A new store from a CSV.
@@ -84,6 +86,28 @@ pub struct Recovering<'a> {
     /// The sites that are lost.
     pub loss: Loss,
     ghost workers_in_limits: { (1 ≤ workers) × (workers ≤ 64) },
+}
+
+/// Which store to restore in place, what it lost, and by how many workers.
+#[derive(Clone, Copy)]
+pub struct Restoring<'a> {
+    /// How many workers there are.
+    pub workers: u32,
+    /// Whether no line shows how far it has come.
+    pub quiet: bool,
+    /// Whether the answer is JSON.
+    pub json: bool,
+    /// Whether it is only to be said what would be done.
+    pub is_dry_run: bool,
+    /// Whether the sites are known to be gone, whatever a diagnosis says.
+    pub accepts_loss: bool,
+    /// Whether an unfinished restore is to go on, which knows its sites.
+    pub resumes: bool,
+    /// The folder of the store.
+    pub store: &'a str,
+    /// The sites that are lost; none where a restore is to go on.
+    pub loss: Loss,
+    pub ghost workers_in_limits: { (1 ≤ workers) × (workers ≤ 64) },
 }
 
 /// Which catalog to look at, beside which loss.

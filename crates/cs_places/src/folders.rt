@@ -5,14 +5,17 @@ ghost use Rattle.cs_store.specs.Fault.{CountsFault};
 use crate::listing::{has_restoring, names_in};
 use crate::listings::Listings;
 use crate::places::Places;
+use crate::shelves::{GivenBack, Shelves};
 use crate::tables::Tables;
+use cs_folder_shelf::{FolderShelf, Taken, Untaken, resume, take};
 use cs_folders::{
     FileLimits, NewStoreFolder, OutputFolder, StoreFolder, Way, open_text, read_catalog_file,
     way_to, write_picture, write_text,
 };
-use cs_schema::Catalog;
+use cs_schema::{Catalog, Loss};
 use cs_store::StoreFault;
 use std::alloc::{AllocError, Global};
+use std::fs::File;
 use std::rt::Files;
 
 /// The folders of the system, with the number of faults that were met in finding and making what stands in them.
@@ -163,5 +166,74 @@ impl<R: Files + Copy> Tables for Folders<R> {
     fn write_table(&mut self, path: &str, text: &[u8]) -> Result<(), StoreFault> {
         let written = write_text(self.alloc, &self.rt, path, text);
         self.told(written)
+    }
+}
+
+impl<R: Files + Copy + Drop> Folders<R> {
+    /// The store at this path, to be looked at alone.
+    fn shelf(&self, path: &str, catalog: &Catalog) -> Result<FolderShelf<R>, StoreFault> {
+        FolderShelf::new(self.alloc, self.rt, path, FileLimits::of(catalog))
+    }
+}
+
+/// A store that was taken to go on with its restore, and the sites that are lost.
+fn resumed<R: Files + Copy + Drop>(shelf: FolderShelf<R>, taken: Taken) -> (FolderShelf<R>, Loss) {
+    let lost = taken.lost();
+    (shelf.taken_by(taken), lost)
+}
+
+impl<R: Files<File = File> + Copy + Drop> Shelves for Folders<R> {
+    type Shelf = FolderShelf<R>;
+
+    ghost takes_store = { λ s path catalog lost store t. ⊤ };
+
+    ghost looks_at = { λ s path catalog store. ⊤ };
+
+    ghost gives_back = { λ s store finished t. ⊤ };
+
+    fn take(
+        &mut self,
+        path: &str,
+        catalog: &Catalog,
+        lost: Loss,
+    ) -> Result<FolderShelf<R>, Untaken> {
+        let shelf = match self.shelf(path, catalog) {
+            Ok(shelf) => shelf,
+            Err(_) => return Err(Untaken::Memory),
+        };
+        match take(self.alloc, &self.rt, path, lost) {
+            Ok(taken) => Ok(shelf.taken_by(taken)),
+            Err(untaken) => Err(untaken),
+        }
+    }
+
+    fn resume(&mut self, path: &str, catalog: &Catalog) -> Result<(FolderShelf<R>, Loss), Untaken> {
+        let taken = match resume(self.alloc, &self.rt, path) {
+            Ok(taken) => taken,
+            Err(untaken) => return Err(untaken),
+        };
+        match self.shelf(path, catalog) {
+            Ok(shelf) => Ok(resumed(shelf, taken)),
+            Err(_) => Err(Untaken::Memory),
+        }
+    }
+
+    fn look(&self, path: &str, catalog: &Catalog) -> Result<FolderShelf<R>, StoreFault> {
+        self.shelf(path, catalog)
+    }
+
+    fn give_back(
+        &mut self,
+        store: FolderShelf<R>,
+        is_finished: bool,
+    ) -> Result<GivenBack, StoreFault> {
+        let is_unfinished = store.has_changed() && !is_finished;
+        match store.give_back(is_finished) {
+            Ok(kept) => Ok(GivenBack {
+                kept,
+                is_unfinished,
+            }),
+            Err(fault) => Err(fault),
+        }
     }
 }

@@ -9,13 +9,16 @@ mod folders;
 mod listing;
 mod listings;
 mod places;
+mod shelves;
 mod stop;
 mod tables;
 
+pub use cs_folder_shelf::Untaken;
 pub use cs_folders::Way;
 pub use finding::{find_store, look_up, look_up_text};
 pub use folders::Folders;
 pub use listings::{Listings, RESTORING};
 pub use places::Places;
+pub use shelves::{GivenBack, Shelves};
 pub use stop::{DEVICE, DONE, MEMORY, REFUSED, Stop, USAGE, report, stop_of};
 pub use tables::Tables;

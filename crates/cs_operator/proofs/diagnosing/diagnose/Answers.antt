@@ -5,7 +5,8 @@ use Rattle.cs_store.specs.FileSet.{contents_of}
 use Rattle.cs_inspection.specs.Laws.{AreAbsent}
 use Rattle.cs_store.specs.LoadReadable.{LoadsReadable}
 use Rattle.cs_file_diagnosis.specs.Diagnoses.{IsDiagnosis}
-use Rattle.cs_operator.proofs.AskedDiagnosis.{few_sites, absent}
+use Rattle.cs_restoring.proofs.Unreadable.{absent}
+use Rattle.cs_operator.proofs.AskedDiagnosis.{few_sites}
 use Rattle.cs_operator.proofs.diagnosing.diagnose.Goals as goal
 
 pub diagnose-requires-clause-at_most : goal.diagnose-requires-clause-at_most
@@ -16,8 +17,8 @@ diagnose-requires-clause-absent g c κs within =
     let files = c.in-Ok-load_readable.found.files in
     subst (AreAbsent (contents_of files)) (sym c.as_slice-unreadable.ensures.value) (absent (contents_of files) c.in-Ok-load_readable.found.unreadable.items c.in-Ok-load_readable.ensures.apart)
 
-pub returns-in-Ok-fatal_beside-clause-ok : goal.returns-in-Ok-fatal_beside-clause-ok
-returns-in-Ok-fatal_beside-clause-ok g c =
+pub returns-in-Ok-new-clause-ok : goal.returns-in-Ok-new-clause-ok
+returns-in-Ok-new-clause-ok g c =
     let catalog = c.in-Ok.found.0 in
     let found = c.in-Ok-load_readable.found in
     record {
@@ -28,5 +29,6 @@ returns-in-Ok-fatal_beside-clause-ok g c =
       left = c.load_readable.new.source;
       finds = c.in-Ok.ensures.ok;
       loads = subst (λ (L : List ℕ). LoadsReadable g.P.Store.Source.gives g.P.Store.Source.refuses (surviving catalog L) c.in-Ok.found.1 found.files found.unreadable.items c.load_readable.new.source) c.none.ensures c.in-Ok-load_readable.ensures.ok;
-      diagnosed = subst (λ (U : List FileName). IsDiagnosis catalog (contents_of found.files) U c.args.request.now.at_most c.in-Ok-diagnose_files.diagnosis) c.as_slice-unreadable.ensures.value c.in-Ok-diagnose_files.ensures;
+      diagnosed = subst (IsDiagnosis catalog (contents_of found.files) found.unreadable.items c.args.request.now.at_most) (sym c.in-Ok-new.ensures.1)
+          (subst (λ (U : List FileName). IsDiagnosis catalog (contents_of found.files) U c.args.request.now.at_most c.in-Ok-diagnose_files.diagnosis) c.as_slice-unreadable.ensures.value c.in-Ok-diagnose_files.ensures);
     }

@@ -1,0 +1,50 @@
+-- What the verb `restore` does, by what the places and a store that can be changed say of one call.
+use Rattle.std.specs.Prelude.{◌≡◌, ◌⊎◌, ℕ, ⊤, Bool, true, List, Option, Some, None}
+use Rattle.cs_schema.specs.CatalogData.{CatalogData}
+use Rattle.cs_schema.specs.Losses.{Sites}
+use Rattle.cs_schema.specs.declared.file_name.FileName.{FileName}
+use Rattle.cs_store.specs.FileSet.{Files}
+use Rattle.cs_shelf.specs.Shelf.{Follows}
+use Rattle.cs_restore.specs.Restoring.{IsFinished, PlansRestore, ReadsBack}
+use Rattle.cs_places.specs.Finding.{FindsStore}
+use Rattle.cs_answers.specs.declared.restoration.Restoration.{Restoration}
+use Rattle.cs_answers.specs.declared.restoration.Restoration.TheVariants as restoration
+
+module _ {P K : Type 0} where
+  -- What the survivors held stands in the store, now and after a stop; it was read back and checked, and given back as finished.
+  pub record WorksOnStore (gives_back : P → K → Bool → P → Type 0) (holds may_leave : K → Files → Type 0) (s : P) (C : CatalogData) (L : Sites) (store : K) (rows : ℕ) (t : P) : Type 0 where
+    pub left : K
+    pub finished : Follows (IsFinished C L) (holds store) (holds left)
+    pub durable : Follows (IsFinished C L) (holds store) (may_leave left)
+    pub read_back : ReadsBack C (holds left) rows
+    pub given : gives_back s left true t
+
+  -- the store was looked at alone, and a restore has a plan for it
+  pub record PlansStore (looks_at : P → List ℕ → CatalogData → K → Type 0) (holds : K → Files → Type 0) (s : P) (path : List ℕ) (C : CatalogData) (L : Sites) : Type 0 where
+    pub store : K
+    pub left : K
+    pub looked : looks_at s path C store
+    pub files : Files
+    pub changes : List FileName
+    pub plan : PlansRestore C L (holds left) files changes
+
+  -- a plan is the answer, which has no number of rows; a doubt says nothing
+  abbrev pub Foresees : (P → List ℕ → CatalogData → K → Type 0) → (K → Files → Type 0) → P → List ℕ → CatalogData → Restoration → Type 0
+  Foresees looks_at holds s path C (restoration.Done restored) = (restored.catalog ≡ C) × (restored.rows ≡ None) × PlansStore looks_at holds s path C restored.lost
+  Foresees looks_at holds s path C (restoration.Doubted _) = ⊤
+
+  -- the number of rows is the answer of a store that was restored; a doubt says nothing
+  abbrev pub EndsRestore : (P → K → Bool → P → Type 0) → (holds may_leave : K → Files → Type 0) → P → CatalogData → Sites → K → P → Restoration → Type 0
+  EndsRestore gives_back holds may_leave s C L store t (restoration.Done restored) = (restored.catalog ≡ C) × ((rows : ℕ) × (restored.rows ≡ Some rows) × WorksOnStore gives_back holds may_leave s C L store rows t)
+  EndsRestore gives_back holds may_leave s C L store t (restoration.Doubted _) = ⊤
+
+module _ {P S K : Type 0} (reads : P → List ℕ → List ℕ → P → Type 0) (opens : P → List ℕ → CatalogData → S → Type 0) (takes_store : P → List ℕ → CatalogData → Sites → K → P → Type 0) (looks_at : P → List ℕ → CatalogData → K → Type 0) (gives_back : P → K → Bool → P → Type 0) (holds may_leave : K → Files → Type 0) where
+  -- The store at this path was found. Then it was looked at alone; or it was taken, and restored as the sites ask that it
+  -- was taken for.
+  pub record DoesRestore (s : P) (path : List ℕ) (answer : Restoration) (t : P) : Type 0 where
+    pub catalog : CatalogData
+    pub found : P
+    pub source : S
+    pub finds : FindsStore reads opens s path catalog source found
+    pub does : (Foresees looks_at holds found path catalog answer × (t ≡ found))
+        ⊎ ((L : Sites) × (store : K) × (taken : P) × takes_store found path catalog L store taken × EndsRestore gives_back holds may_leave taken catalog L store t answer)

@@ -1,0 +1,48 @@
+//! Restoring a store that was taken.
+ghost use Rattle.std.specs.Prelude.{IfOk};
+ghost use Rattle.cs_restoring.specs.Restores.{WorksOnStore};
+
+use crate::ending::{LostStore, stop_by, stop_unended};
+use cs_places::{GivenBack, Shelves, Stop};
+use cs_progress::Progress;
+use cs_rebuild::Run;
+use cs_restore::{Restored, restore};
+use cs_store::Fault;
+use std::alloc::Global;
+use std::marker::Sync;
+use std::thread::Threads;
+
+/// Gives a store back whose restore ended early, and says how.
+fn leave<P: Shelves>(
+    alloc: Global,
+    places: &mut P,
+    shelf: P::Shelf,
+    store: &LostStore<'_>,
+    fault: &Fault,
+) -> Stop {
+    match places.give_back(shelf, false) {
+        Ok(given) => stop_by(alloc, store, fault, given),
+        Err(failure) => stop_unended(alloc, failure, store.path),
+    }
+}
+
+/// Restores a store that was taken, and gives it back.
+pub fn work<R: Threads + Sync, G: Progress + Sync, P: Shelves>(
+    run: &Run<'_, R, G>,
+    places: &mut P,
+    shelf: P::Shelf,
+    store: &LostStore<'_>,
+) -> Result<(Restored, GivenBack), Stop>
+    ensures { IfOk result (λ worked. WorksOnStore P.gives_back P.Shelf.holds P.Shelf.may_leave
+        places.old store.now.catalog.now store.now.lost shelf worked.0.rows places.new) }
+{
+    let mut shelf = shelf;
+    let restored = match restore(run, store.catalog, store.lost, &mut shelf) {
+        Ok(restored) => restored,
+        Err(fault) => return Err(leave(run.alloc, places, shelf, store, &fault)),
+    };
+    match places.give_back(shelf, true) {
+        Ok(given) => Ok((restored, given)),
+        Err(failure) => Err(stop_unended(run.alloc, failure, store.path)),
+    }
+}
