@@ -1,0 +1,130 @@
+//! Stores in memory that are listed, taken for a restore and given back.
+use crate::names::sorted_names;
+use crate::places::MemoryPlaces;
+use cs_places::{GivenBack, Listings, Shelves, Untaken};
+use cs_schema::{Catalog, Loss};
+use cs_shelf::MemoryShelf;
+use cs_store::StoreFault;
+use std::alloc::AllocError;
+
+impl Listings for MemoryPlaces {
+    ghost use Rattle.std.specs.Prelude.{◌≡◌, false};
+    ghost use Rattle.std.specs.BTreeMap.{get_by_text};
+    ghost use Rattle.std.specs.Option.{is_some, option_map_or};
+    ghost use Rattle.cs_memory_trials.specs.Standing.{ListsNames};
+
+    ghost lists = { ListsNames };
+
+    ghost restores = { λ s path is. is ≡ option_map_or (λ store. is_some store.restoring) (get_by_text s.stores path) false };
+
+    fn names(&mut self, path: &str) -> Result<Vec<String>, StoreFault> {
+        let names = match self.stores.get(path) {
+            Some(store) => sorted_names(self.alloc, store),
+            None => return Err(self.fault()),
+        };
+        match names {
+            Ok(names) => Ok(names),
+            Err(_) => Err(StoreFault::Memory),
+        }
+    }
+
+    fn is_restoring(&self, path: &str) -> Result<bool, AllocError> {
+        match self.stores.get(path) {
+            Some(store) => Ok(store.restoring.is_some()),
+            None => Ok(false),
+        }
+    }
+}
+
+/// The N of `replaced/N`: old files are kept in one place.
+const KEPT: u32 = 1;
+
+impl Shelves for MemoryPlaces {
+    ghost use Rattle.std.specs.BTreeMap.{get_by_text};
+    ghost use Rattle.cs_memory_trials.specs.Standing.{GivesBack, HoldsStore, TakesStore};
+
+    type Shelf = MemoryShelf;
+
+    ghost takes_store = { λ s path catalog lost store t. TakesStore s path lost store t };
+
+    ghost looks_at = { λ s path catalog store. HoldsStore (get_by_text s.stores path) store };
+
+    ghost gives_back = { GivesBack };
+
+    #[tactic(auto, using(std::proofs::lemmas::Map::Text::text_keys))]
+    fn take(&mut self, path: &str, _catalog: &Catalog, lost: Loss) -> Result<MemoryShelf, Untaken> {
+        let Ok(name) = String::from_str(self.alloc, path) else {
+            return Err(Untaken::Memory);
+        };
+        let Some(store) = self.stores.get_mut(path) else {
+            return Err(Untaken::Device);
+        };
+        if store.restoring.is_some() {
+            return Err(Untaken::Unfinished);
+        }
+        let Ok(shelf) = store.shelf(self.alloc, self.stop) else {
+            return Err(Untaken::Memory);
+        };
+        store.restoring = Some(lost);
+        self.stop = None;
+        self.taken = Some(name);
+        Ok(shelf)
+    }
+
+    #[tactic(auto, using(std::proofs::lemmas::Map::Text::text_keys))]
+    fn resume(&mut self, path: &str, _catalog: &Catalog) -> Result<(MemoryShelf, Loss), Untaken> {
+        let Ok(name) = String::from_str(self.alloc, path) else {
+            return Err(Untaken::Memory);
+        };
+        let Some(store) = self.stores.get(path) else {
+            return Err(Untaken::Device);
+        };
+        let Some(lost) = store.restoring else {
+            return Err(Untaken::Finished);
+        };
+        let Ok(shelf) = store.shelf(self.alloc, None) else {
+            return Err(Untaken::Memory);
+        };
+        self.taken = Some(name);
+        Ok((shelf, lost))
+    }
+
+    fn look(&self, path: &str, _catalog: &Catalog) -> Result<MemoryShelf, StoreFault> {
+        match self.stores.get(path) {
+            Some(store) => match store.shelf(self.alloc, None) {
+                Ok(shelf) => Ok(shelf),
+                Err(_) => Err(StoreFault::Memory),
+            },
+            None => Err(StoreFault::Device),
+        }
+    }
+
+    #[tactic(auto, using(std::proofs::lemmas::Map::Text::text_keys))]
+    fn give_back(
+        &mut self,
+        store: MemoryShelf,
+        is_finished: bool,
+    ) -> Result<GivenBack, StoreFault> {
+        let Some(path) = self.taken.take() else {
+            return Err(StoreFault::Device);
+        };
+        let Some(standing) = self.stores.get_mut(path.as_str()) else {
+            return Err(StoreFault::Device);
+        };
+        let is_unfinished = !store.past.is_empty() && !is_finished;
+        let kept = if store.kept.len() > standing.kept.len() {
+            Some(KEPT)
+        } else {
+            None
+        };
+        standing.files = store.files;
+        standing.kept = store.kept;
+        if !is_unfinished {
+            standing.restoring = None;
+        }
+        Ok(GivenBack {
+            kept,
+            is_unfinished,
+        })
+    }
+}
