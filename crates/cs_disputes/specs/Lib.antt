@@ -1,0 +1,3 @@
+pub mod Columns
+pub mod Disputes
+pub mod Next

@@ -1,0 +1,2 @@
+mod DigestLemmas
+mod ReadingLemmas

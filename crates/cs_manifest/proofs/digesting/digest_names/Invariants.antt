@@ -1,0 +1,6 @@
+use Rattle.cs_manifest.proofs.DigestLemmas.{DigestedSoFar}
+use Rattle.cs_reading.specs.Standing.{standing}
+use Rattle.cs_manifest.proofs.digesting.digest_names.Given as goal
+
+abbrev pub invariant-loop-name : goal.invariant-loop-name
+invariant-loop-name g l = DigestedSoFar (standing g.S.SharedSource.answers) (standing g.S.SharedSource.fails) l.names l.name-index l.source l.files.items l.source

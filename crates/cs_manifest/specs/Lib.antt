@@ -1,0 +1,4 @@
+pub mod Comparisons
+pub mod Digests
+pub mod Lines
+pub mod Reading

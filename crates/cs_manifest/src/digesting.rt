@@ -1,0 +1,71 @@
+//! The digests of the files of a store.
+ghost use Rattle.std.specs.Prelude.{◌≡◌, [], IfOk};
+ghost use Rattle.cs_schema.specs.FileNames.{surviving};
+ghost use Rattle.cs_reading.specs.Standing.{standing};
+ghost use Rattle.cs_manifest.specs.Digests.{digest, DigestsFiles, DigestsFile};
+
+use cs_reading::SharedSource;
+use cs_schema::{Catalog, FileName, Loss};
+use cs_store::StoreFault;
+use sha2::{Digest, Sha256};
+use std::alloc::{AllocError, Global};
+
+/// What a look at one file came to.
+#[derive(Clone, Copy, Debug, PartialEq, Eq)]
+pub enum Digested {
+    /// It was read, and the SHA-256 digest of its bytes is this.
+    Found([u8; 32]),
+    /// None is there.
+    Missing,
+    /// The device failed as it was read.
+    Unreadable,
+}
+
+/// The SHA-256 digest of some bytes.
+pub fn digest_of(bytes: &[u8]) -> [u8; 32]
+    ensures { result ≡ digest bytes.now }
+{
+    Sha256::digest(bytes)
+}
+
+/// Reads the files of a catalog one after the other, in the order of their names, and says what each came to. It goes on
+/// after reads that fail, and keeps no file.
+pub fn digest_files<S: SharedSource>(
+    alloc: Global,
+    catalog: &Catalog,
+    source: &S,
+) -> Result<Vec<(FileName, Digested)>, AllocError>
+    ensures { IfOk result (λ files. DigestsFiles (standing S.answers) (standing S.fails) (surviving catalog.now [])
+        source.now files.items source.now) }
+{
+    let names = catalog.surviving(alloc, Loss::none())?;
+    digest_names(alloc, names.as_slice(), source)
+}
+
+/// Reads the files of these names, in this order.
+fn digest_names<S: SharedSource>(
+    alloc: Global,
+    names: &[FileName],
+    source: &S,
+) -> Result<Vec<(FileName, Digested)>, AllocError>
+    ensures { IfOk result (λ files. DigestsFiles (standing S.answers) (standing S.fails) names.now source.now files.items source.now) }
+{
+    let mut files = Vec::new(alloc);
+    for name in names {
+        let found = digest_file(source, *name)?;
+        files.push((*name, found))?;
+    }
+    Ok(files)
+}
+
+/// Reads the file of this name, and says what that came to.
+fn digest_file<S: SharedSource>(source: &S, name: FileName) -> Result<Digested, AllocError>
+    ensures { IfOk result (λ found. DigestsFile (standing S.answers) (standing S.fails) source.now name found source.now) }
+{
+    match source.read_shared(name) {
+        Ok(Some(bytes)) => Ok(Digested::Found(digest_of(bytes.as_slice()))),
+        Ok(None) => Ok(Digested::Missing),
+        Err(StoreFault::Device) => Ok(Digested::Unreadable),
+        Err(StoreFault::Memory) => Err(AllocError),
+    }
+}

@@ -1,0 +1,21 @@
+//! Manifests: the SHA-256 digests of a store's files, as `sha256sum` writes and reads them.
+//!
+//! A manifest has one line a file: its digest in hexadecimal, two spaces and its path. `catalog.toml` comes first, and then
+//! the files of the catalog in the order of their names.
+#![tactic(auto)]
+
+mod comparing;
+mod digesting;
+mod fault;
+mod line;
+mod manifest;
+mod reading;
+mod writing;
+
+pub use comparing::{Comparison, Difference, compare};
+pub use digesting::{Digested, digest_files, digest_of};
+pub use fault::ManifestFault;
+pub use line::CATALOG;
+pub use manifest::Manifest;
+pub use reading::read_manifest;
+pub use writing::write_manifest;

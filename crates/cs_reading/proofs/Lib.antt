@@ -1,0 +1,2 @@
+mod AllSaid
+pub mod Stands
