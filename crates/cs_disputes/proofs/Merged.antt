@@ -1,8 +1,7 @@
 -- What two tables differ in below a place of each, and one step further.
-use Rattle.std.proofs.Common.{◌≡◌, ◌≢◌, ℕ, zero, suc, ◌+◌, ◌<◌, ◌≤◌, List, [], ◌∷◌, ◌++◌, length, length-append, refl, sym, ap, subst, ◌∙◌, arith, inl, inr, ◌⊎◌, Some, None, get_or}
+use Rattle.std.proofs.Common.{◌≡◌, ◌≢◌, ℕ, ◌+◌, ◌<◌, ◌≤◌, List, [], ◌∷◌, ◌++◌, length, length-append, refl, sym, ap, subst, ◌∙◌, arith, inl, inr, Some, None, get_or}
 use Rattle.std.proofs.lemmas.Bool.{cases_lt}
 use Rattle.std.proofs.lemmas.Option.{same_Some, slice_get_within, slice_get-get_or}
-use Rattle.std.specs.Cmp.{tied_itself}
 use Rattle.std.specs.List.{slice_get}
 use Rattle.std.specs.List.Sorted.{IsStrictlySortedBy}
 use Rattle.std.specs.declared.cmp.Ordering.TheVariants.{Less}
@@ -11,7 +10,7 @@ use Rattle.cs_schema.specs.Lists.{IsIn}
 use Rattle.cs_schema.specs.Rows.{Row, cell}
 use Rattle.cs_schema.specs.Values.{value_cmp}
 use Rattle.cs_schema.specs.ValueOrder.{value_cmp_total}
-use Rattle.cs_schema.proofs.Ascending.{less≢equal, not_both, not_self}
+use Rattle.cs_schema.proofs.Ascending.{not_self}
 use Rattle.cs_schema.proofs.Lists.{in_at, at_in, append_left, append_right, in_append}
 use Rattle.cs_schema.proofs.Surviving.{append_sorted}
 use Rattle.cs_design.proofs.Items.{kept_or_last}

@@ -1,12 +1,11 @@
 -- One step of the pass over two tables, by which of them has the next key.
-use Rattle.std.proofs.Common.{◌≡◌, ◌≢◌, ℕ, ◌+◌, ◌<◌, List, ◌∷◌, ◌++◌, [], length, refl, sym, ap, ◌∙◌, arith, subst, Some, Ordering}
+use Rattle.std.proofs.Common.{◌≡◌, ◌≢◌, ℕ, ◌+◌, ◌<◌, List, ◌∷◌, ◌++◌, [], sym, ◌∙◌, arith, Some}
 use Rattle.std.proofs.lemmas.Option.{slice_get_within, same_Some}
 use Rattle.std.specs.List.{slice_get}
 use Rattle.std.specs.declared.cmp.Ordering.TheVariants.{Less, Equal, Greater}
 use Rattle.cs_schema.specs.declared.cells.Cells.{Cells}
 use Rattle.cs_schema.specs.CatalogData.{CatalogData}
 use Rattle.cs_schema.specs.Rows.{Row, cell}
-use Rattle.cs_schema.specs.Values.{value_cmp}
 use Rattle.cs_schema.proofs.Ascending.{less≢equal, less≢greater}
 use Rattle.cs_disputes.specs.declared.merging.Dispute.{Dispute}
 use Rattle.cs_rows.specs.WalkedView.{row_of, count_of}

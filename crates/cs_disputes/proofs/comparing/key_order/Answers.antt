@@ -1,13 +1,7 @@
-use Rattle.std.proofs.Common.{◌≡◌, ◌<◌, length, sym, ap, subst, ◌∙◌, arith, Some, Ordering}
+use Rattle.std.proofs.Common.{◌≡◌, subst, arith, Some}
 use Rattle.std.specs.List.{slice_get}
-use Rattle.std.specs.Option.{option_cmp}
-use Rattle.cs_schema.specs.declared.cells.Cells.{Cells}
-use Rattle.cs_schema.specs.Rows.{cell}
-use Rattle.cs_schema.specs.Values.{values, value_cmp}
 use Rattle.cs_schema.proofs.Lists.{in_at}
 use Rattle.cs_design.proofs.Items.{item_at}
-use Rattle.cs_rows.specs.WalkedView.{count_of, row_of}
-use Rattle.cs_disputes.specs.Columns.{IsTableIn, rows_in}
 use Rattle.cs_disputes.proofs.TableRows.{as_wide, keys_stand}
 use Rattle.cs_disputes.proofs.comparing.key_order.Goals as goal
 

@@ -1,5 +1,4 @@
-use Rattle.std.proofs.Common.{◌<◌, arith, inl, inr}
-use Rattle.cs_rows.specs.WalkedView.{count_of}
+use Rattle.std.proofs.Common.{arith, inl, inr}
 use Rattle.cs_disputes.proofs.TableRows.{only_first, only_second}
 use Rattle.cs_disputes.proofs.comparing.next_of.Goals as goal
 

@@ -1,9 +1,8 @@
-use Rattle.std.proofs.Common.{◌≡◌, ◌≢◌, ℕ, ◌+◌, ◌-◌, ◌<◌, ◌∷◌, ◌++◌, [], List, length, length-append, take, refl, sym, ap, subst, ◌∙◌, arith}
+use Rattle.std.proofs.Common.{◌≡◌, ℕ, ◌+◌, ◌∷◌, ◌++◌, [], List, length, length-append, refl, sym, ap, ◌∙◌, arith}
 use Rattle.cs_schema.proofs.Ascending.{false≢true}
-use Rattle.cs_rows.specs.WalkedView.{row_of}
 use Rattle.cs_disputes.specs.Columns.{rows_in}
 use Rattle.cs_disputes.specs.declared.merging.Dispute.{Dispute}
-use Rattle.cs_disputes.proofs.Merged.{IsMerged, begun, alone_first, alone_second, of_both}
+use Rattle.cs_disputes.proofs.Merged.{begun, alone_first, alone_second, of_both}
 use Rattle.cs_disputes.proofs.Steps.{low_first, low_second, low_both, on_first, on_second, on_same, on_different, at_end}
 use Rattle.cs_disputes.proofs.merging.find_disputes.Goals as goal
 use Rattle.cs_disputes.proofs.merging.find_disputes.Goals.{then-not-same_row+in_ok-keep-in-Equal, else-not-same_row}
