@@ -1,5 +1,6 @@
 -- The status that tells an answer.
 use Rattle.std.specs.Prelude.{ℕ, Bool, true, false}
+use Rattle.cs_verifying.specs.Statuses.{listed_status, verified_status}
 use Rattle.cs_answers.specs.declared.checked.Verdict.{Verdict}
 use Rattle.cs_answers.specs.declared.checked.Verdict.TheVariants.{Sound}
 use Rattle.cs_diagnosis.specs.declared.findings.Verdict.{Verdict as FoundVerdict}
@@ -27,9 +28,11 @@ abbrev pub restoration_status : Restoration → ℕ
 restoration_status (restoration.Done _) = 0
 restoration_status (restoration.Doubted _) = 5
 
--- 0, but of a check, of a diagnosis and of a restore that of what it came to
+-- 0, but of a check, of a diagnosis, of a restore and of manifests that of what they came to
 abbrev pub answer_status : Answer → ℕ
 answer_status (answer.Checked checked) = checked_status checked.verdict checked.is_unreadable
 answer_status (answer.Diagnosed diagnosed) = diagnosed_status diagnosed.diagnosis.verdict
 answer_status (answer.Restored restored) = restoration_status restored
+answer_status (answer.Listed listed) = listed_status listed.files.items
+answer_status (answer.Verified verified) = verified_status verified.comparison
 answer_status _ = 0

@@ -1,9 +1,32 @@
-//! Bad files in lines, a site of which no file is left in one.
+//! Bad files in lines, one for each, or one for a site of which no file is left.
 use crate::badness::word;
 use cs_inspection::Badness;
-use cs_reports::{site_of, with_site};
+use cs_reports::{SitedFile, site_of, with_site};
 use cs_schema::{Catalog, FileName, Loss};
+use cs_verifying::FileLine;
 use std::fmt;
+
+/// A line for each bad file, with its site.
+#[derive(Clone, Copy)]
+pub struct FileLines<'a> {
+    pub catalog: &'a Catalog,
+    pub bad: &'a [(FileName, Badness)],
+}
+
+impl fmt::Display for FileLines<'_> {
+    fn fmt<W: fmt::Write>(&self, f: &mut fmt::Formatter<W>) -> fmt::Result {
+        let catalog = self.catalog;
+        for (name, badness) in self.bad {
+            let file = SitedFile {
+                catalog,
+                name: *name,
+            };
+            let badness = word(badness);
+            writeln!(f, "{file}: {badness}")?;
+        }
+        Ok(())
+    }
+}
 
 /// A line for each bad file, and one for each site whose files are all missing.
 #[derive(Clone, Copy)]
@@ -67,8 +90,12 @@ impl fmt::Display for BadLines<'_> {
         for (name, badness) in self.bad {
             let site = site_of(self.catalog, name.projection(), name.segment()).unwrap_or(0);
             if !has(gone, site) {
-                let fault = word(badness);
-                writeln!(f, "site {site}  {fault}  {name}")?;
+                let line = FileLine {
+                    catalog: self.catalog,
+                    name: *name,
+                    what: word(badness),
+                };
+                write!(f, "{line}")?;
             } else if !has(said, site) {
                 said = with_site(said, Some(site));
                 let count = files_on(self.catalog, site);

@@ -2,10 +2,11 @@
 ghost use Rattle.std.specs.Prelude.{◌≡◌};
 ghost use Rattle.cs_answers.specs.Statuses.{checked_status};
 
-use crate::badness::word;
+use crate::bad_files::FileLines;
+use crate::bad_store::Unfinished;
 use cs_inspection::Badness;
-use cs_places::{DEVICE, DONE, REFUSED, RESTORING};
-use cs_reports::{FaultWords, Next, SiteWords, SitedFile, site_of, with_site};
+use cs_places::{DEVICE, DONE, REFUSED};
+use cs_reports::{FaultWords, Next, SiteWords, site_of, with_site};
 use cs_safety::safe;
 use cs_schema::{Catalog, FileName, Loss};
 use cs_store::Fault;
@@ -107,8 +108,8 @@ impl Checked {
     /// What to do next.
     fn write_next<W: fmt::Write>(&self, f: &mut fmt::Formatter<W>) -> fmt::Result {
         if self.is_restoring {
-            writeln!(f, "unfinished restore: {RESTORING} is there")?;
-            return writeln!(f, "next: pinepolo restore --resume STORE");
+            let unfinished = Unfinished { store: "STORE" };
+            return write!(f, "{unfinished}");
         }
         match &self.verdict {
             Verdict::Sound { .. } => Ok(()),
@@ -127,25 +128,15 @@ impl Checked {
         };
         writeln!(f, "next: {next}")
     }
-
-    /// The lines of the bad files.
-    fn write_files<W: fmt::Write>(&self, f: &mut fmt::Formatter<W>) -> fmt::Result {
-        let catalog = &self.catalog;
-        for (name, badness) in &self.bad {
-            let file = SitedFile {
-                catalog,
-                name: *name,
-            };
-            let badness = word(badness);
-            writeln!(f, "{file}: {badness}")?;
-        }
-        Ok(())
-    }
 }
 
 impl fmt::Display for Checked {
     fn fmt<W: fmt::Write>(&self, f: &mut fmt::Formatter<W>) -> fmt::Result {
-        self.write_files(f)?;
+        let lines = FileLines {
+            catalog: &self.catalog,
+            bad: self.bad.as_slice(),
+        };
+        write!(f, "{lines}")?;
         match &self.verdict {
             Verdict::Sound { rows, k } => writeln!(f, "ok rows={rows} k={k}")?,
             _ => {

@@ -3,11 +3,12 @@ ghost use Rattle.std.specs.Prelude.{◌≡◌, IfOk};
 ghost use Rattle.cs_answers.specs.Statuses.{diagnosed_status};
 
 use crate::bad_files::BadLines;
+use crate::disputed::DisputeLines;
 use crate::explained::{ExplanationLines, VerdictLine};
 use crate::unrecoverable::BringBack;
 use cs_design::fatal_losses;
-use cs_file_diagnosis::{Diagnosis, Verdict};
-use cs_places::{DONE, REFUSED};
+use cs_file_diagnosis::{Diagnosis, TableDisputes, Verdict};
+use cs_places::{DONE, REFUSED, RESTORING};
 use cs_reports::SiteWords;
 use cs_schema::{Catalog, Loss};
 use std::alloc::{AllocError, Global};
@@ -28,6 +29,10 @@ pub struct Diagnosed {
     pub diagnosis: Diagnosis,
     /// The least losses that must not come beside the first explanation, where all explanations have one table.
     pub fatal: Vec<Loss>,
+    /// Where each two tables differ, where they were compared.
+    pub disputes: Vec<TableDisputes>,
+    /// Whether a restore was left unfinished.
+    pub is_restoring: bool,
 }
 
 /// The losses that must not come beside the first explanation, where one table explains a store.
@@ -47,11 +52,27 @@ impl Diagnosed {
     pub fn new(alloc: Global, catalog: Catalog, diagnosis: Diagnosis) -> Result<Self, AllocError>
         ensures { IfOk result (λ found. (found.catalog ≡ catalog) × (found.diagnosis ≡ diagnosis)) }
     {
+        Diagnosed::compared(alloc, catalog, diagnosis, Vec::new(alloc), false)
+    }
+
+    /// What a diagnosis found, where its tables differ, and whether a restore was left unfinished.
+    pub fn compared(
+        alloc: Global,
+        catalog: Catalog,
+        diagnosis: Diagnosis,
+        disputes: Vec<TableDisputes>,
+        is_restoring: bool,
+    ) -> Result<Self, AllocError>
+        ensures found { IfOk result (λ found. (found.catalog ≡ catalog) × (found.diagnosis ≡ diagnosis)) }
+        ensures compared { IfOk result (λ found. (found.disputes ≡ disputes) × (found.is_restoring ≡ is_restoring)) }
+    {
         match fatal_beside(alloc, &catalog, &diagnosis) {
             Ok(fatal) => Ok(Self {
                 catalog,
                 diagnosis,
                 fatal,
+                disputes,
+                is_restoring,
             }),
             Err(refused) => Err(refused),
         }
@@ -68,6 +89,15 @@ impl Diagnosed {
             Verdict::Ambiguous => AMBIGUOUS,
             Verdict::NotRecoverable => NOT_RECOVERABLE,
         }
+    }
+
+    /// That a restore was left unfinished, and how it is finished.
+    fn write_unfinished<W: fmt::Write>(&self, f: &mut fmt::Formatter<W>) -> fmt::Result {
+        if !self.is_restoring {
+            return Ok(());
+        }
+        writeln!(f, "unfinished restore: {RESTORING} is there")?;
+        writeln!(f, "next: pinepolo restore --resume STORE")
     }
 
     /// The sites whose files are not to be kept.
@@ -97,14 +127,27 @@ impl Diagnosed {
         writeln!(f)
     }
 
+    /// Where the tables differ, and what may tell which is the store's.
+    fn write_disputes<W: fmt::Write>(&self, f: &mut fmt::Formatter<W>) -> fmt::Result {
+        for of in &self.disputes {
+            let lines = DisputeLines {
+                catalog: &self.catalog,
+                diagnosis: &self.diagnosis,
+                of,
+            };
+            write!(f, "{lines}")?;
+        }
+        f.write_str(
+            "which of the tables is the store's, its files don't say: compare them with a manifest (pinepolo verify --manifest FILE STORE) or a backup, or look at the files (pinepolo show STORE FILE)\n",
+        )
+    }
+
     /// What to do next.
     fn write_next<W: fmt::Write>(&self, f: &mut fmt::Formatter<W>) -> fmt::Result {
         match self.diagnosis.verdict {
             Verdict::Sound => Ok(()),
             Verdict::OneTable => self.write_restoring(f),
-            Verdict::Ambiguous => f.write_str(
-                "which of the tables is the store's, its files don't say: compare them with a manifest or a backup, or look at them\n",
-            ),
+            Verdict::Ambiguous => self.write_disputes(f),
             Verdict::NotRecoverable => {
                 let back = BringBack {
                     catalog: &self.catalog,
@@ -121,7 +164,8 @@ impl fmt::Display for Diagnosed {
         let diagnosis = &self.diagnosis;
         let verdict = VerdictLine(diagnosis);
         if let Verdict::Sound = diagnosis.verdict {
-            return write!(f, "{verdict}");
+            write!(f, "{verdict}")?;
+            return self.write_unfinished(f);
         }
         let bad = BadLines {
             catalog: &self.catalog,
@@ -131,6 +175,9 @@ impl fmt::Display for Diagnosed {
         self.write_forced(f)?;
         let explanations = ExplanationLines(diagnosis);
         write!(f, "{explanations}{verdict}")?;
+        if self.is_restoring {
+            return self.write_unfinished(f);
+        }
         self.write_next(f)
     }
 }

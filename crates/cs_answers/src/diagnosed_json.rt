@@ -1,5 +1,6 @@
 //! A diagnosis as JSON.
 use crate::diagnosed::Diagnosed;
+use crate::disputed_json::dispute_objects;
 use crate::explained::{number_of, rows_of, verdict_word};
 use crate::json::bad_object;
 use cs_file_diagnosis::{Diagnosis, Explanation};
@@ -18,6 +19,8 @@ pub fn diagnosed_object(alloc: Global, diagnosed: &Diagnosed) -> Result<Value, A
         .member("forced", sites(alloc, diagnosis.forced))
         .member("explanations", explanation_objects(alloc, diagnosis))
         .text("verdict", verdict_word(diagnosis.verdict))
+        .member("disputes", dispute_objects(alloc, diagnosed))
+        .truth("restoring", diagnosed.is_restoring)
         .finish()
 }
 

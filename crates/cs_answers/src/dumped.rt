@@ -8,6 +8,8 @@ pub struct Dumped {
     pub text: Option<Vec<u8>>,
     /// How many bytes the text has.
     pub bytes: usize,
+    /// Whether a restore of the store was left unfinished.
+    pub is_restoring: bool,
 }
 
 impl fmt::Display for Dumped {

@@ -36,3 +36,15 @@ impl fmt::Display for Grouped {
         }
     }
 }
+
+/// A number of files, as `1 file` or `1,200 files`.
+#[derive(Clone, Copy)]
+pub struct FileCount(pub u64);
+
+impl fmt::Display for FileCount {
+    fn fmt<W: fmt::Write>(&self, f: &mut fmt::Formatter<W>) -> fmt::Result {
+        let word = if self.0 == 1 { "file" } else { "files" };
+        let count = Grouped(self.0);
+        write!(f, "{count} {word}")
+    }
+}

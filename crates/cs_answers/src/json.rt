@@ -5,12 +5,14 @@ use crate::checked::{Checked, Verdict, Wrong};
 use crate::diagnosed_json::diagnosed_object;
 use crate::recovered::Recovered;
 use crate::restored_json::restoration_object;
-use crate::tables_json::{dumped_object, loaded_object};
+use crate::tables_json::{dumped_object, new_store_object};
+use crate::undone_json::undone_object;
 use cs_inspection::Badness;
 use cs_overview::{file_object as shown_file_object, store_object};
 use cs_reports::object::{Object, number_or_null, sites};
 use cs_reports::{design_object, site_of};
 use cs_schema::{Catalog, FileName};
+use cs_verifying::{listed_object, verified_object};
 use serde_json::Value;
 use std::alloc::{AllocError, Global};
 
@@ -26,9 +28,13 @@ pub fn answer_object(alloc: Global, answer: &Answer) -> Result<Value, AllocError
         Answer::Diagnosed(diagnosed) => diagnosed_object(alloc, diagnosed),
         Answer::Recovered(recovered) => recovered_object(alloc, recovered),
         Answer::Restored(restoration) => restoration_object(alloc, restoration),
+        Answer::Listed(listed) => listed_object(alloc, listed),
+        Answer::Verified(verified) => verified_object(alloc, verified),
+        Answer::Undone(undone) => undone_object(alloc, undone),
         Answer::Designed(designed) => design_object(alloc, &designed.design),
-        Answer::Loaded(loaded) => loaded_object(alloc, loaded),
+        Answer::Loaded(store) => new_store_object(alloc, "load", store),
         Answer::Dumped(dumped) => dumped_object(alloc, dumped),
+        Answer::Relaid(store) => new_store_object(alloc, "relayout", store),
     }
 }
 
@@ -120,11 +126,12 @@ fn written_objects(alloc: Global, recovered: &Recovered) -> Result<Value, AllocE
 
 /// That a verb was refused, whose lines these are.
 pub fn refusal_object(alloc: Global, verb: &str, lines: &str) -> Result<Value, AllocError> {
-    let line = match lines.split_once("\n") {
-        Some((line, _)) => line,
+    let told = match lines.split_once("\nnext: ") {
+        Some((told, _)) => told,
         None => lines,
     };
-    let words = line.strip_prefix("fault: ").unwrap_or(line);
+    let told = told.strip_suffix("\n").unwrap_or(told);
+    let words = told.strip_prefix("fault: ").unwrap_or(told);
     Object::of_verb(alloc, verb)
         .truth("ok", false)
         .member("files", Ok(Value::Array(Vec::new(alloc))))

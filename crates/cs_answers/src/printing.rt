@@ -1,11 +1,14 @@
-//! Answers on standard output.
+//! Answers on standard output, and what of them is for standard error.
 ghost use Rattle.std.specs.Prelude.{◌≡◌, ◌≤◌, ◌⊎◌};
 ghost use Rattle.cs_answers.specs.Statuses.{answer_status};
+ghost use Rattle.cs_verifying.specs.Statuses.{listed_status};
 
 use crate::answer::Answer;
+use crate::bad_store::Unfinished;
 use crate::dumped::Dumped;
 use crate::json::{answer_object, refusal_object};
 use cs_places::{DEVICE, DONE, MEMORY, REFUSED};
+use cs_verifying::Listed;
 use serde_json::Value;
 use std::alloc::{AllocError, Global};
 use std::io::Write;
@@ -18,6 +21,8 @@ fn status(answer: &Answer) -> u8
         Answer::Checked(checked) => checked.status(),
         Answer::Diagnosed(diagnosed) => diagnosed.status(),
         Answer::Restored(restoration) => restoration.status(),
+        Answer::Listed(listed) => listed.status(),
+        Answer::Verified(verified) => verified.status(),
         _ => DONE,
     }
 }
@@ -55,27 +60,66 @@ fn print<W: Write>(text: Option<String>, status: u8, out: &mut W) -> u8
     }
 }
 
-/// Prints an answer, and gives its status: that of a device where it can't be written.
-pub fn say<W: Write>(alloc: Global, answer: &Answer, json: bool, out: &mut W) -> u8
+/// Prints an answer, and gives its status: that of a device where it can't be written. What stands beside the text of a table
+/// goes to `err`.
+pub fn say<W: Write, E: Write>(
+    alloc: Global,
+    answer: &Answer,
+    json: bool,
+    out: &mut W,
+    err: &mut E,
+) -> u8
     ensures { (result ≡ answer_status answer.now) ⊎ ((result ≡ MEMORY) ⊎ (result ≡ DEVICE)) }
 {
+    if is_unfinished(answer) && warn(err) != DONE {
+        return DEVICE;
+    }
     match answer {
         Answer::Dumped(
             Dumped {
                 text: Some(text),
                 ..
             },
-        ) => print_bytes(text.as_slice(), out),
+        ) => print_bytes(text.as_slice(), DONE, out),
+        Answer::Listed(listed) => print_listed(listed, out, err),
         _ => print(text_of(alloc, answer, json), status(answer), out),
     }
 }
 
-/// Writes the text of a table, and gives the status.
-fn print_bytes<W: Write>(text: &[u8], out: &mut W) -> u8
-    ensures { (result ≡ DONE) ⊎ (result ≡ DEVICE) }
+/// Whether a table was written of a store whose restore was left unfinished.
+fn is_unfinished(answer: &Answer) -> bool {
+    match answer {
+        Answer::Dumped(dumped) => dumped.is_restoring,
+        _ => false,
+    }
+}
+
+/// Says that a restore was left unfinished, and gives the status.
+fn warn<E: Write>(err: &mut E) -> u8 {
+    let unfinished = Unfinished { store: "STORE" };
+    match write!(err, "{unfinished}") {
+        Ok(()) => DONE,
+        Err(_) => DEVICE,
+    }
+}
+
+/// Writes a text of bytes, and gives the status where that was possible.
+fn print_bytes<W: Write>(text: &[u8], status: u8, out: &mut W) -> u8
+    ensures { (result ≡ status) ⊎ (result ≡ DEVICE) }
 {
     match out.write_all(text) {
-        Ok(()) => DONE,
+        Ok(()) => status,
+        Err(_) => DEVICE,
+    }
+}
+
+/// Writes a manifest, and on `err` the files that have no line in it, and gives the status where that was possible.
+fn print_listed<W: Write, E: Write>(listed: &Listed, out: &mut W, err: &mut E) -> u8
+    ensures { (result ≡ listed_status listed.now.files.items) ⊎ (result ≡ DEVICE) }
+{
+    let status = print_bytes(listed.text.as_slice(), listed.status(), out);
+    match write!(err, "{listed}") {
+        Ok(()) => status,
         Err(_) => DEVICE,
     }
 }

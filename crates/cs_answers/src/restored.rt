@@ -1,5 +1,6 @@
 //! What a restore answers that was not refused.
-use crate::grouped::Grouped;
+use crate::grouped::{FileCount, Grouped};
+use cs_places::JOURNAL;
 use cs_reports::site_of;
 use cs_restore::{Step, What};
 use cs_schema::{Catalog, Loss};
@@ -66,19 +67,36 @@ impl Restored {
     }
 }
 
+/// Where the old files are kept, which ends a line.
+pub fn write_kept<W: fmt::Write>(f: &mut fmt::Formatter<W>, kept: Option<u32>) -> fmt::Result {
+    match kept {
+        Some(kept) => writeln!(f, ", old files in replaced/{kept}/"),
+        None => writeln!(f),
+    }
+}
+
+/// That a manifest of the store no longer names the digests of its files, where any were changed.
+pub fn write_outdated<W: fmt::Write>(f: &mut fmt::Formatter<W>, changed: u64) -> fmt::Result {
+    match changed {
+        0 => Ok(()),
+        _ => writeln!(
+            f,
+            "a manifest of this store must be made anew: {JOURNAL} has the new digests"
+        ),
+    }
+}
+
 impl fmt::Display for Restored {
     fn fmt<W: fmt::Write>(&self, f: &mut fmt::Formatter<W>) -> fmt::Result {
         self.write_steps(f)?;
         let Some(rows) = self.rows else {
             return Ok(());
         };
-        let (k, (files, bytes)) = (self.k, self.changed());
+        let (k, (changed, bytes)) = (self.k, self.changed());
         let kilobytes = Grouped(bytes.div_ceil(1_000));
-        let files = Grouped(files);
-        write!(f, "ok rows={rows} k={k}, {files} files, {kilobytes} KB")?;
-        match self.kept {
-            Some(kept) => writeln!(f, ", old files in replaced/{kept}/"),
-            None => writeln!(f),
-        }
+        let files = FileCount(changed);
+        write!(f, "ok rows={rows} k={k}, {files}, {kilobytes} KB")?;
+        write_kept(f, self.kept)?;
+        write_outdated(f, changed)
     }
 }

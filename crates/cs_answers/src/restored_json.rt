@@ -16,7 +16,7 @@ pub fn restoration_object(alloc: Global, restoration: &Restoration) -> Result<Va
 }
 
 /// A number, or null where there is none.
-fn known(number: Option<u64>) -> Value {
+pub fn known(number: Option<u64>) -> Value {
     match number {
         Some(number) => Value::from(number),
         None => Value::Null,

@@ -1,18 +1,18 @@
-//! What came of a table as CSV, as JSON.
+//! What came of a whole table, as JSON.
 use crate::dumped::Dumped;
-use crate::loaded::Loaded;
+use crate::new_store::NewStore;
 use cs_reports::object::{Object, sites};
 use serde_json::Value;
 use std::alloc::{AllocError, Global};
 
-/// A store that was made.
-pub fn loaded_object(alloc: Global, loaded: &Loaded) -> Result<Value, AllocError> {
-    Object::of_verb(alloc, "load")
+/// A store that this verb made.
+pub fn new_store_object(alloc: Global, verb: &str, store: &NewStore) -> Result<Value, AllocError> {
+    Object::of_verb(alloc, verb)
         .truth("ok", true)
-        .number("rows", loaded.rows as u64)
-        .number("files", loaded.files.len() as u64)
-        .number("k", u64::from(loaded.k))
-        .member("fatal", sites(alloc, loaded.fatal))
+        .number("rows", store.rows as u64)
+        .number("files", store.files.len() as u64)
+        .number("k", u64::from(store.k))
+        .member("fatal", sites(alloc, store.fatal))
         .member("fault", Ok(Value::Null))
         .finish()
 }

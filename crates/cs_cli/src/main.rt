@@ -1,22 +1,9 @@
-//! The command line of the recovery tool: it recovers what a loss takes from a store in a folder, and checks a store.
-//!
-//! The work is the library's; here are the words of the command line, the folders, the texts and the statuses.
+//! The command line of the recovery tool that scripts rely on: the commands of cs_commands over the system's folders.
 #![tactic(auto)]
 
-mod folders;
-mod places;
-mod program;
-mod request;
-mod sample;
-mod stop;
-#[cfg(test)]
-mod tests;
-
-use folders::Folders;
-use program::run;
+use cs_commands::{Folders, Stop, report, run};
 use std::process::ExitCode;
 use std::{env, io};
-use stop::{Stop, report};
 
 fn main(rt: HostRuntime) -> ExitCode {
     let alloc = rt.alloc();

@@ -4,7 +4,7 @@ use crate::changes::Changed;
 use crate::stores::{built, catalog_of, run_of};
 use anyhow::{Result, anyhow};
 use cs_answers::Diagnosed;
-use cs_file_diagnosis::{are_absent, diagnose};
+use cs_file_diagnosis::{are_absent, diagnose, disputed_rows};
 use cs_rebuild::{check, rebuild};
 use cs_schema::{Catalog, Loss};
 use cs_store::FileSet;
@@ -71,10 +71,13 @@ pub fn tell<R: Threads + Sync + AllocGlobal + Print>(rt: &R, case: &Case<'_>) ->
         let rows = recovered(rt, alloc, &catalog, &files, loss)?;
         println!(rt; "recovered after the loss of {loss}: {rows} rows")?;
     }
+    let disputes = disputed_rows(alloc, &catalog, &diagnosis, 2)?;
     let diagnosed = Diagnosed {
         catalog,
         diagnosis,
         fatal: Vec::new(alloc),
+        disputes,
+        is_restoring: false,
     };
     print!(rt; "{diagnosed}")?;
     Ok(())

@@ -10,10 +10,10 @@ use crate::explaining::explain;
 use crate::forcing::bad_sites;
 use crate::reaching::{Reach, reach_of};
 use crate::tables::FoundTable;
-use cs_board::Gate;
 use cs_diagnosis::findings::{Explanation, Verdict};
 use cs_diagnosis::summary::verdict_of;
 use cs_inspection::{Badness, bad_files};
+use cs_progress::Progress;
 use cs_rebuild::Run;
 use cs_schema::{Catalog, FileName, Loss};
 use cs_store::FileSet;
@@ -38,7 +38,7 @@ pub struct Diagnosis {
 }
 
 /// What explains a store of which the bad files are known.
-fn diagnose_bad<R: Threads + Sync, G: Gate + Sync>(
+fn diagnose_bad<R: Threads + Sync, G: Progress + Sync>(
     run: &Run<'_, R, G>,
     catalog: &Catalog,
     files: &FileSet,
@@ -70,7 +70,7 @@ fn diagnose_bad<R: Threads + Sync, G: Gate + Sync>(
 /// on one table. Without a number, losses of as many sites are tried as are certain to tell it, and of one at least.
 ///
 /// No file stands under an unreadable name.
-pub fn diagnose<R: Threads + Sync, G: Gate + Sync>(
+pub fn diagnose<R: Threads + Sync, G: Progress + Sync>(
     run: &Run<'_, R, G>,
     catalog: &Catalog,
     files: &FileSet,

@@ -3,8 +3,11 @@
 #![tactic(auto)]
 
 mod absent;
+mod around;
 mod comparing;
 mod diagnosing;
+mod disputing;
+mod evidence;
 mod explaining;
 mod forcing;
 mod reaching;
@@ -12,8 +15,11 @@ mod surviving;
 mod tables;
 
 pub use absent::are_absent;
+pub use around::without;
 pub use cs_diagnosis::findings::{Explanation, Verdict};
+pub use cs_disputes::{Dispute, Disputes};
 pub use cs_inspection::Badness;
 pub use diagnosing::{Diagnosis, diagnose};
+pub use disputing::{TableDisputes, disputed_rows};
 pub use reaching::Reach;
 pub use tables::FoundTable;

@@ -4,12 +4,9 @@
 //! and synced before the first is replaced. No contract is told what a folder holds: of what a disk keeps, nothing is proved.
 #![tactic(auto)]
 
-mod files;
+mod giving_back;
+mod keeping;
 mod owner;
-mod record;
 mod shelf;
-mod taking;
 
-pub use record::Record;
 pub use shelf::FolderShelf;
-pub use taking::{RECORD, Taken, Untaken, is_unfinished, resume, take};

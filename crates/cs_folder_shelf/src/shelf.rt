@@ -2,15 +2,14 @@
 ghost use Rattle.std.specs.Prelude.{◌≡◌, ◌≤◌, ⊤, IsErrOf};
 ghost use Rattle.cs_store.specs.Fault.{CountsFault};
 
-use crate::files::{make_folder, remove_if_there, sync_folder};
 use crate::owner::give_owner;
-use crate::taking::{Taken, remove_record};
 use cs_folders::{FileLimits, StoreFolder};
 use cs_schema::FileName;
 use cs_shelf::Shelf;
 use cs_store::{Source, StoreFault};
+use cs_taking::{Taken, remove_if_there, sync_folder};
 use std::alloc::{AllocError, Global};
-use std::fs::{OpenFile, OpenOptions};
+use std::fs::{File, OpenFile, OpenOptions};
 use std::io::{ErrorKind, Write};
 use std::rt::Files;
 use std::{fs, io};
@@ -18,17 +17,17 @@ use std::{fs, io};
 /// A store in one folder, and the folder `replaced/N` in it that keeps what is replaced.
 #[derive(Drop)]
 pub struct FolderShelf<R> {
-    alloc: Global,
-    rt: R,
-    path: String,
+    pub(crate) alloc: Global,
+    pub(crate) rt: R,
+    pub(crate) path: String,
     /// By what the folder is taken, unless it is only looked at.
-    taken: Option<Taken>,
+    pub(crate) taken: Option<Taken>,
     source: StoreFolder<R>,
     /// Whether an old file is kept.
-    has_kept: bool,
+    pub(crate) has_kept: bool,
     /// Whether a name may have been given new bytes.
-    has_changed: bool,
-    faults: u64,
+    pub(crate) has_changed: bool,
+    pub(crate) faults: u64,
 }
 
 impl<R: Files + Copy + Drop> FolderShelf<R> {
@@ -48,16 +47,20 @@ impl<R: Files + Copy + Drop> FolderShelf<R> {
         })
     }
 
-    /// The same store, whose folder was taken so.
+    /// The same store, whose folder was taken so. What is known to change may have been given new bytes already.
     pub fn taken_by(self, taken: Taken) -> Self {
+        let has_kept = taken.record.keeps_any();
+        let has_changed = taken.record.changes.is_some();
         Self {
             taken: Some(taken),
+            has_kept,
+            has_changed,
             ..self
         }
     }
 
     /// The N of `replaced/N`.
-    fn number(&self) -> u32 {
+    pub(crate) fn number(&self) -> u32 {
         match &self.taken {
             Some(taken) => taken.record.kept,
             None => 0,
@@ -69,85 +72,9 @@ impl<R: Files + Copy + Drop> FolderShelf<R> {
         self.has_changed
     }
 
-    /// Gives the folder back: its restore is finished, or ended early. One that ended early after a name was given new
-    /// bytes stays unfinished. The number under which old files are kept, where some are.
-    pub fn give_back(self, is_finished: bool) -> Result<Option<u32>, StoreFault> {
-        let kept = if self.has_kept {
-            Some(self.number())
-        } else {
-            None
-        };
-        if self.taken.is_none() || (self.has_changed && !is_finished) {
-            return Ok(kept);
-        }
-        match remove_record(self.alloc, &self.rt, self.path.as_str()) {
-            Ok(()) => Ok(kept),
-            Err(e) if e.kind() == ErrorKind::OutOfMemory => Err(StoreFault::Memory),
-            Err(_) => Err(StoreFault::Device),
-        }
-    }
-
     /// The path of a store's file.
-    fn file(&self, name: FileName) -> Result<String, AllocError> {
+    pub(crate) fn file(&self, name: FileName) -> Result<String, AllocError> {
         format!(in self.alloc; "{}/{name}", self.path)
-    }
-
-    /// The folder that keeps what is replaced.
-    fn kept_folder(&self) -> Result<String, AllocError> {
-        format!(in self.alloc; "{}/replaced/{}", self.path, self.number())
-    }
-
-    /// Makes the folder that keeps what is replaced, unless it is there.
-    fn make_kept_folder(&self) -> io::Result<()> {
-        let all = format!(in self.alloc; "{}/replaced", self.path)?;
-        make_folder(&self.rt, all.as_str())?;
-        make_folder(&self.rt, self.kept_folder()?.as_str())
-    }
-
-    /// Keeps what stands under the name, if anything does: a file by a second name, and a folder by moving it. What is kept
-    /// already stays as it is.
-    fn keep_one(&self, name: FileName) -> io::Result<bool> {
-        let file = self.file(name)?;
-        let is_folder = match fs::symlink_metadata(&self.rt, file.as_str()) {
-            Ok(found) => found.is_dir(),
-            Err(e) if e.kind() == ErrorKind::NotFound => return Ok(false),
-            Err(e) => return Err(e),
-        };
-        self.make_kept_folder()?;
-        let kept = format!(in self.alloc; "{}/replaced/{}/{name}", self.path, self.number())?;
-        let done = if is_folder {
-            fs::rename(&self.rt, file.as_str(), kept.as_str())
-        } else {
-            fs::hard_link(&self.rt, file.as_str(), kept.as_str())
-        };
-        match done {
-            Ok(()) => Ok(true),
-            Err(e) if e.kind() == ErrorKind::AlreadyExists => Ok(true),
-            Err(e) => Err(e),
-        }
-    }
-
-    /// Brings the names of what is kept to the disk, and those of the store.
-    fn sync_kept(&self) -> io::Result<()> {
-        if self.has_kept {
-            let all = format!(in self.alloc; "{}/replaced", self.path)?;
-            sync_folder(&self.rt, self.kept_folder()?.as_str())?;
-            sync_folder(&self.rt, all.as_str())?;
-        }
-        sync_folder(&self.rt, self.path.as_str())
-    }
-
-    /// Keeps what stands under these names.
-    fn keep_all(&mut self, names: &[FileName]) -> io::Result<()>
-        ensures { self.new.faults ≡ self.old.faults }
-    {
-        for name in names {
-            match self.keep_one(*name) {
-                Ok(has_kept) => self.has_kept = self.has_kept || has_kept,
-                Err(e) => return Err(e),
-            }
-        }
-        self.sync_kept()
     }
 
     /// Writes the bytes beside the name, as the owner of what stands there, and brings them to the disk. What a stopped
@@ -170,6 +97,15 @@ impl<R: Files + Copy + Drop> FolderShelf<R> {
         self.write_beside(file.as_str(), beside.as_str(), bytes)?;
         self.has_changed = true;
         fs::rename(&self.rt, beside.as_str(), file.as_str())
+    }
+
+    /// Takes what stands under the name away, which is one step. It was kept before.
+    fn remove_one(&mut self, name: FileName) -> io::Result<()>
+        ensures { self.new.faults ≡ self.old.faults }
+    {
+        let file = self.file(name)?;
+        self.has_changed = true;
+        remove_if_there(&self.rt, file.as_str())
     }
 
     /// Counts a fault of the device, or takes the answer.
@@ -208,7 +144,7 @@ impl<R: Files + Copy + Drop> Source for FolderShelf<R> {
     }
 }
 
-impl<R: Files + Copy + Drop> Shelf for FolderShelf<R> {
+impl<R: Files<File = File> + Copy + Drop> Shelf for FolderShelf<R> {
     ghost use Rattle.cs_folder_shelf.specs.Claims.{no_claim};
 
     ghost holds = { λ s c. ⊥ };
@@ -241,6 +177,11 @@ impl<R: Files + Copy + Drop> Shelf for FolderShelf<R> {
     fn replace(&mut self, name: FileName, bytes: &[u8]) -> Result<(), StoreFault> {
         let replaced = self.replace_file(name, bytes);
         self.told(replaced)
+    }
+
+    fn remove(&mut self, name: FileName) -> Result<(), StoreFault> {
+        let removed = self.remove_one(name);
+        self.told(removed)
     }
 
     fn sync(&mut self) -> Result<(), StoreFault> {

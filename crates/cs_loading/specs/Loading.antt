@@ -10,13 +10,13 @@ use Rattle.cs_store.specs.FileSet.{Files, contents_of}
 use Rattle.cs_store.specs.declared.fault.Fault.{Fault}
 use Rattle.cs_safety.specs.Safety.{IsSafe}
 use Rattle.cs_order.specs.Tables.{table_of}
+use Rattle.cs_rows.specs.WalkedView.{count_of}
 use Rattle.cs_recovery.specs.BuildAnswers.{build_fault}
 use Rattle.cs_recovery.specs.Columns.{rows_in}
 use Rattle.cs_recovery.specs.Holding.{Holds}
 use Rattle.cs_csv.specs.Fields.{Record}
 use Rattle.cs_csv.specs.Faults.{HoldsRows, IsFirstFault, cells_at}
 use Rattle.cs_csv.specs.Reading.{IfKnown}
-use Rattle.cs_csv.specs.Writing.{row_count}
 use Rattle.cs_csv.specs.declared.fault.CsvFault.{CsvFault}
 use Rattle.cs_csv.specs.declared.fault.CsvFault.TheVariants as csv
 use Rattle.cs_loading.specs.Repeats.{IsFirstRepeat}
@@ -69,7 +69,7 @@ pub record LoadsRows (C : CatalogData) (known : Option (List ℕ)) (loaded : Loa
   pub cells : List Cells
   pub reads : ReadsRows C known cells
   pub holds : HoldsTableOf C (rows_in cells) (contents_of loaded.files)
-  pub count : loaded.rows ≡ row_count cells
+  pub count : loaded.rows ≡ count_of cells
 
 -- What `load` answers of a text: files that hold exactly the table of its rows, and how many these are; or the first refusal.
 abbrev pub LoadsTable : CatalogData → Option (List ℕ) → Result Loaded LoadFault → Type 0

@@ -1,5 +1,6 @@
 //! The files of a store from rows, and which rows make none.
-ghost use Rattle.std.specs.Prelude.{◌≡◌, Some};
+ghost use Rattle.std.specs.Prelude.{◌≡◌, [], true, false, Some};
+ghost use Rattle.cs_safety.specs.Safety.{IsSafe};
 ghost use Rattle.cs_store.specs.Fault.{MemoryOr};
 ghost use Rattle.cs_recovery.specs.BuildAnswers.{build_fault};
 ghost use Rattle.cs_recovery.specs.Columns.{AreTableColumns, rows_in};
@@ -9,10 +10,19 @@ use crate::counting::rows_in_range;
 use crate::fault::LoadFault;
 use crate::repeats::first_repeat;
 use cs_rebuild::{Fault, FileSet, Gate, Run, build};
-use cs_schema::{Catalog, Cells};
+use cs_safety::safe;
+use cs_schema::{Catalog, Cells, Loss};
 use std::alloc::Global;
 use std::marker::Sync;
 use std::thread::Threads;
+
+/// Whether a catalog is safe where no site is lost, as that of a new store has to be.
+pub fn is_safe(catalog: &Catalog) -> bool
+    ensures yes { result ≡ true → IsSafe catalog.now [] }
+    ensures no { result ≡ false → ¬ IsSafe catalog.now [] }
+{
+    safe(catalog, Loss::none())
+}
 
 /// The rows whose primary key stands twice.
 fn twice(alloc: Global, catalog: &Catalog, rows: &[Cells]) -> LoadFault

@@ -1,10 +1,21 @@
-//! How many rows lie in a range.
+//! How many rows there are, and how many lie in a range.
 ghost use Rattle.std.specs.Prelude.{◌≡◌, ◌<◌, ◌==◌, length};
 ghost use Rattle.std.specs.List.{filter};
+ghost use Rattle.cs_rows.specs.WalkedView.{count_of};
 ghost use Rattle.cs_schema.specs.Rows.{segment_of_row};
 ghost use Rattle.cs_recovery.specs.Columns.{AreTableColumns, rows_in};
 
 use cs_schema::{Catalog, Cells};
+
+/// How many rows columns have.
+pub fn count_rows(cells: &[Cells]) -> usize
+    ensures { result ≡ count_of cells.now }
+{
+    match cells.first() {
+        Some(first) => first.len(),
+        None => 0,
+    }
+}
 
 /// How many rows lie in the range of a segment.
 pub(crate) fn rows_in_range(catalog: &Catalog, rows: &[Cells], p: u16, s: u16) -> usize

@@ -13,7 +13,8 @@ mod loading;
 mod repeats;
 mod words;
 
-pub use building::build_rows;
+pub use building::{build_rows, is_safe};
+pub use counting::count_rows;
 pub use dumping::{DumpFault, dump};
 pub use fault::{LoadFault, Repeat};
 pub use loading::{Loaded, load};

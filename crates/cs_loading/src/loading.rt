@@ -1,15 +1,12 @@
 //! A new store from a CSV.
-ghost use Rattle.std.specs.Prelude.{◌≡◌, [], true, false};
-ghost use Rattle.cs_safety.specs.Safety.{IsSafe};
-ghost use Rattle.cs_csv.specs.Writing.{row_count};
 ghost use Rattle.cs_loading.specs.Loading.{IsTextFaultOf, LoadsTable};
 
-use crate::building::build_rows;
+use crate::building::{build_rows, is_safe};
+use crate::counting::count_rows;
 use crate::fault::LoadFault;
 use cs_csv::{CsvFault, read_rows};
 use cs_rebuild::{FileSet, Gate, Run};
-use cs_safety::safe;
-use cs_schema::{Catalog, Cells, Loss};
+use cs_schema::Catalog;
 use std::io::Read;
 use std::marker::Sync;
 use std::thread::Threads;
@@ -19,24 +16,6 @@ use std::thread::Threads;
 pub struct Loaded {
     pub files: FileSet,
     pub rows: usize,
-}
-
-/// Whether a catalog is safe where no site is lost.
-fn is_safe(catalog: &Catalog) -> bool
-    ensures yes { result ≡ true → IsSafe catalog.now [] }
-    ensures no { result ≡ false → ¬ IsSafe catalog.now [] }
-{
-    safe(catalog, Loss::none())
-}
-
-/// How many rows columns have.
-fn count_rows(cells: &[Cells]) -> usize
-    ensures { result ≡ row_count cells.now }
-{
-    match cells.first() {
-        Some(first) => first.len(),
-        None => 0,
-    }
 }
 
 /// Why a text has no rows.

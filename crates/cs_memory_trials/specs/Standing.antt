@@ -12,8 +12,8 @@ use Rattle.cs_schema.specs.Losses.{Sites}
 use Rattle.cs_store.specs.FileSet.{Files}
 use Rattle.cs_store.specs.declared.fault.StoreFault.{StoreFault}
 use Rattle.cs_store.specs.declared.fault.StoreFault.TheVariants.{Device}
-use Rattle.cs_store.specs.declared.memory.source.MemorySource.{MemorySource}
 use Rattle.cs_shelf.specs.declared.memory.MemoryShelf.{MemoryShelf}
+use Rattle.cs_taking.specs.declared.record.Work.TheVariants.{Restore}
 use Rattle.cs_memory_trials.specs.declared.places.MemoryPlaces.{MemoryPlaces}
 use Rattle.cs_memory_trials.specs.declared.standing.Standing.{Standing}
 use Rattle.cs_memory_trials.specs.declared.outputs.MemoryOutput.{MemoryOutput}
@@ -91,7 +91,14 @@ pub record ChangesStore (path : List ℕ) (s t : MemoryPlaces) : Type 0 where
 pub record TakesStore (s : MemoryPlaces) (path : List ℕ) (lost : Sites) (shelf : MemoryShelf) (t : MemoryPlaces) : Type 0 where
   pub holds : HoldsStore (get_by_text s.stores path) shelf
   pub files : files_at t path ≡ files_at s path
-  pub restoring : option_and_then (λ store. store.restoring) (get_by_text t.stores path) ≡ Some lost
+  pub restoring : option_and_then (λ store. store.restoring) (get_by_text t.stores path) ≡ Some (Restore lost)
+  pub taken : option_map string_bytes t.taken ≡ Some path
+  pub changes : ChangesStore path s t
+
+-- the shelf holds what stands at this path, where an undo is now unfinished; no file changed
+pub record TakesUndo (s : MemoryPlaces) (path : List ℕ) (shelf : MemoryShelf) (t : MemoryPlaces) : Type 0 where
+  pub holds : HoldsStore (get_by_text s.stores path) shelf
+  pub files : files_at t path ≡ files_at s path
   pub taken : option_map string_bytes t.taken ≡ Some path
   pub changes : ChangesStore path s t
 

@@ -6,12 +6,15 @@
 #![tactic(auto)]
 
 mod changes;
+mod files;
 mod names;
 mod outputs;
 mod places;
 mod shelves;
 mod standing;
+mod sums;
 mod tables;
+mod undos;
 mod verbs;
 
 use anyhow::{Result, anyhow};
@@ -20,10 +23,35 @@ use cs_schema::samples::CITIES;
 use cs_shelf::Stop;
 use places::MemoryPlaces;
 use std::alloc::Global;
+use sums::SUMS;
 use verbs::answered;
 
 /// The rows of the sample catalog of cities.
 const TABLE: &str = "id,city,v\n3,la,3\n1,ny,7\n2,la,5\n";
+
+/// A catalog of the same columns, all on one site.
+const ONE: &str = r#"version = 1
+table = "t"
+key = "id"
+sites = 1
+[[column]]
+name = "v"
+kind = "int"
+[[column]]
+name = "id"
+kind = "int"
+[[column]]
+name = "city"
+kind = "text"
+[[projection]]
+name = "all"
+columns = ["city", "v", "id"]
+codes = [2, 4, 4]
+sort = ["city", "v"]
+cuts = []
+sites = [1]
+joins = []
+"#;
 
 /// The bytes of a damaged file.
 const DAMAGE: &[u8] = b"damaged";
@@ -36,10 +64,15 @@ fn stop_of(after: &str) -> Result<Stop> {
     })
 }
 
-/// Places with a catalog and a table alone.
+/// Places with two catalogs, a table and a manifest alone.
 fn first_places(alloc: Global) -> Result<MemoryPlaces> {
     let mut places = MemoryPlaces::new(alloc)?;
-    for (path, text) in [("cities.toml", CITIES), ("cities.csv", TABLE)] {
+    for (path, text) in [
+        ("cities.toml", CITIES),
+        ("one.toml", ONE),
+        ("cities.csv", TABLE),
+        ("cities.sha256", SUMS),
+    ] {
         if places.put_text(path, text.as_bytes()).is_err() {
             return Err(anyhow!("want of memory"));
         }

@@ -57,6 +57,8 @@ impl MemoryOutput {
             files: copy_files(self.alloc, &self.sink.files)?,
             kept: FileSet::new(self.alloc)?,
             restoring: None,
+            begun: None,
+            undoable: Vec::new(self.alloc),
         };
         let path = self.path.clone()?;
         match self.marked.try_borrow_mut() {

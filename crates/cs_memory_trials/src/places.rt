@@ -3,12 +3,12 @@ ghost use Rattle.std.specs.Prelude.{◌≡◌, ◌≤◌, Some, IfOk, IfErr, OnO
 ghost use Rattle.cs_store.specs.Fault.{CountsFault};
 ghost use Rattle.cs_memory_trials.specs.Standing.{Denies, IsSame, MakesOutput, PutsText, is_taken_at};
 
+use crate::files::MemoryFiles;
 use crate::outputs::{Marked, MemoryOutput};
 use crate::standing::{Standing, copy_files};
 use cs_places::Places;
 use cs_schema::Catalog;
 use cs_shelf::Stop;
-use cs_store::memory::MemorySource;
 use cs_store::{FileSet, StoreFault};
 use std::alloc::{AllocError, Global};
 use std::cell::RefCell;
@@ -117,7 +117,7 @@ impl MemoryPlaces {
 impl Places for MemoryPlaces {
     ghost use Rattle.cs_memory_trials.specs.Standing.{Misses, ReadsBytes, files_at};
 
-    type Store = MemorySource;
+    type Store = MemoryFiles;
 
     type Output = MemoryOutput;
 
@@ -154,12 +154,12 @@ impl Places for MemoryPlaces {
         }
     }
 
-    fn files(&self, path: &str, _catalog: &Catalog) -> Result<MemorySource, AllocError> {
+    fn files(&self, path: &str, _catalog: &Catalog) -> Result<MemoryFiles, AllocError> {
         let files = match self.stores.get(path) {
             Some(store) => copy_files(self.alloc, &store.files)?,
             None => FileSet::new(self.alloc)?,
         };
-        Ok(MemorySource::new(self.alloc, files, None))
+        Ok(MemoryFiles::new(self.alloc, files))
     }
 
     fn output(&mut self, path: &str) -> Result<MemoryOutput, StoreFault> {

@@ -1,7 +1,9 @@
 //! Stores in memory that are listed, taken for a restore and given back.
 use crate::names::sorted_names;
 use crate::places::MemoryPlaces;
-use cs_places::{GivenBack, Listings, Shelves, Untaken};
+use crate::standing::copy_files;
+use crate::undos::{number_of, put_shelf, undoable_of};
+use cs_places::{GivenBack, Listings, Shelves, UndoOf, Undoable, Untaken, Work};
 use cs_schema::{Catalog, Loss};
 use cs_shelf::MemoryShelf;
 use cs_store::StoreFault;
@@ -36,16 +38,15 @@ impl Listings for MemoryPlaces {
     }
 }
 
-/// The N of `replaced/N`: old files are kept in one place.
-const KEPT: u32 = 1;
-
 impl Shelves for MemoryPlaces {
     ghost use Rattle.std.specs.BTreeMap.{get_by_text};
-    ghost use Rattle.cs_memory_trials.specs.Standing.{GivesBack, HoldsStore, TakesStore};
+    ghost use Rattle.cs_memory_trials.specs.Standing.{GivesBack, HoldsStore, TakesStore, TakesUndo};
 
     type Shelf = MemoryShelf;
 
     ghost takes_store = { λ s path catalog lost store t. TakesStore s path lost store t };
+
+    ghost takes_undo = { λ s path catalog asked back names store t. TakesUndo s path store t };
 
     ghost looks_at = { λ s path catalog store. HoldsStore (get_by_text s.stores path) store };
 
@@ -59,13 +60,19 @@ impl Shelves for MemoryPlaces {
         let Some(store) = self.stores.get_mut(path) else {
             return Err(Untaken::Device);
         };
-        if store.restoring.is_some() {
-            return Err(Untaken::Unfinished);
+        match store.restoring {
+            None => {}
+            Some(Work::Restore(_)) => return Err(Untaken::Unfinished),
+            Some(Work::Undo(_)) => return Err(Untaken::UnfinishedUndo),
         }
         let Ok(shelf) = store.shelf(self.alloc, self.stop) else {
             return Err(Untaken::Memory);
         };
-        store.restoring = Some(lost);
+        let Ok(begun) = copy_files(self.alloc, &store.files) else {
+            return Err(Untaken::Memory);
+        };
+        store.begun = Some(begun);
+        store.restoring = Some(Work::Restore(lost));
         self.stop = None;
         self.taken = Some(name);
         Ok(shelf)
@@ -79,14 +86,52 @@ impl Shelves for MemoryPlaces {
         let Some(store) = self.stores.get(path) else {
             return Err(Untaken::Device);
         };
-        let Some(lost) = store.restoring else {
-            return Err(Untaken::Finished);
+        let lost = match store.restoring {
+            Some(Work::Restore(lost)) => lost,
+            Some(Work::Undo(_)) => return Err(Untaken::UnfinishedUndo),
+            None => return Err(Untaken::Finished),
         };
         let Ok(shelf) = store.shelf(self.alloc, None) else {
             return Err(Untaken::Memory);
         };
         self.taken = Some(name);
         Ok((shelf, lost))
+    }
+
+    #[tactic(auto, using(std::proofs::lemmas::Map::Text::text_keys))]
+    fn take_undo(
+        &mut self,
+        path: &str,
+        _catalog: &Catalog,
+        asked: UndoOf,
+    ) -> Result<(MemoryShelf, Undoable), Untaken> {
+        let Ok(name) = String::from_str(self.alloc, path) else {
+            return Err(Untaken::Memory);
+        };
+        let Some(store) = self.stores.get_mut(path) else {
+            return Err(Untaken::Device);
+        };
+        let number = match number_of(store, asked) {
+            Ok(number) => number,
+            Err(untaken) => return Err(untaken),
+        };
+        let undoable = match undoable_of(self.alloc, store, number) {
+            Ok(undoable) => undoable,
+            Err(untaken) => return Err(untaken),
+        };
+        let Ok(shelf) = store.shelf(self.alloc, self.stop) else {
+            return Err(Untaken::Memory);
+        };
+        if store.begun.is_none() {
+            let Ok(begun) = copy_files(self.alloc, &store.files) else {
+                return Err(Untaken::Memory);
+            };
+            store.begun = Some(begun);
+        }
+        store.restoring = Some(Work::Undo(number));
+        self.stop = None;
+        self.taken = Some(name);
+        Ok((shelf, undoable))
     }
 
     fn look(&self, path: &str, _catalog: &Catalog) -> Result<MemoryShelf, StoreFault> {
@@ -111,20 +156,9 @@ impl Shelves for MemoryPlaces {
         let Some(standing) = self.stores.get_mut(path.as_str()) else {
             return Err(StoreFault::Device);
         };
-        let is_unfinished = !store.past.is_empty() && !is_finished;
-        let kept = if store.kept.len() > standing.kept.len() {
-            Some(KEPT)
-        } else {
-            None
-        };
-        standing.files = store.files;
-        standing.kept = store.kept;
-        if !is_unfinished {
-            standing.restoring = None;
+        match put_shelf(self.alloc, standing, store, is_finished) {
+            Ok(given) => Ok(given),
+            Err(_) => Err(StoreFault::Memory),
         }
-        Ok(GivenBack {
-            kept,
-            is_unfinished,
-        })
     }
 }

@@ -1,7 +1,7 @@
 //! Stores that stand in memory.
 ghost use Rattle.std.specs.Prelude.{◌≡◌, IfOk};
 
-use cs_schema::Loss;
+use cs_places::{Undoable, Work};
 use cs_shelf::{MemoryShelf, Stop};
 use cs_store::FileSet;
 use cs_store::memory::{MemorySink, save_to_memory};
@@ -15,8 +15,12 @@ pub struct Standing {
     pub files: FileSet,
     /// The old files that restores kept.
     pub kept: FileSet,
-    /// The sites of a restore that is not finished.
-    pub restoring: Option<Loss>,
+    /// The restore or the undo that is not finished.
+    pub restoring: Option<Work>,
+    /// The files as they stood when that began.
+    pub begun: Option<FileSet>,
+    /// What restores and undos that are finished changed, from number 1 on.
+    pub undoable: Vec<Undoable>,
 }
 
 /// The same files once more.

@@ -1,3 +1,3 @@
-mod SafeNumbers
 mod SaidStatus
 mod AskedDiagnosis
+mod NoneFailed

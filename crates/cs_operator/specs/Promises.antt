@@ -1,8 +1,8 @@
 -- What the verbs do, each by what the places, the store and the output say of one call.
-use Rattle.std.specs.Prelude.{◌≡◌, ◌⊎◌, ℕ, Bool, true, false, List, [], Option, Ok, Err}
+use Rattle.std.specs.Prelude.{◌≡◌, ◌⊎◌, ℕ, Bool, List, [], Option, Ok}
 use Rattle.std.specs.FinMap.{entries}
 use Rattle.cs_schema.specs.CatalogData.{CatalogData}
-use Rattle.cs_schema.specs.FileNames.{FileContents, surviving}
+use Rattle.cs_schema.specs.FileNames.{surviving}
 use Rattle.cs_schema.specs.Losses.{Sites}
 use Rattle.cs_schema.specs.declared.file_name.FileName.{FileName}
 use Rattle.cs_store.specs.FileSet.{Files, contents_of}
@@ -10,48 +10,26 @@ use Rattle.cs_store.specs.Load.{Loads}
 use Rattle.cs_store.specs.LoadReadable.{LoadsReadable}
 use Rattle.cs_store.specs.Save.{Saves}
 use Rattle.cs_store.specs.declared.fault.StoreFault.{StoreFault}
-use Rattle.cs_recovery.specs.Claims.{IsRebuildAnswer, IsCheckAnswer}
-use Rattle.cs_inspection.specs.BadFiles.{AreBadFiles}
-use Rattle.cs_design.specs.Fatal.{IsSafeBeyond}
+use Rattle.cs_recovery.specs.Claims.{IsRebuildAnswer}
 use Rattle.cs_file_diagnosis.specs.Diagnoses.{IsDiagnosis}
-use Rattle.cs_file_diagnosis.specs.declared.diagnosing.Diagnosis.{Diagnosis}
+use Rattle.cs_file_diagnosis.specs.Disputed.{AreAllDisputes}
+use Rattle.cs_answers.specs.declared.diagnosed.Diagnosed.{Diagnosed}
 use Rattle.cs_reports.specs.Design.{IsDesign}
 use Rattle.cs_reports.specs.declared.design.Design.{Design}
 use Rattle.cs_places.specs.Finding.{FindsCatalog, FindsStore, LooksUp}
 use Rattle.cs_operator.specs.Showing.{ShowsStore, ShowsFile}
-use Rattle.cs_answers.specs.declared.checked.Checked.{Checked}
-use Rattle.cs_answers.specs.declared.checked.Verdict.{Verdict}
-use Rattle.cs_answers.specs.declared.checked.Verdict.TheVariants.{Sound, Fatal, BadFiles, Unsound}
-use Rattle.cs_operator.specs.TablePromises.{DumpsStore, LoadsStore}
+use Rattle.cs_checking.specs.Checks.{ChecksStore}
+use Rattle.cs_verifying.specs.Promises.{ListsStore, VerifiesStore}
+use Rattle.cs_operator.specs.TablePromises.{DumpsStore, LoadsStore, RelaysStore}
 use Rattle.cs_restoring.specs.Restores.{DoesRestore}
+use Rattle.cs_restoring.specs.Undoes.{DoesUndo}
+use Rattle.cs_taking.specs.declared.undoing.UndoOf.{UndoOf}
 use Rattle.cs_answers.specs.declared.answer.Answer.{Answer}
 use Rattle.cs_answers.specs.declared.answer.Answer.TheVariants as answer
 
--- What a verdict says of files. Of a sound store: no file is bad, it has so many rows, and any k sites may fail.
-abbrev pub Judges : CatalogData → FileContents → Bool → Verdict → Type 0
-Judges C F is_bad (Sound rows k) = (is_bad ≡ false) × IsCheckAnswer C F 0 (Ok rows) × IsSafeBeyond C [] k
-Judges C F is_bad (Fatal k L) = ¬ IsSafeBeyond C [] k
-Judges C F is_bad BadFiles = is_bad ≡ true
-Judges C F is_bad (Unsound fault) = (is_bad ≡ false) × IsCheckAnswer C F 0 (Err fault)
-
 module _ {P S : Type 0} (reads : P → List ℕ → List ℕ → P → Type 0) (opens : P → List ℕ → CatalogData → S → Type 0) (gives : S → FileName → Option (List ℕ) → S → Type 0) where
-  -- the store at this path was found and each of its files read; these are its bad files, and the verdict was given on what could be read
-  pub record ChecksStore (refuses : S → FileName → StoreFault → S → Type 0) (restores : P → List ℕ → Bool → Type 0) (s : P) (path : List ℕ) (checked : Checked) (t : P) : Type 0 where
-    pub catalog : CatalogData
-    pub files : Files
-    pub unreadable : List FileName
-    pub is_bad : Bool
-    pub store : S
-    pub left : S
-    pub finds : FindsStore reads opens s path catalog store t
-    pub loads : LoadsReadable gives refuses (surviving catalog []) store files unreadable left
-    pub inspected : AreBadFiles catalog (contents_of files) unreadable checked.bad.items
-    pub none_bad : is_bad ≡ false → (checked.bad.items ≡ []) × (unreadable ≡ [])
-    pub judged : Judges catalog (contents_of files) is_bad checked.verdict
-    pub restoring : restores t path checked.is_restoring
-
-  -- the store at this path was found and each of its files read, and this is the diagnosis of what could be read
-  pub record DiagnosesStore (refuses : S → FileName → StoreFault → S → Type 0) (s : P) (path : List ℕ) (at_most : Option ℕ) (diagnosis : Diagnosis) (t : P) : Type 0 where
+  -- the store at this path was found and each of its files read; this is the diagnosis of what could be read, and where each two of its tables differ
+  pub record DiagnosesStore (refuses : S → FileName → StoreFault → S → Type 0) (restores : P → List ℕ → Bool → Type 0) (s : P) (path : List ℕ) (at_most : Option ℕ) (disputes : ℕ) (diagnosed : Diagnosed) (t : P) : Type 0 where
     pub catalog : CatalogData
     pub files : Files
     pub unreadable : List FileName
@@ -59,7 +37,9 @@ module _ {P S : Type 0} (reads : P → List ℕ → List ℕ → P → Type 0) (
     pub left : S
     pub finds : FindsStore reads opens s path catalog store t
     pub loads : LoadsReadable gives refuses (surviving catalog []) store files unreadable left
-    pub diagnosed : IsDiagnosis catalog (contents_of files) unreadable at_most diagnosis
+    pub diagnosis : IsDiagnosis catalog (contents_of files) unreadable at_most diagnosed.diagnosis
+    pub disputed : AreAllDisputes catalog diagnosed.diagnosis.tables.items disputes diagnosed.disputes.items
+    pub restoring : restores t path diagnosed.is_restoring
 
   -- the store at this path was loaded without the lost sites, and its rebuild answered these files
   pub record RebuildsStore (s : P) (path : List ℕ) (L : Sites) (rebuilt : Files) (t : P) : Type 0 where
@@ -109,16 +89,20 @@ module _ {P : Type 0} (reads : P → List ℕ → List ℕ → P → Type 0) (dr
 
 module _ {P S K I N B : Type 0} (reads : P → List ℕ → List ℕ → P → Type 0) (opens : P → List ℕ → CatalogData → S → Type 0) (draws : P → List ℕ → List ℕ → P → Type 0) (makes : P → List ℕ → K → P → Type 0) (gives : S → FileName → Option (List ℕ) → S → Type 0) (refuses : S → FileName → StoreFault → S → Type 0) (takes : K → FileName → List ℕ → K → Type 0) (marks : K → ℕ → K → Type 0)
     (opens_table : P → List ℕ → I → P → Type 0) (remaining : I → Option (List ℕ)) (begins : P → List ℕ → List ℕ → N → P → Type 0) (takes_new : N → FileName → List ℕ → N → Type 0) (marks_new : N → ℕ → N → Type 0) (writes_table : P → List ℕ → List ℕ → P → Type 0) (lists : P → List ℕ → List (List ℕ) → P → Type 0) (restores : P → List ℕ → Bool → Type 0)
-    (takes_store : P → List ℕ → CatalogData → Sites → B → P → Type 0) (looks_at : P → List ℕ → CatalogData → B → Type 0) (gives_back : P → B → Bool → P → Type 0) (holds may_leave : B → Files → Type 0) where
+    (takes_store : P → List ℕ → CatalogData → Sites → B → P → Type 0) (takes_undo : P → List ℕ → CatalogData → UndoOf → Files → List FileName → B → P → Type 0) (looks_at : P → List ℕ → CatalogData → B → Type 0) (gives_back : P → B → Bool → P → Type 0) (holds may_leave : B → Files → Type 0) where
   -- what was done for this answer; for a help text nothing
   abbrev pub Performs : P → P → Answer → Type 0
   Performs s t (answer.Told text) = t ≡ s
   Performs s t (answer.Checked checked) = (path : List ℕ) × ChecksStore reads opens gives refuses restores s path checked t
   Performs s t (answer.Shown view) = (path : List ℕ) × ShowsStore reads opens gives refuses lists restores s path view t
   Performs s t (answer.ShownFile view) = (path : List ℕ) × (text : List ℕ) × ShowsFile reads opens gives s path text view t
-  Performs s t (answer.Diagnosed diagnosed) = (path : List ℕ) × (at_most : Option ℕ) × DiagnosesStore reads opens gives refuses s path at_most diagnosed.diagnosis t
+  Performs s t (answer.Diagnosed diagnosed) = (path : List ℕ) × (at_most : Option ℕ) × (disputes : ℕ) × DiagnosesStore reads opens gives refuses restores s path at_most disputes diagnosed t
   Performs s t (answer.Recovered recovered) = (path : List ℕ) × (L : Sites) × (output_path : List ℕ) × RecoversStore reads opens gives makes takes marks s path L output_path recovered.files t
-  Performs s t (answer.Restored restoration) = (path : List ℕ) × DoesRestore reads opens takes_store looks_at gives_back holds may_leave s path restoration t
+  Performs s t (answer.Restored restoration) = (path : List ℕ) × (is_dry_run resumes : Bool) × (L : Sites) × DoesRestore reads opens takes_store looks_at gives_back holds may_leave is_dry_run resumes L s path restoration t
+  Performs s t (answer.Listed listed) = (path : List ℕ) × ListsStore reads opens gives refuses s path listed t
+  Performs s t (answer.Verified verified) = (path : List ℕ) × (manifest : List ℕ) × VerifiesStore reads opens gives refuses opens_table remaining s path manifest verified t
+  Performs s t (answer.Undone undone) = (path : List ℕ) × (asked : UndoOf) × DoesUndo reads opens takes_undo gives_back holds may_leave s path asked t undone
   Performs s t (answer.Designed designed) = (path : List ℕ) × (lost : Sites) × DesignsCatalog reads draws s path lost designed.design t
   Performs s t (answer.Loaded loaded) = (catalog : List ℕ) × (table : List ℕ) × (store : List ℕ) × LoadsStore reads opens_table remaining begins takes_new marks_new s catalog table store loaded.files loaded.rows t
-  Performs s t (answer.Dumped dumped) = (path : List ℕ) × (L : Sites) × DumpsStore reads opens gives writes_table s path L dumped t
+  Performs s t (answer.Dumped dumped) = (path : List ℕ) × (L : Sites) × DumpsStore reads opens gives restores writes_table s path L dumped t
+  Performs s t (answer.Relaid relaid) = (path : List ℕ) × (L : Sites) × (catalog : List ℕ) × (store : List ℕ) × RelaysStore reads opens gives begins takes_new marks_new s path L catalog store relaid.files relaid.rows t

@@ -1,19 +1,28 @@
 //! The verb `dump`.
-ghost use Rattle.std.specs.Prelude.{IfOk};
-ghost use Rattle.cs_operator.specs.TablePromises.{DumpsStore, ReadsText, WritesText};
+ghost use Rattle.std.specs.Prelude.{◌≡◌, IfOk};
+ghost use Rattle.cs_reading.specs.Standing.{standing};
+ghost use Rattle.cs_operator.specs.TablePromises.{DumpsStore, GivesText, ReadsText, WritesText};
 
 use crate::host::{Host, World};
-use crate::ways::{refused, see_way, unmade};
+use crate::surviving::{Surviving, read_survivors, refuse};
+use crate::ways::{see_way, unmade};
 use cs_answers::Dumped;
 use cs_loading::DumpFault;
 use cs_operator_words::Dumping;
-use cs_places::{Stop, Tables, find_store, stop_of};
+use cs_places::{Stop, Tables, find_store};
 use cs_progress::{Progress, Stage};
-use cs_schema::Catalog;
-use cs_store::{Fault, load};
+use cs_reading::SharedSource;
+use cs_rebuild::Run;
 use std::alloc::Global;
 use std::marker::Sync;
 use std::thread::Threads;
+
+/// The text of a store's table, and whether a restore of the store was left unfinished.
+#[derive(Drop)]
+struct TableText {
+    text: Vec<u8>,
+    is_restoring: bool,
+}
 
 /// Writes the table of a store as CSV, to a new file or as the answer.
 pub fn dump<R: Threads + Sync, G: Progress + Sync, P: World>(
@@ -21,7 +30,7 @@ pub fn dump<R: Threads + Sync, G: Progress + Sync, P: World>(
     places: &mut P,
     request: &Dumping<'_>,
 ) -> Result<Dumped, Stop>
-    ensures { IfOk result (λ dumped. DumpsStore P.reads P.opens P.Store.gives P.writes_table
+    ensures { IfOk result (λ dumped. DumpsStore P.reads P.opens (standing P.Store.answers) P.restores P.writes_table
         places.old request.now.store.now request.now.lost dumped places.new) }
 {
     let alloc = host.alloc;
@@ -39,49 +48,52 @@ pub fn dump<R: Threads + Sync, G: Progress + Sync, P: World>(
     write_text(alloc, places, request.table, text)
 }
 
-/// How a fault ends a dump: where files are not as they should be, `diagnose` tells more.
-fn stop_by(alloc: Global, catalog: &Catalog, request: &Dumping<'_>, fault: &DumpFault) -> Stop {
-    let DumpFault::Store(fault) = fault else {
-        return Stop::Memory;
-    };
-    let stop = stop_of(alloc, catalog, request.lost, fault);
-    match (fault, stop) {
-        (Fault::Site | Fault::Unsafe(_), stop) => stop,
-        (_, Stop::Refused(text)) => diagnosed(alloc, text.as_str(), request.store),
-        (_, stop) => stop,
-    }
-}
-
-/// A refusal that names what tells more of the store.
-fn diagnosed(alloc: Global, lines: &str, store: &str) -> Stop {
-    let line = match lines.split_once("\n") {
-        Some((line, _)) => line,
-        None => lines,
-    };
-    refused(format!(in alloc; "{line}\nnext: pinepolo diagnose {store}\n").ok())
-}
-
 /// The text of the table that a store holds, without the sites that are lost.
 fn read_text<R: Threads + Sync, G: Progress + Sync, P: World>(
     host: &Host<'_, R, G>,
     places: &mut P,
     request: &Dumping<'_>,
-) -> Result<Vec<u8>, Stop>
-    ensures { IfOk result (λ text. ReadsText P.reads P.opens P.Store.gives places.old request.now.store.now request.now.lost text.items places.new) }
+) -> Result<TableText, Stop>
+    ensures { IfOk result (λ found. ReadsText P.reads P.opens (standing P.Store.answers) P.restores
+        places.old request.now.store.now request.now.lost found.text.items found.is_restoring places.new) }
 {
-    let (alloc, lost) = (host.alloc, request.lost);
-    let run = host.run_by(request.workers);
-    let (catalog, mut source) = match find_store(alloc, places, request.store) {
+    let (catalog, source) = match find_store(host.alloc, places, request.store) {
         Ok(found) => found,
         Err(stop) => return Err(stop),
     };
-    let files = match load(alloc, &catalog, lost, &mut source) {
-        Ok(files) => files,
-        Err(fault) => return Err(stop_of(alloc, &catalog, lost, &fault)),
+    let Ok(is_restoring) = places.is_restoring(request.store) else {
+        return Err(Stop::Memory);
     };
-    match cs_loading::dump(&run, &catalog, &files, lost, Vec::new(alloc)) {
+    let store = Surviving {
+        catalog: &catalog,
+        lost: request.lost,
+        path: request.store,
+        is_restoring,
+    };
+    let run = host.run_by(request.workers);
+    match text_of(host, &run, &store, &source) {
+        Ok(text) => Ok(TableText { text, is_restoring }),
+        Err(stop) => Err(stop),
+    }
+}
+
+/// The text of the table that the survivors of a store hold.
+fn text_of<R: Threads + Sync, G: Progress + Sync, S: SharedSource>(
+    host: &Host<'_, R, G>,
+    run: &Run<'_, R, G>,
+    store: &Surviving<'_>,
+    source: &S,
+) -> Result<Vec<u8>, Stop>
+    ensures { IfOk result (λ text. GivesText (standing S.answers) store.now.catalog.now store.now.lost source.now text.items source.now) }
+{
+    let files = match read_survivors(host, store, source) {
+        Ok(files) => files,
+        Err(stop) => return Err(stop),
+    };
+    match cs_loading::dump(run, store.catalog, &files, store.lost, Vec::new(host.alloc)) {
         Ok(text) => Ok(text),
-        Err(fault) => Err(stop_by(alloc, &catalog, request, &fault)),
+        Err(DumpFault::Store(fault)) => Err(refuse(host, store, &files, &[], &fault)),
+        Err(DumpFault::Text(_)) => Err(Stop::Memory),
     }
 }
 
@@ -90,19 +102,26 @@ fn write_text<P: Tables>(
     alloc: Global,
     places: &mut P,
     path: Option<&str>,
-    text: Vec<u8>,
+    found: TableText,
 ) -> Result<Dumped, Stop>
-    ensures { IfOk result (λ dumped. WritesText P.writes_table places.old text.items dumped places.new) }
+    ensures { IfOk result (λ dumped. WritesText P.writes_table places.old found.text.items dumped places.new
+        × (dumped.is_restoring ≡ found.is_restoring)) }
 {
+    let TableText { text, is_restoring } = found;
     let bytes = text.len();
     let Some(path) = path else {
         return Ok(Dumped {
             text: Some(text),
             bytes,
+            is_restoring,
         });
     };
     match places.write_table(path, text.as_slice()) {
-        Ok(()) => Ok(Dumped { text: None, bytes }),
+        Ok(()) => Ok(Dumped {
+            text: None,
+            bytes,
+            is_restoring,
+        }),
         Err(fault) => Err(unmade(alloc, fault, path)),
     }
 }

@@ -5,7 +5,9 @@ use cs_places::{Folders, Listings, Places, Shelves, Tables};
 use cs_rebuild::Run;
 use std::alloc::Global;
 use std::fs::File;
+use std::marker::Sync;
 use std::rt::Files;
+use std::time::Clock;
 
 /// How many rows a piece of work has.
 pub const CUT: u32 = 65_536;
@@ -39,4 +41,4 @@ impl<'a, R, G> Host<'a, R, G> {
 /// All that the verbs of a program find and make by path.
 pub trait World: Places + Tables + Listings + Shelves {}
 
-impl<R: Files<File = File> + Alloc + Copy + Drop> World for Folders<R> {}
+impl<R: Files<File = File> + Alloc + Clock + Copy + Drop + Sync> World for Folders<R> {}

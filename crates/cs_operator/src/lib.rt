@@ -4,25 +4,27 @@
 //! object of JSON, and gives the status. Promised: the status is 0 only where the verb's promise was performed.
 #![tactic(auto)]
 
-mod checking;
 mod designing;
 mod diagnosing;
 mod dumping;
 mod host;
-mod judging;
 mod loading;
+mod making;
 mod program;
 mod recovering;
+mod relaying;
 mod showing;
+mod surviving;
 mod ways;
 
-pub use checking::check;
 pub use cs_answers::{
-    Answer, Checked, Designed, Diagnosed, Dumped, Loaded, Recovered, Restoration, Verdict,
+    Answer, Checked, Designed, Diagnosed, Dumped, NewStore, Recovered, Restoration, Undone, Verdict,
 };
+pub use cs_checking::check;
 pub use cs_overview::{FileView, StoreView};
 pub use cs_places::{Folders, Listings, Places, Shelves, Stop, report};
-pub use cs_restoring::restore;
+pub use cs_restoring::{restore, undo};
+pub use cs_verifying::{Listed, Verified, list, verify};
 pub use designing::design;
 pub use diagnosing::diagnose;
 pub use dumping::dump;
@@ -30,4 +32,5 @@ pub use host::{CUT, Host, World};
 pub use loading::load;
 pub use program::run;
 pub use recovering::recover;
+pub use relaying::relayout;
 pub use showing::{show, show_file};

@@ -1,19 +1,18 @@
 //! The verb `load`.
-ghost use Rattle.std.specs.Prelude.{◌≡◌, IfOk, OnOk};
-ghost use Rattle.cs_loading.specs.Loading.{LoadsTable};
-ghost use Rattle.cs_operator.specs.TablePromises.{LoadsStore, ReadsTable, WritesStore};
+ghost use Rattle.std.specs.Prelude.{IfOk};
+ghost use Rattle.cs_operator.specs.TablePromises.{LoadsStore, ReadsTable};
 
 use crate::host::{Host, World};
-use crate::ways::{refused, see_way, unmade};
-use cs_answers::Loaded;
+use crate::making::{make_store, unsafe_already};
+use crate::ways::see_way;
+use cs_answers::NewStore;
 use cs_csv::CsvFault;
-use cs_design::{fatal_losses, greatest_k};
-use cs_loading::{LoadFault, LoadWords};
+use cs_loading::{LoadFault, LoadWords, Loaded};
 use cs_operator_words::Loading;
-use cs_places::{Stop, Tables, look_up_text, stop_of};
-use cs_progress::{Progress, Stage};
-use cs_schema::{Catalog, Loss};
-use cs_store::{Fault, FileSet, StoreFault, save};
+use cs_places::{Stop, look_up_text, refused};
+use cs_progress::{LinesRead, Progress, Stage};
+use cs_schema::Catalog;
+use cs_store::StoreFault;
 use std::alloc::Global;
 use std::marker::Sync;
 use std::thread::Threads;
@@ -23,12 +22,12 @@ pub fn load<R: Threads + Sync, G: Progress + Sync, P: World>(
     host: &Host<'_, R, G>,
     places: &mut P,
     request: &Loading<'_>,
-) -> Result<Loaded, Stop>
-    ensures { IfOk result (λ loaded. LoadsStore P.reads P.opens_table P.Input.remaining P.begins P.NewStore.takes P.NewStore.marks
-        places.old request.now.catalog.now request.now.table.now request.now.store.now loaded.files loaded.rows places.new) }
+) -> Result<NewStore, Stop>
+    ensures { IfOk result (λ store. LoadsStore P.reads P.opens_table P.Input.remaining P.begins P.NewStore.takes P.NewStore.marks
+        places.old request.now.catalog.now request.now.table.now request.now.store.now store.files store.rows places.new) }
 {
     let alloc = host.alloc;
-    let (catalog, bytes) = match look_up_text(alloc, places, request.catalog) {
+    let found = match look_up_text(alloc, places, request.catalog) {
         Ok(found) => found,
         Err(stop) => return Err(stop),
     };
@@ -36,23 +35,12 @@ pub fn load<R: Threads + Sync, G: Progress + Sync, P: World>(
         Ok(()) => {}
         Err(stop) => return Err(stop),
     }
-    let loaded = match read_table(host, places, &catalog, request) {
+    let Loaded { files, rows } = match read_table(host, places, &found.0, request) {
         Ok(loaded) => loaded,
         Err(stop) => return Err(stop),
     };
     host.gate.reached(Stage::Writing);
-    let files = &loaded.files;
-    match write_store(
-        alloc,
-        places,
-        &catalog,
-        bytes.as_slice(),
-        files,
-        request.store,
-    ) {
-        Ok(()) => finish(alloc, catalog, loaded.files, loaded.rows),
-        Err(stop) => Err(stop),
-    }
+    make_store(alloc, places, found, files, rows, request.store)
 }
 
 /// How a table ends a load that could not be opened or read.
@@ -71,7 +59,7 @@ fn stop_by(alloc: Global, catalog: &Catalog, path: &str, fault: &LoadFault) -> S
     match fault {
         LoadFault::Memory => Stop::Memory,
         LoadFault::Text(CsvFault::Device) => unread(alloc, path),
-        LoadFault::Unsafe => stop_of(alloc, catalog, Loss::none(), &Fault::Unsafe(Loss::none())),
+        LoadFault::Unsafe => unsafe_already(alloc, catalog),
         _ => {
             let words = LoadWords { catalog, fault };
             let text = format!(in alloc;
@@ -88,7 +76,7 @@ fn read_table<R: Threads + Sync, G: Progress + Sync, P: World>(
     places: &mut P,
     catalog: &Catalog,
     request: &Loading<'_>,
-) -> Result<cs_loading::Loaded, Stop>
+) -> Result<Loaded, Stop>
     ensures { IfOk result (ReadsTable P.opens_table P.Input.remaining places.old catalog.now request.now.table.now places.new) }
 {
     let alloc = host.alloc;
@@ -98,50 +86,10 @@ fn read_table<R: Threads + Sync, G: Progress + Sync, P: World>(
         Err(StoreFault::Memory) => return Err(Stop::Memory),
         Err(StoreFault::Device) => return Err(unread(alloc, request.table)),
     };
-    match cs_loading::load(&run, catalog, input) {
+    host.gate.reached(Stage::Table);
+    let lines = LinesRead::new(input, host.gate);
+    match cs_loading::load(&run, catalog, lines) {
         Ok(loaded) => Ok(loaded),
         Err(fault) => Err(stop_by(alloc, catalog, request.table, &fault)),
     }
-}
-
-/// Begins the store, puts the files there and gives it its name.
-fn write_store<P: Tables>(
-    alloc: Global,
-    places: &mut P,
-    catalog: &Catalog,
-    bytes: &[u8],
-    files: &FileSet,
-    path: &str,
-) -> Result<(), Stop>
-    ensures { OnOk result (WritesStore P.begins P.NewStore.takes P.NewStore.marks places.old path.now bytes.now files.now places.new) }
-{
-    let mut sink = match places.new_store(path, bytes) {
-        Ok(sink) => sink,
-        Err(fault) => return Err(unmade(alloc, fault, path)),
-    };
-    match save(files, &mut sink) {
-        Ok(()) => Ok(()),
-        Err(fault) => Err(stop_of(alloc, catalog, Loss::none(), &fault)),
-    }
-}
-
-/// What a load answers, once the store is there.
-fn finish(alloc: Global, catalog: Catalog, files: FileSet, rows: usize) -> Result<Loaded, Stop>
-    ensures { IfOk result (λ loaded. (loaded.files ≡ files) × (loaded.rows ≡ rows)) }
-{
-    let k = greatest_k(&catalog, Loss::none()).unwrap_or(0);
-    let Ok(fatal) = fatal_losses(alloc, &catalog, Loss::none()) else {
-        return Err(Stop::Memory);
-    };
-    let fatal = match fatal.first() {
-        Some(loss) => *loss,
-        None => Loss::none(),
-    };
-    Ok(Loaded {
-        catalog,
-        rows,
-        files,
-        k,
-        fatal,
-    })
 }

@@ -2,21 +2,24 @@
 ghost use Rattle.std.specs.Prelude.{◌≡◌, ◌≤◌, IfOk};
 ghost use Rattle.cs_answers.specs.Statuses.{answer_status};
 ghost use Rattle.cs_operator.specs.Promises.{Performs};
+ghost use Rattle.cs_reading.specs.Standing.{standing};
 ghost use Rattle.cs_answers.specs.declared.answer.Answer.{Answer};
 
-use crate::checking::check;
 use crate::designing::design;
 use crate::diagnosing::diagnose;
 use crate::dumping::dump;
 use crate::host::{Host, World};
 use crate::loading::load;
 use crate::recovering::recover;
+use crate::relaying::relayout;
 use crate::showing::{show, show_file};
 use cs_answers::{Answer, say, say_refusal};
+use cs_checking::check;
 use cs_operator_words::{Request, Restoring, Showing, Unasked, parse};
 use cs_places::{DONE, Stop, report};
 use cs_progress::Progress;
-use cs_restoring::restore;
+use cs_restoring::{restore, undo};
+use cs_verifying::{list, verify};
 use std::alloc::Global;
 use std::io::Write;
 use std::marker::Sync;
@@ -33,13 +36,13 @@ pub fn run<R: Threads + Sync, G: Progress + Sync, P: World, W: Write, E: Write>(
 ) -> u8
     ensures status { result ≤ 6 }
     ensures done { result ≡ DONE → (answer : Answer) × (answer_status answer ≡ 0) × Performs P.reads P.opens P.draws P.makes
-        P.Store.gives P.Store.refuses P.Output.takes P.Output.marks
-        P.opens_table P.Input.remaining P.begins P.NewStore.takes P.NewStore.marks P.writes_table P.lists P.restores P.takes_store P.looks_at P.gives_back P.Shelf.holds P.Shelf.may_leave places.old places.new answer }
+        (standing P.Store.answers) (standing P.Store.fails) P.Output.takes P.Output.marks
+        P.opens_table P.Input.remaining P.begins P.NewStore.takes P.NewStore.marks P.writes_table P.lists P.restores P.takes_store P.takes_undo P.looks_at P.gives_back P.Shelf.holds P.Shelf.may_leave places.old places.new answer }
 {
     let alloc = host.alloc;
     match parse(alloc, words, host.processors) {
         Ok(request) => run_request(host, &request, places, out, err),
-        Err(Unasked::Told(text)) => say(alloc, &Answer::Told(text), false, out),
+        Err(Unasked::Told(text)) => say(alloc, &Answer::Told(text), false, out, err),
         Err(Unasked::Wrong(text)) => report(&Stop::Usage(text), err),
         Err(Unasked::Memory) => report(&Stop::Memory, err),
     }
@@ -56,6 +59,10 @@ fn wants_json(request: &Request<'_>) -> bool {
         Request::Design(designing) => designing.json,
         Request::Load(loading) => loading.json,
         Request::Dump(_) => false,
+        Request::Undo(undoing) => undoing.json,
+        Request::Manifest(_) => false,
+        Request::Verify(verifying) => verifying.json,
+        Request::Relayout(relaying) => relaying.json,
     }
 }
 
@@ -70,6 +77,9 @@ fn is_quiet(request: &Request<'_>) -> bool {
         Request::Design(_) => false,
         Request::Load(loading) => loading.quiet,
         Request::Dump(dumping) => dumping.quiet,
+        Request::Undo(undoing) => undoing.quiet,
+        Request::Manifest(_) | Request::Verify(_) => false,
+        Request::Relayout(relaying) => relaying.quiet,
     }
 }
 
@@ -83,8 +93,8 @@ fn run_request<R: Threads + Sync, G: Progress + Sync, P: World, W: Write, E: Wri
 ) -> u8
     ensures status { result ≤ 6 }
     ensures done { result ≡ DONE → (answer : Answer) × (answer_status answer ≡ 0) × Performs P.reads P.opens P.draws P.makes
-        P.Store.gives P.Store.refuses P.Output.takes P.Output.marks
-        P.opens_table P.Input.remaining P.begins P.NewStore.takes P.NewStore.marks P.writes_table P.lists P.restores P.takes_store P.looks_at P.gives_back P.Shelf.holds P.Shelf.may_leave places.old places.new answer }
+        (standing P.Store.answers) (standing P.Store.fails) P.Output.takes P.Output.marks
+        P.opens_table P.Input.remaining P.begins P.NewStore.takes P.NewStore.marks P.writes_table P.lists P.restores P.takes_store P.takes_undo P.looks_at P.gives_back P.Shelf.holds P.Shelf.may_leave places.old places.new answer }
 {
     let json = wants_json(request);
     if is_quiet(request) {
@@ -93,7 +103,7 @@ fn run_request<R: Threads + Sync, G: Progress + Sync, P: World, W: Write, E: Wri
     let done = perform(host, request, places);
     host.gate.erase();
     match done {
-        Ok(answer) => say(host.alloc, &answer, json, out),
+        Ok(answer) => say(host.alloc, &answer, json, out, err),
         Err(stop) => say_stop(host.alloc, &stop, refusing(request, json), out, err),
     }
 }
@@ -112,6 +122,10 @@ fn refusing(request: &Request<'_>, json: bool) -> Option<&'static str> {
         Request::Design(_) => Some("design"),
         Request::Load(_) => Some("load"),
         Request::Dump(_) => Some("dump"),
+        Request::Undo(_) => Some("undo"),
+        Request::Manifest(_) => Some("manifest"),
+        Request::Verify(_) => Some("verify"),
+        Request::Relayout(_) => Some("relayout"),
     }
 }
 
@@ -140,9 +154,9 @@ fn perform_show<R: Threads + Sync, G: Progress + Sync, P: World>(
     places: &mut P,
     request: &Showing<'_>,
 ) -> Result<Answer, Stop>
-    ensures { IfOk result (Performs P.reads P.opens P.draws P.makes P.Store.gives P.Store.refuses
+    ensures { IfOk result (Performs P.reads P.opens P.draws P.makes (standing P.Store.answers) (standing P.Store.fails)
         P.Output.takes P.Output.marks P.opens_table P.Input.remaining P.begins P.NewStore.takes P.NewStore.marks P.writes_table P.lists P.restores
-        P.takes_store P.looks_at P.gives_back P.Shelf.holds P.Shelf.may_leave places.old places.new) }
+        P.takes_store P.takes_undo P.looks_at P.gives_back P.Shelf.holds P.Shelf.may_leave places.old places.new) }
 {
     let (store, file) = (request.store, request.file);
     match file {
@@ -163,9 +177,9 @@ fn perform_restore<R: Threads + Sync, G: Progress + Sync, P: World>(
     places: &mut P,
     request: &Restoring<'_>,
 ) -> Result<Answer, Stop>
-    ensures { IfOk result (Performs P.reads P.opens P.draws P.makes P.Store.gives P.Store.refuses
+    ensures { IfOk result (Performs P.reads P.opens P.draws P.makes (standing P.Store.answers) (standing P.Store.fails)
         P.Output.takes P.Output.marks P.opens_table P.Input.remaining P.begins P.NewStore.takes P.NewStore.marks P.writes_table P.lists P.restores
-        P.takes_store P.looks_at P.gives_back P.Shelf.holds P.Shelf.may_leave places.old places.new) }
+        P.takes_store P.takes_undo P.looks_at P.gives_back P.Shelf.holds P.Shelf.may_leave places.old places.new) }
 {
     let run = host.run_by(request.workers);
     match restore(&run, places, request) {
@@ -180,12 +194,12 @@ fn perform<R: Threads + Sync, G: Progress + Sync, P: World>(
     request: &Request<'_>,
     places: &mut P,
 ) -> Result<Answer, Stop>
-    ensures { IfOk result (Performs P.reads P.opens P.draws P.makes P.Store.gives P.Store.refuses
+    ensures { IfOk result (Performs P.reads P.opens P.draws P.makes (standing P.Store.answers) (standing P.Store.fails)
         P.Output.takes P.Output.marks P.opens_table P.Input.remaining P.begins P.NewStore.takes P.NewStore.marks P.writes_table P.lists P.restores
-        P.takes_store P.looks_at P.gives_back P.Shelf.holds P.Shelf.may_leave places.old places.new) }
+        P.takes_store P.takes_undo P.looks_at P.gives_back P.Shelf.holds P.Shelf.may_leave places.old places.new) }
 {
     match request {
-        Request::Check(request) => match check(host, places, request) {
+        Request::Check(request) => match check(&host.run_by(request.workers), places, request) {
             Ok(checked) => Ok(Answer::Checked(checked)),
             Err(stop) => Err(stop),
         },
@@ -204,11 +218,32 @@ fn perform<R: Threads + Sync, G: Progress + Sync, P: World>(
             Err(stop) => Err(stop),
         },
         Request::Load(request) => match load(host, places, request) {
-            Ok(loaded) => Ok(Answer::Loaded(loaded)),
+            Ok(store) => Ok(Answer::Loaded(store)),
             Err(stop) => Err(stop),
         },
         Request::Dump(request) => match dump(host, places, request) {
             Ok(dumped) => Ok(Answer::Dumped(dumped)),
+            Err(stop) => Err(stop),
+        },
+        Request::Undo(request) => match undo(host.alloc, places, request) {
+            Ok(undone) => Ok(Answer::Undone(undone)),
+            Err(stop) => Err(stop),
+        },
+        Request::Manifest(request) => match list(host.alloc, places, request.store) {
+            Ok(listed) => Ok(Answer::Listed(listed)),
+            Err(stop) => Err(stop),
+        },
+        Request::Verify(request) => match verify(
+            host.alloc,
+            places,
+            request.store,
+            request.manifest,
+        ) {
+            Ok(verified) => Ok(Answer::Verified(verified)),
+            Err(stop) => Err(stop),
+        },
+        Request::Relayout(request) => match relayout(host, places, request) {
+            Ok(store) => Ok(Answer::Relaid(store)),
             Err(stop) => Err(stop),
         },
     }

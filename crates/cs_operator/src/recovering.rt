@@ -1,6 +1,7 @@
 //! The verb `recover`.
 ghost use Rattle.std.specs.Prelude.{IfOk, OnOk, OnErr};
 ghost use Rattle.cs_places.specs.Finding.{LooksUp};
+ghost use Rattle.cs_reading.specs.Standing.{standing};
 ghost use Rattle.cs_operator.specs.Promises.{RecoversStore, StopsRecovery, RebuildsStore, WritesOutput, AsksForOutput};
 
 use crate::host::Host;
@@ -8,9 +9,10 @@ use cs_answers::Recovered;
 use cs_operator_words::Recovering;
 use cs_places::{Places, Stop, find_store, stop_of};
 use cs_progress::{Progress, Stage};
+use cs_reading::load_side_by_side;
 use cs_rebuild::{Run, rebuild_gated};
 use cs_schema::{Catalog, Loss};
-use cs_store::{FileSet, StoreFault, load, save};
+use cs_store::{FileSet, StoreFault, save};
 use std::alloc::Global;
 use std::marker::Sync;
 use std::thread::Threads;
@@ -21,9 +23,9 @@ pub fn recover<R: Threads + Sync, G: Progress + Sync, P: Places>(
     places: &mut P,
     request: &Recovering<'_>,
 ) -> Result<Recovered, Stop>
-    ensures ok { IfOk result (λ recovered. RecoversStore P.reads P.opens P.Store.gives P.makes P.Output.takes P.Output.marks
+    ensures ok { IfOk result (λ recovered. RecoversStore P.reads P.opens (standing P.Store.answers) P.makes P.Output.takes P.Output.marks
         places.old request.now.store.now request.now.loss request.now.output.now recovered.files places.new) }
-    ensures err { OnErr result (StopsRecovery P.reads P.opens P.Store.gives P.makes P.misses P.denies
+    ensures err { OnErr result (StopsRecovery P.reads P.opens (standing P.Store.answers) P.makes P.misses P.denies
         places.old request.now.store.now request.now.loss request.now.output.now places.new) }
 {
     let (catalog, rebuilt) = match rebuild_store(host, places, request) {
@@ -47,7 +49,7 @@ fn rebuild_store<R: Threads + Sync, G: Progress + Sync, P: Places>(
     places: &mut P,
     request: &Recovering<'_>,
 ) -> Result<(Catalog, FileSet), Stop>
-    ensures ok { IfOk result (λ found. RebuildsStore P.reads P.opens P.Store.gives
+    ensures ok { IfOk result (λ found. RebuildsStore P.reads P.opens (standing P.Store.answers)
         places.old request.now.store.now request.now.loss found.1 places.new) }
     ensures err { OnErr result (LooksUp P.reads P.misses places.old request.now.store.now places.new) }
 {
@@ -59,11 +61,11 @@ fn rebuild_store<R: Threads + Sync, G: Progress + Sync, P: Places>(
         gate,
         ..
     } = host.run_by(request.workers);
-    let (catalog, mut source) = match find_store(alloc, places, request.store) {
+    let (catalog, source) = match find_store(alloc, places, request.store) {
         Ok(found) => found,
         Err(stop) => return Err(stop),
     };
-    let files = match load(alloc, &catalog, loss, &mut source) {
+    let files = match load_side_by_side(rt, alloc, &catalog, loss, &source) {
         Ok(files) => files,
         Err(fault) => return Err(stop_of(alloc, &catalog, loss, &fault)),
     };

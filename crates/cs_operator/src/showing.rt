@@ -1,6 +1,7 @@
 //! The verb `show`.
 ghost use Rattle.std.specs.Prelude.{◌≡◌, IsTrue, IfOk, IfSome};
 ghost use Rattle.cs_schema.specs.FileNames.{HasName, file_path};
+ghost use Rattle.cs_reading.specs.Standing.{standing};
 ghost use Rattle.cs_operator.specs.Showing.{ShowsStore, ShowsFile, LooksOver};
 
 use crate::host::Host;
@@ -9,9 +10,10 @@ use cs_inspection::{Badness, bad_files};
 use cs_overview::{FileLine, FileView, StoreView, lines_of, strays_of};
 use cs_places::{Listings, Places, Stop, find_store, stop_of};
 use cs_progress::{Progress, Stage};
+use cs_reading::{SharedSource, load_readable_side_by_side};
 use cs_reports::design_of;
 use cs_schema::{Catalog, FileName, Loss};
-use cs_store::{Fault, Source, StoreFault, load_readable};
+use cs_store::{Fault, StoreFault};
 use std::alloc::{AllocError, Global};
 use std::marker::Sync;
 use std::thread::Threads;
@@ -24,15 +26,15 @@ struct Seen {
 }
 
 /// Reads the files of a store, and looks at each.
-fn look_over<R: Threads + Sync, G: Progress + Sync, S: Source>(
+fn look_over<R: Threads + Sync, G: Progress + Sync, S: SharedSource>(
     host: &Host<'_, R, G>,
     catalog: &Catalog,
-    source: &mut S,
+    source: &S,
 ) -> Result<Seen, Stop>
-    ensures { IfOk result (λ seen. LooksOver S.gives S.refuses catalog.now source.old seen.bad.items source.new) }
+    ensures { IfOk result (λ seen. LooksOver (standing S.answers) (standing S.fails) catalog.now source.now seen.bad.items source.now) }
 {
     let alloc = host.alloc;
-    let Ok(found) = load_readable(alloc, catalog, Loss::none(), source) else {
+    let Ok(found) = load_readable_side_by_side(host.rt, alloc, catalog, Loss::none(), source) else {
         return Err(Stop::Memory);
     };
     let unreadable = found.unreadable.as_slice();
@@ -66,11 +68,11 @@ pub fn show<R: Threads + Sync, G: Progress + Sync, P: Listings>(
     places: &mut P,
     path: &str,
 ) -> Result<StoreView, Stop>
-    ensures { IfOk result (λ view. ShowsStore P.reads P.opens P.Store.gives P.Store.refuses P.lists P.restores
+    ensures { IfOk result (λ view. ShowsStore P.reads P.opens (standing P.Store.answers) (standing P.Store.fails) P.lists P.restores
         places.old path.now view places.new) }
 {
     let alloc = host.alloc;
-    let (catalog, mut source) = match find_store(alloc, places, path) {
+    let (catalog, source) = match find_store(alloc, places, path) {
         Ok(found) => found,
         Err(stop) => return Err(stop),
     };
@@ -78,7 +80,7 @@ pub fn show<R: Threads + Sync, G: Progress + Sync, P: Listings>(
         Ok(names) => names,
         Err(fault) => return Err(unlisted(alloc, fault, path)),
     };
-    let Seen { bad, lines } = match look_over(host, &catalog, &mut source) {
+    let Seen { bad, lines } = match look_over(host, &catalog, &source) {
         Ok(seen) => seen,
         Err(stop) => return Err(stop),
     };
@@ -141,10 +143,10 @@ pub fn show_file<P: Places>(
     path: &str,
     file: &str,
 ) -> Result<FileView, Stop>
-    ensures { IfOk result (λ view. ShowsFile P.reads P.opens P.Store.gives
+    ensures { IfOk result (λ view. ShowsFile P.reads P.opens (standing P.Store.answers)
         places.old path.now file.now view places.new) }
 {
-    let (catalog, mut source) = match find_store(alloc, places, path) {
+    let (catalog, source) = match find_store(alloc, places, path) {
         Ok(found) => found,
         Err(stop) => return Err(stop),
     };
@@ -153,7 +155,7 @@ pub fn show_file<P: Places>(
         Ok(None) => return Err(unnamed(alloc, file)),
         Err(_) => return Err(Stop::Memory),
     };
-    let fault = match source.read(name) {
+    let fault = match source.read_shared(name) {
         Ok(Some(bytes)) => match look_into(alloc, &catalog, name, bytes.as_slice()) {
             Ok(report) => {
                 return Ok(FileView {

@@ -1,15 +1,7 @@
 //! Whether something new may be made at a path.
-use cs_places::{Stop, Tables, Way};
+use cs_places::{Stop, Tables, Way, refused};
 use cs_store::StoreFault;
 use std::alloc::Global;
-
-/// The lines of a refusal, as how it ends a verb.
-pub fn refused(text: Option<String>) -> Stop {
-    match text {
-        Some(text) => Stop::Refused(text),
-        None => Stop::Memory,
-    }
-}
 
 /// That nothing can be made there.
 fn blocked(alloc: Global, path: &str) -> Stop {

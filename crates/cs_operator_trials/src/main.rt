@@ -9,15 +9,17 @@ mod verbs;
 
 use anyhow::Result;
 use changes::changed;
+use cs_operator::Folders;
 use verbs::answered;
 
 fn main(rt: HostRuntime) -> Result<()> {
+    let mut places = Folders::new(rt.alloc(), rt);
     for line in rt.lines(rt.alloc()) {
         let line = line?;
         let words: Vec<&str> = line.split_whitespace().collect(rt.alloc())?;
         println!(rt; "$ {line}")?;
         if !changed(&rt, words.as_slice())? {
-            answered(&rt, rt, words.as_slice())?;
+            answered(&rt, &mut places, words.as_slice())?;
         }
     }
     Ok(())

@@ -1,12 +1,10 @@
 //! Verbs, with what they print.
 use anyhow::Result;
-use cs_operator::{Folders, Host, run};
+use cs_operator::{Host, World, run};
 use cs_progress::OpenGate;
-use std::fs::File;
 use std::io;
 use std::io::Write;
 use std::marker::Sync;
-use std::rt::Files;
 use std::thread::Threads;
 
 /// How many processors there are.
@@ -26,11 +24,17 @@ impl Write for Full {
     }
 }
 
-/// Runs a verb over the folders, and gives its status.
-fn run_over<R, F, W, E>(rt: &R, files: F, words: &[&str], out: &mut W, err: &mut E) -> Result<u8>
+/// Runs a verb over the places, and gives its status.
+fn run_over<R, P, W, E>(
+    rt: &R,
+    places: &mut P,
+    words: &[&str],
+    out: &mut W,
+    err: &mut E,
+) -> Result<u8>
 where
     R: Threads + Sync + AllocGlobal,
-    F: Files<File = File> + Alloc + Copy + Drop,
+    P: World,
     W: Write,
     E: Write,
 {
@@ -45,22 +49,22 @@ where
         processors: PROCESSORS,
         gate: &OpenGate,
     };
-    let mut places = Folders::new(alloc, files);
-    Ok(run(&host, owned.as_slice(), &mut places, out, err))
+    Ok(run(&host, owned.as_slice(), places, out, err))
 }
 
-/// Runs a verb over the folders, and prints its lines and its status. Words that begin with `full` are those of a verb
+/// Runs a verb over the places, and prints its lines and its status. Words that begin with `full` are those of a verb
 /// whose standard output takes nothing.
-pub fn answered<
-    R: Threads + Sync + AllocGlobal + Print,
-    F: Files<File = File> + Alloc + Copy + Drop,
->(rt: &R, files: F, words: &[&str]) -> Result<()> {
+pub fn answered<R: Threads + Sync + AllocGlobal + Print, P: World>(
+    rt: &R,
+    places: &mut P,
+    words: &[&str],
+) -> Result<()> {
     let alloc = rt.alloc();
     let mut out = Vec::new(alloc);
     let mut err = Vec::new(alloc);
     let status = match words {
-        ["full", verb @ ..] => run_over(rt, files, verb, &mut Full, &mut err)?,
-        verb => run_over(rt, files, verb, &mut out, &mut err)?,
+        ["full", verb @ ..] => run_over(rt, places, verb, &mut Full, &mut err)?,
+        verb => run_over(rt, places, verb, &mut out, &mut err)?,
     };
     let out = String::from_utf8_lossy(alloc, out.as_slice())?;
     let err = String::from_utf8_lossy(alloc, err.as_slice())?;

@@ -62,6 +62,23 @@ pub fn at_most<'a>(alloc: Global) -> Arg<'a> {
         )
 }
 
+/// `--disputes N`.
+pub fn disputes<'a>(alloc: Global) -> Arg<'a> {
+    Arg::new(alloc, "disputes")
+        .long("disputes")
+        .value_name("N")
+        .value_parser(value_parser!(u32))
+        .help("Print at most N of the rows in which two tables differ [default: 10]")
+}
+
+/// `--manifest FILE`.
+pub fn manifest<'a>(alloc: Global) -> Arg<'a> {
+    Arg::new(alloc, "manifest")
+        .long("manifest")
+        .value_name("FILE")
+        .help("Compare the files with the digests of this manifest")
+}
+
 /// `SITE..`, the sites that are lost.
 pub fn lost_sites<'a>(alloc: Global) -> Arg<'a> {
     Arg::new(alloc, "sites")

@@ -1,5 +1,5 @@
 //! The verbs, as the command line knows them.
-use crate::{arguments, help, restores, tables};
+use crate::{arguments, help, manifests, restores, tables};
 use clap::{Arg, Command, Error};
 use std::alloc::Global;
 
@@ -13,8 +13,18 @@ pub fn program<'a>(alloc: Global) -> Made<'a> {
     let whole = with_verb(whole, show(alloc));
     let whole = with_verb(whole, diagnose(alloc));
     let whole = with_verb(with_verb(whole, recover(alloc)), restores::restore(alloc));
+    let whole = with_verb(whole, restores::undo(alloc));
+    with_more_verbs(alloc, whole)
+}
+
+/// The program with the verbs on manifests, catalogs and tables.
+fn with_more_verbs<'a>(alloc: Global, whole: Made<'a>) -> Made<'a> {
+    let whole = with_verb(whole, manifests::manifest(alloc));
+    let whole = with_verb(whole, manifests::verify(alloc));
     let whole = with_verb(whole, design(alloc));
-    with_verb(with_verb(whole, tables::load(alloc)), tables::dump(alloc))
+    let whole = with_verb(whole, tables::load(alloc));
+    let whole = with_verb(whole, tables::dump(alloc));
+    with_verb(whole, tables::relayout(alloc))
 }
 
 /// The program's settings and texts.
@@ -41,9 +51,13 @@ pub fn verb<'a>(alloc: Global, name: &str) -> Option<Made<'a>> {
         "diagnose" => Some(diagnose(alloc)),
         "recover" => Some(recover(alloc)),
         "restore" => Some(restores::restore(alloc)),
+        "undo" => Some(restores::undo(alloc)),
+        "manifest" => Some(manifests::manifest(alloc)),
+        "verify" => Some(manifests::verify(alloc)),
         "design" => Some(design(alloc)),
         "load" => Some(tables::load(alloc)),
         "dump" => Some(tables::dump(alloc)),
+        "relayout" => Some(tables::relayout(alloc)),
         _ => None,
     }
 }
@@ -88,7 +102,7 @@ fn show<'a>(alloc: Global) -> Made<'a> {
     with(command, arguments::file(alloc))
 }
 
-/// `diagnose [--at-most N] [--workers N] [--quiet] [--json] STORE`.
+/// `diagnose [--at-most N] [--disputes N] [--workers N] [--quiet] [--json] STORE`.
 fn diagnose<'a>(alloc: Global) -> Made<'a> {
     let command = Command::new(alloc, "diagnose")
         .about(help::DIAGNOSE)
@@ -97,6 +111,7 @@ fn diagnose<'a>(alloc: Global) -> Made<'a> {
         named(command, "pinepolo diagnose"),
         arguments::at_most(alloc),
     );
+    let command = with(command, arguments::disputes(alloc));
     let command = with(command, arguments::workers(alloc));
     let command = with(command, arguments::quiet(alloc));
     let command = with(command, arguments::json(alloc));

@@ -2,10 +2,14 @@
 ghost use Rattle.std.specs.Prelude.{◌≡◌, ℕ, ◌≤◌, Some, IfSome, IfOk};
 
 use crate::request::{
-    Checking, Designing, Diagnosing, Dumping, Loading, Recovering, Request, Restoring, Showing,
+    Checking, Designing, Diagnosing, Dumping, Loading, Manifesting, Recovering, Relaying, Request,
+    Restoring, Showing, Undoing, Verifying,
 };
 use crate::sites::sites_of;
 use clap::ArgMatches;
+
+/// How many rows of a dispute are printed, where the words give no number.
+const DISPUTES: u32 = 10;
 
 /// How many workers there are, at most.
 const WORKER_LIMIT: u32 = 64;
@@ -72,6 +76,7 @@ pub fn diagnosing<'a>(found: &ArgMatches<'a>, processors: u32) -> Option<Request
     let at_most = at_most_of(found).ok()?;
     Some(Request::Diagnose(Diagnosing {
         at_most,
+        disputes: found.get_one::<u32>("disputes").unwrap_or(DISPUTES),
         workers,
         quiet: found.get_flag("quiet"),
         json: found.get_flag("json"),
@@ -109,6 +114,35 @@ pub fn restoring<'a>(found: &ArgMatches<'a>, processors: u32) -> Option<Request<
         resumes: found.get_flag("resume"),
         store,
         loss,
+    }))
+}
+
+/// What `undo` asks for, if all arguments are there and within their limits.
+pub fn undoing<'a>(found: &ArgMatches<'a>) -> Option<Request<'a>> {
+    let store = found.get_str("store")?;
+    Some(Request::Undo(Undoing {
+        quiet: found.get_flag("quiet"),
+        json: found.get_flag("json"),
+        resumes: found.get_flag("resume"),
+        store,
+        kept: found.get_one::<u32>("kept"),
+    }))
+}
+
+/// What `manifest` asks for, if its store is there.
+pub fn manifesting<'a>(found: &ArgMatches<'a>) -> Option<Request<'a>> {
+    let store = found.get_str("store")?;
+    Some(Request::Manifest(Manifesting { store }))
+}
+
+/// What `verify` asks for, if all arguments are there.
+pub fn verifying<'a>(found: &ArgMatches<'a>) -> Option<Request<'a>> {
+    let manifest = found.get_str("manifest")?;
+    let store = found.get_str("store")?;
+    Some(Request::Verify(Verifying {
+        json: found.get_flag("json"),
+        manifest,
+        store,
     }))
 }
 
@@ -152,5 +186,24 @@ pub fn dumping<'a>(found: &ArgMatches<'a>, processors: u32) -> Option<Request<'a
         lost,
         store,
         table: found.get_str("table"),
+    }))
+}
+
+/// What `relayout` asks for, if all arguments are there and within their limits.
+pub fn relaying<'a>(found: &ArgMatches<'a>, processors: u32) -> Option<Request<'a>> {
+    let workers = workers_of(found, processors)?;
+    let lost = sites_of(found, "lost")?;
+    let store = found.get_str("store")?;
+    let catalog = found.get_str("catalog")?;
+    let new = found.get_str("new")?;
+    Some(Request::Relayout(Relaying {
+        workers,
+        quiet: found.get_flag("quiet"),
+        json: found.get_flag("json"),
+        replaces: found.get_flag("replace-partial"),
+        lost,
+        store,
+        catalog,
+        new,
     }))
 }

@@ -8,6 +8,8 @@ mod arguments;
 mod commands;
 mod found;
 mod help;
+mod manifest_help;
+mod manifests;
 mod parsing;
 mod request;
 mod restore_help;
@@ -18,5 +20,6 @@ mod tables;
 
 pub use parsing::{Unasked, parse};
 pub use request::{
-    Checking, Designing, Diagnosing, Dumping, Loading, Recovering, Request, Restoring, Showing,
+    Checking, Designing, Diagnosing, Dumping, Loading, Manifesting, Recovering, Relaying, Request,
+    Restoring, Showing, Undoing, Verifying,
 };

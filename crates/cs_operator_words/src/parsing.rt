@@ -77,9 +77,13 @@ fn asked<'a>(matches: &ArgMatches<'a>, processors: u32) -> Option<Request<'a>> {
         Some(("diagnose", found)) => found::diagnosing(found, processors),
         Some(("recover", found)) => found::recovering(found, processors),
         Some(("restore", found)) => found::restoring(found, processors),
+        Some(("undo", found)) => found::undoing(found),
+        Some(("manifest", found)) => found::manifesting(found),
+        Some(("verify", found)) => found::verifying(found),
         Some(("design", found)) => found::designing(found),
         Some(("load", found)) => found::loading(found, processors),
         Some(("dump", found)) => found::dumping(found, processors),
+        Some(("relayout", found)) => found::relaying(found, processors),
         _ => None,
     }
 }

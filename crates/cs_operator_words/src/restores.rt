@@ -1,7 +1,7 @@
-//! The verb that changes a store in place, as the command line knows it.
+//! The verbs that change a store in place, as the command line knows them.
 use crate::commands::{Made, named, with};
 use crate::{arguments, restore_help as help};
-use clap::{Arg, ArgAction, Command};
+use clap::{Arg, ArgAction, Command, value_parser};
 use std::alloc::{AllocError, Global};
 
 /// `--dry-run`.
@@ -48,4 +48,32 @@ pub fn restore<'a>(alloc: Global) -> Made<'a> {
     let command = with(command, arguments::quiet(alloc));
     let command = with(command, arguments::json(alloc));
     with(with(command, arguments::store(alloc)), lost_sites(alloc)?)
+}
+
+/// `N`, of what is kept in `replaced/N`.
+fn kept<'a>(alloc: Global) -> Arg<'a> {
+    Arg::new(alloc, "kept")
+        .value_name("N")
+        .value_parser(value_parser!(u32).range(1..))
+        .help("Put back what is kept in STORE/replaced/N [default: the last]")
+}
+
+/// `--resume`, beside which no N is given.
+fn resume_undo<'a>(alloc: Global) -> Result<Arg<'a>, AllocError> {
+    Arg::new(alloc, "resume")
+        .long("resume")
+        .action(ArgAction::SetTrue)
+        .help("Go on with the undo that was not finished")
+        .conflicts_with("kept")
+}
+
+/// `undo [--resume] [--quiet] [--json] STORE [N]`.
+pub fn undo<'a>(alloc: Global) -> Made<'a> {
+    let command = Command::new(alloc, "undo")
+        .about(help::UNDO)
+        .after_help(help::UNDO_END);
+    let command = with(named(command, "pinepolo undo"), resume_undo(alloc)?);
+    let command = with(command, arguments::quiet(alloc));
+    let command = with(command, arguments::json(alloc));
+    with(with(command, arguments::store(alloc)), kept(alloc))
 }

@@ -25,6 +25,27 @@ pub fn load<'a>(alloc: Global) -> Made<'a> {
     with(with(command, table), store)
 }
 
+/// `relayout [--lost SITE,..] [--workers N] [--quiet] [--json] [--replace-partial] STORE CATALOG NEW`.
+pub fn relayout<'a>(alloc: Global) -> Made<'a> {
+    let new = Arg::new(alloc, "new")
+        .value_name("NEW")
+        .required(true)
+        .help("The folder to make for the new store");
+    let command = Command::new(alloc, "relayout")
+        .about(help::RELAYOUT)
+        .after_help(help::RELAYOUT_END);
+    let command = with(
+        named(command, "pinepolo relayout"),
+        arguments::lost_already(alloc),
+    );
+    let command = with(command, arguments::workers(alloc));
+    let command = with(command, arguments::quiet(alloc));
+    let command = with(command, arguments::json(alloc));
+    let command = with(command, arguments::replace_partial(alloc));
+    let command = with(command, arguments::store(alloc));
+    with(with(command, arguments::catalog(alloc)), new)
+}
+
 /// `dump [--lost SITE,..] [--workers N] [--quiet] STORE [TABLE.csv]`.
 pub fn dump<'a>(alloc: Global) -> Made<'a> {
     let table = Arg::new(alloc, "table")

@@ -17,6 +17,7 @@ mod store_text;
 mod store_view;
 mod strays;
 
+pub use cell_words::CellWords;
 pub use counted::Counted;
 pub use file_json::file_object;
 pub use file_view::FileView;

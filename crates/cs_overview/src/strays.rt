@@ -1,11 +1,14 @@
 //! What stands in a store's folder that its catalog doesn't name.
 use crate::lines::FileLine;
 use arrayvec::ArrayString;
-use cs_places::RESTORING;
+use cs_places::{JOURNAL, RESTORING};
 use std::alloc::{AllocError, Global};
 
 /// The name of a store's catalog.
 const CATALOG: &str = "catalog.toml";
+
+/// The name of the folder that keeps what restores and undos replaced.
+const REPLACED: &str = "replaced";
 
 /// The paths of the files, in the order of their texts.
 fn paths_of(alloc: Global, lines: &[FileLine]) -> Result<Vec<ArrayString<24>>, AllocError> {
@@ -19,14 +22,13 @@ fn paths_of(alloc: Global, lines: &[FileLine]) -> Result<Vec<ArrayString<24>>, A
 
 /// Whether a path stands among sorted ones.
 fn is_named(paths: &[ArrayString<24>], name: &str) -> bool {
-    name == CATALOG
-        || name == RESTORING
+    [CATALOG, RESTORING, JOURNAL, REPLACED].contains(&name)
         || paths
             .binary_search_by(|path| path.as_str().cmp(name))
             .is_ok()
 }
 
-/// Those of the names in a store's folder that are none of its files, of its catalog or of a restore.
+/// Those of the names in a store's folder that are none of its files, of its catalog or of restores and undos.
 pub fn strays_of(
     alloc: Global,
     lines: &[FileLine],

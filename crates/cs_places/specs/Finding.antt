@@ -19,3 +19,9 @@ module _ {P : Type 0} (reads : P → List ℕ → List ℕ → P → Type 0) whe
   pub record FindsStore {S : Type 0} (opens : P → List ℕ → CatalogData → S → Type 0) (s : P) (path : List ℕ) (C : CatalogData) (store : S) (t : P) : Type 0 where
     pub catalog : FindsCatalog s path C t
     pub opened : opens t path C store
+
+  -- the catalog at this path was read, whose bytes these are, and the store there is of this catalog
+  pub record FindsStoreText {S : Type 0} (opens : P → List ℕ → CatalogData → S → Type 0) (s : P) (path : List ℕ) (C : CatalogData) (catalog : List ℕ) (store : S) (t : P) : Type 0 where
+    pub read : reads s path catalog t
+    pub says : IsCatalogOf catalog C
+    pub opened : opens t path C store

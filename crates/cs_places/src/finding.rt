@@ -1,7 +1,7 @@
 //! Catalogs and stores by path.
 ghost use Rattle.std.specs.Prelude.{◌≡◌, IfOk, OnErr};
 ghost use Rattle.cs_catalog.specs.Reading.{IsCatalogOf};
-ghost use Rattle.cs_places.specs.Finding.{FindsCatalog, FindsStore, LooksUp};
+ghost use Rattle.cs_places.specs.Finding.{FindsCatalog, FindsStore, FindsStoreText, LooksUp};
 
 use crate::places::Places;
 use crate::stop::Stop;
@@ -111,6 +111,29 @@ pub fn find_store<P: Places>(
     };
     match places.files(path, &catalog) {
         Ok(store) => Ok((catalog, store)),
+        Err(_) => Err(Stop::Memory),
+    }
+}
+
+/// The store at this path, with its catalog and that one's bytes. No file of it is read.
+pub fn find_store_text<P: Places>(
+    alloc: Global,
+    places: &mut P,
+    path: &str,
+) -> Result<(Catalog, Vec<u8>, P::Store), Stop>
+    ensures ok { IfOk result (λ found. FindsStoreText P.reads P.opens places.old path.now found.0 found.1.items found.2 places.new) }
+    ensures err { OnErr result (LooksUp P.reads P.misses places.old path.now places.new) }
+{
+    let bytes = match places.catalog(path) {
+        Ok(bytes) => bytes,
+        Err(fault) => return Err(unread(alloc, fault, path)),
+    };
+    let catalog = match read_catalog(alloc, bytes.as_slice()) {
+        Ok(catalog) => catalog,
+        Err(fault) => return Err(refused(alloc, bytes.as_slice(), fault)),
+    };
+    match places.files(path, &catalog) {
+        Ok(store) => Ok((catalog, bytes, store)),
         Err(_) => Err(Stop::Memory),
     }
 }

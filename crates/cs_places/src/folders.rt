@@ -2,21 +2,25 @@
 ghost use Rattle.std.specs.Prelude.{◌≡◌, ◌≤◌, ⊤, IsErrOf};
 ghost use Rattle.cs_store.specs.Fault.{CountsFault};
 
-use crate::listing::{has_restoring, names_in};
+use crate::listing::names_in;
 use crate::listings::Listings;
 use crate::places::Places;
 use crate::shelves::{GivenBack, Shelves};
+use crate::store_files::StoreFiles;
 use crate::tables::Tables;
-use cs_folder_shelf::{FolderShelf, Taken, Untaken, resume, take};
+use cs_folder_shelf::FolderShelf;
 use cs_folders::{
     FileLimits, NewStoreFolder, OutputFolder, StoreFolder, Way, open_text, read_catalog_file,
     way_to, write_picture, write_text,
 };
 use cs_schema::{Catalog, Loss};
 use cs_store::StoreFault;
+use cs_taking::{Taken, UndoOf, Undoable, Untaken, Work, is_unfinished, resume, take, take_undo};
 use std::alloc::{AllocError, Global};
 use std::fs::File;
+use std::marker::Sync;
 use std::rt::Files;
+use std::time::Clock;
 
 /// The folders of the system, with the number of faults that were met in finding and making what stands in them.
 #[derive(Drop)]
@@ -68,8 +72,8 @@ impl<R: Files + Copy> Folders<R> {
     }
 }
 
-impl<R: Files + Copy> Places for Folders<R> {
-    type Store = StoreFolder<R>;
+impl<R: Files + Copy + Sync> Places for Folders<R> {
+    type Store = StoreFiles<R>;
 
     type Output = OutputFolder<R>;
 
@@ -100,12 +104,8 @@ impl<R: Files + Copy> Places for Folders<R> {
         self.found(read)
     }
 
-    fn files(&self, path: &str, catalog: &Catalog) -> Result<StoreFolder<R>, AllocError> {
-        let limits = FileLimits::of(catalog);
-        match StoreFolder::new(self.alloc, self.rt, path, limits) {
-            Ok(store) => Ok(store),
-            Err(_) => Err(AllocError),
-        }
+    fn files(&self, path: &str, catalog: &Catalog) -> Result<StoreFiles<R>, AllocError> {
+        StoreFiles::new(self.alloc, self.rt, path, catalog)
     }
 
     fn output(&mut self, path: &str) -> Result<OutputFolder<R>, StoreFault> {
@@ -123,7 +123,7 @@ impl<R: Files + Copy> Places for Folders<R> {
     }
 }
 
-impl<R: Files + Alloc + Copy + Drop> Listings for Folders<R> {
+impl<R: Files + Alloc + Copy + Drop + Sync> Listings for Folders<R> {
     ghost lists = { λ s path names t. ⊤ };
 
     ghost restores = { λ s path is. ⊤ };
@@ -134,7 +134,7 @@ impl<R: Files + Alloc + Copy + Drop> Listings for Folders<R> {
     }
 
     fn is_restoring(&self, path: &str) -> Result<bool, AllocError> {
-        has_restoring(self.alloc, &self.rt, path)
+        is_unfinished(self.alloc, &self.rt, path)
     }
 }
 
@@ -177,15 +177,30 @@ impl<R: Files + Copy + Drop> Folders<R> {
 }
 
 /// A store that was taken to go on with its restore, and the sites that are lost.
-fn resumed<R: Files + Copy + Drop>(shelf: FolderShelf<R>, taken: Taken) -> (FolderShelf<R>, Loss) {
-    let lost = taken.lost();
-    (shelf.taken_by(taken), lost)
+fn resumed<R: Files + Copy + Drop>(
+    shelf: FolderShelf<R>,
+    taken: Taken,
+) -> Result<(FolderShelf<R>, Loss), Untaken> {
+    match lost_of(&taken) {
+        Some(lost) => Ok((shelf.taken_by(taken), lost)),
+        None => Err(Untaken::UnfinishedUndo),
+    }
 }
 
-impl<R: Files<File = File> + Copy + Drop> Shelves for Folders<R> {
+/// The sites whose loss a store was taken to restore, if it was.
+fn lost_of(taken: &Taken) -> Option<Loss> {
+    match taken.record.work {
+        Work::Restore(lost) => Some(lost),
+        Work::Undo(_) => None,
+    }
+}
+
+impl<R: Files<File = File> + Alloc + Clock + Copy + Drop + Sync> Shelves for Folders<R> {
     type Shelf = FolderShelf<R>;
 
     ghost takes_store = { λ s path catalog lost store t. ⊤ };
+
+    ghost takes_undo = { λ s path catalog asked back names store t. ⊤ };
 
     ghost looks_at = { λ s path catalog store. ⊤ };
 
@@ -201,7 +216,7 @@ impl<R: Files<File = File> + Copy + Drop> Shelves for Folders<R> {
             Ok(shelf) => shelf,
             Err(_) => return Err(Untaken::Memory),
         };
-        match take(self.alloc, &self.rt, path, lost) {
+        match take(self.alloc, &self.rt, path, Work::Restore(lost)) {
             Ok(taken) => Ok(shelf.taken_by(taken)),
             Err(untaken) => Err(untaken),
         }
@@ -213,8 +228,24 @@ impl<R: Files<File = File> + Copy + Drop> Shelves for Folders<R> {
             Err(untaken) => return Err(untaken),
         };
         match self.shelf(path, catalog) {
-            Ok(shelf) => Ok(resumed(shelf, taken)),
+            Ok(shelf) => resumed(shelf, taken),
             Err(_) => Err(Untaken::Memory),
+        }
+    }
+
+    fn take_undo(
+        &mut self,
+        path: &str,
+        catalog: &Catalog,
+        asked: UndoOf,
+    ) -> Result<(FolderShelf<R>, Undoable), Untaken> {
+        let shelf = match self.shelf(path, catalog) {
+            Ok(shelf) => shelf,
+            Err(_) => return Err(Untaken::Memory),
+        };
+        match take_undo(self.alloc, &self.rt, path, asked) {
+            Ok((taken, undoable)) => Ok((shelf.taken_by(taken), undoable)),
+            Err(untaken) => Err(untaken),
         }
     }
 

@@ -1,7 +1,6 @@
 //! The names in a folder of the system.
-use crate::listings::RESTORING;
 use cs_store::StoreFault;
-use std::alloc::{AllocError, Global};
+use std::alloc::Global;
 use std::rt::Files;
 use std::{fs, io};
 
@@ -53,13 +52,4 @@ pub fn names_in<R: Files + Alloc + Clone + Drop>(
     }
     names.sort_unstable();
     Ok(names)
-}
-
-/// Whether `RESTORING` stands in a folder, or it can't be told that it doesn't.
-pub fn has_restoring<R: Files>(alloc: Global, rt: &R, path: &str) -> Result<bool, AllocError> {
-    let path = format!(in alloc; "{path}/{RESTORING}")?;
-    match fs::symlink_metadata(rt, path.as_str()) {
-        Ok(_) => Ok(true),
-        Err(error) => Ok(error.kind() != io::ErrorKind::NotFound),
-    }
 }

@@ -6,15 +6,12 @@ use crate::places::Places;
 use cs_store::StoreFault;
 use std::alloc::AllocError;
 
-/// The name under which a restore keeps in a store's folder what it has yet to do.
-pub const RESTORING: &str = "RESTORING";
-
 /// Places where it can be asked what stands in a store's folder.
 pub trait Listings: Places {
     /// A store's folder that was listed: the state before, the path, the names, and the state after.
     ghost lists: { Self → List ℕ → List (List ℕ) → Self → Type 0 };
 
-    /// Whether a restore was left unfinished: the state, the path, and whether.
+    /// Whether a restore or an undo was left unfinished: the state, the path, and whether.
     ghost restores: { Self → List ℕ → Bool → Type 0 };
 
     /// The names of what stands in the folder of the store at this path, ascending.
@@ -24,7 +21,7 @@ pub trait Listings: Places {
             → CountsFault (Self.fault_count self.old) (Self.fault_count self.new) }
         ensures counted { Self.fault_count self.old ≤ Self.fault_count self.new };
 
-    /// Whether a restore of the store at this path was left unfinished: whether `RESTORING` stands in its folder.
+    /// Whether a restore or an undo of the store at this path was left unfinished: whether `RESTORING` stands in its folder.
     fn is_restoring(&self, path: &str) -> Result<bool, AllocError>
         ensures { IfOk result (restores self.now path.now) };
 }

@@ -4,15 +4,16 @@ ghost use Rattle.cs_schema.specs.CatalogData.{CatalogData};
 ghost use Rattle.cs_store.specs.Fault.{CountsFault};
 ghost use Rattle.cs_store.specs.declared.fault.StoreFault.{StoreFault};
 
+use cs_reading::SharedSource;
 use cs_schema::Catalog;
-use cs_store::{Sink, Source, StoreFault};
+use cs_store::{Sink, StoreFault};
 use std::alloc::AllocError;
 
 /// Stores, outputs and pictures by path. Places in memory can say by their ghost members what they found and made; those
 /// over folders say nothing.
 pub trait Places {
     /// A store's files.
-    type Store: Source + Drop;
+    type Store: SharedSource + Drop;
 
     /// What takes the files of a recovery.
     type Output: Sink + Drop;

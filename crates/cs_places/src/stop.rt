@@ -76,6 +76,14 @@ fn status(stop: &Stop) -> u8
     }
 }
 
+/// The lines of a refusal, as how it ends a verb.
+pub fn refused(text: Option<String>) -> Stop {
+    match text {
+        Some(text) => Stop::Refused(text),
+        None => Stop::Memory,
+    }
+}
+
 /// The lines that tell a fault of a store with this catalog: what is wrong, and what to do next.
 fn fault_lines(alloc: Global, catalog: &Catalog, lost: Loss, fault: &Fault) -> Option<String> {
     let words = FaultWords { catalog, fault };

@@ -8,13 +8,13 @@ use std::io::Read;
 /// Tables as CSV, and new stores, by path. Places in memory can say by their ghost members what they found and made; those
 /// over folders say nothing.
 pub trait Tables {
-    /// A CSV, as a stream.
+    /// A text, as a stream.
     type Input: Read + Drop;
 
     /// What takes the files of a new store. Its mark gives the store its name.
     type NewStore: Sink + Drop;
 
-    /// A CSV that was found: the state before, the path, the stream, and the state after.
+    /// A text that was found: the state before, the path, the stream, and the state after.
     ghost opens_table: { Self → List ℕ → Self.Input → Self → Type 0 };
 
     /// A new store that was begun: the state before, the path, the bytes of its catalog, what takes its files, and the state
@@ -27,7 +27,7 @@ pub trait Tables {
     /// What stands where something new is to be made. Nothing is changed.
     fn way(&self, path: &str) -> Result<Way, StoreFault>;
 
-    /// The CSV at this path, or that of standard input where it is `-`.
+    /// The text at this path, a CSV or a manifest, or that of standard input where the path is `-`.
     fn table(&mut self, path: &str) -> Result<Self::Input, StoreFault>
         ensures { IfOk result (λ input. opens_table self.old path.now input self.new) };
 

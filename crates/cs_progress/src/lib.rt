@@ -5,12 +5,15 @@
 #![tactic(auto)]
 
 mod line;
+mod lines_read;
 mod progress;
 mod shown;
 mod stage;
+mod tried;
 
 pub use cs_board::OpenGate;
 pub use line::ProgressLine;
+pub use lines_read::LinesRead;
 pub use progress::Progress;
 pub use shown::Shown;
 pub use stage::Stage;

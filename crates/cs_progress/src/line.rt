@@ -2,7 +2,9 @@
 use crate::progress::Progress;
 use crate::shown::Shown;
 use crate::stage::Stage;
+use crate::tried::{loss_of, word_of};
 use cs_board::{Gate, Round};
+use cs_schema::Loss;
 use std::fmt;
 use std::io::Print;
 use std::sync::atomic::{AtomicU64, Ordering};
@@ -30,12 +32,16 @@ pub struct ProgressLine<C, E> {
     shows: AtomicU64,
     /// The number of the stage.
     stage: AtomicU64,
+    /// The word of the loss that is tried, or 0.
+    tried: AtomicU64,
     /// How many rounds were opened.
     rounds: AtomicU64,
     /// How many pieces the round has.
     pieces: AtomicU64,
     /// How many of them were begun.
     begun: AtomicU64,
+    /// How many rows of a table were read.
+    read: AtomicU64,
     /// The time from which on a line is due, in milliseconds of the clock.
     due: AtomicU64,
     /// 1 while somebody writes.
@@ -75,9 +81,11 @@ impl<C: Clock, E> ProgressLine<C, E> {
             piece_rows,
             shows: AtomicU64::new(u64::from(is_terminal)),
             stage: AtomicU64::new(Stage::Reading.number()),
+            tried: AtomicU64::new(0),
             rounds: AtomicU64::new(0),
             pieces: AtomicU64::new(0),
             begun: AtomicU64::new(0),
+            read: AtomicU64::new(0),
             due: AtomicU64::new(due),
             writing: AtomicU64::new(0),
             stands: AtomicU64::new(0),
@@ -90,9 +98,11 @@ impl<C, E> ProgressLine<C, E> {
     pub fn shown(&self) -> Shown {
         Shown {
             stage: Stage::of_number(self.stage.load(Ordering::SeqCst)),
+            tried: loss_of(self.tried.load(Ordering::SeqCst)),
             rounds: self.rounds.load(Ordering::SeqCst),
             pieces: self.pieces.load(Ordering::SeqCst),
             begun: self.begun.load(Ordering::SeqCst),
+            read: self.read.load(Ordering::SeqCst),
             piece_rows: self.piece_rows,
         }
     }
@@ -149,6 +159,15 @@ impl<C: Clock, E: Print> Progress for ProgressLine<C, E> {
     fn reached(&self, stage: Stage) {
         self.stage.store(stage.number(), Ordering::SeqCst);
         self.show();
+    }
+
+    fn read_rows(&self, more: u64) {
+        self.read.fetch_add(more, Ordering::SeqCst);
+        self.show();
+    }
+
+    fn tried(&self, loss: Loss) {
+        self.tried.store(word_of(loss), Ordering::SeqCst);
     }
 
     fn silence(&self) {

@@ -10,6 +10,8 @@ use std::fmt;
 pub enum Stage {
     /// Files are read.
     Reading,
+    /// A table is read.
+    Table,
     /// Files are looked at, each by itself.
     Inspecting,
     /// A round of pieces is done.
@@ -32,12 +34,13 @@ impl Stage {
             Stage::Round(Round::Images) => 5,
             Stage::Round(Round::Joins) => 6,
             Stage::Round(Round::Columns) => 7,
+            Stage::Table => 8,
         }
     }
 
-    /// What a number below 8 stands for.
+    /// What a number below 9 stands for.
     pub fn of_number(number: u64) -> Stage
-        ensures { number < 8 → number_of result ≡ number }
+        ensures { number < 9 → number_of result ≡ number }
     {
         match number {
             0 => Stage::Reading,
@@ -47,6 +50,7 @@ impl Stage {
             5 => Stage::Round(Round::Images),
             6 => Stage::Round(Round::Joins),
             7 => Stage::Round(Round::Columns),
+            8 => Stage::Table,
             _ => Stage::Writing,
         }
     }
@@ -56,6 +60,7 @@ impl fmt::Display for Stage {
     fn fmt<W: fmt::Write>(&self, f: &mut fmt::Formatter<W>) -> fmt::Result {
         match self {
             Stage::Reading => f.write_str("reading files"),
+            Stage::Table => f.write_str("reading the table"),
             Stage::Inspecting => f.write_str("looking at each file"),
             Stage::Round(round) => write!(f, "{round}"),
             Stage::Writing => f.write_str("writing files"),

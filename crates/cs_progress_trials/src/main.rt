@@ -35,8 +35,12 @@ fn gate<P: Print>(stream: P, is_terminal: bool) -> ProgressLine<Ticks, P> {
     ProgressLine::new(clock, stream, is_terminal, 65_536)
 }
 
-/// Tells a gate of a walk in four pieces, of two rounds of columns, and of what is written.
+/// Tells a gate of a table that is read, of a walk in four pieces, of two rounds of columns, and of what is written.
 fn tell<G: Progress>(gate: &G) {
+    gate.reached(Stage::Table);
+    for _ in 0..4 {
+        gate.read_rows(1000);
+    }
     gate.reached(Stage::Reading);
     gate.opened(Round::Walk, 4);
     for piece in 0..4 {

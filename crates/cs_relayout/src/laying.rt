@@ -1,8 +1,6 @@
 //! A store laid out anew.
-ghost use Rattle.std.specs.Prelude.{◌≡◌, [], true, false, length};
-ghost use Rattle.cs_safety.specs.Safety.{IsSafe};
+ghost use Rattle.std.specs.Prelude.{length};
 ghost use Rattle.cs_store.specs.FileSet.{contents_of};
-ghost use Rattle.cs_rows.specs.WalkedView.{count_of};
 ghost use Rattle.cs_recovery.specs.Columns.{AreTableColumns};
 ghost use Rattle.cs_csv.specs.Faults.{cells_at};
 ghost use Rattle.cs_loading.specs.Repeats.{AreDistinctBefore};
@@ -11,9 +9,8 @@ ghost use Rattle.cs_relayout.specs.Relayout.{IsStoreFaultOf, LaysOut, MakesStore
 use crate::arranging::arrange;
 use crate::differences::first_difference;
 use crate::fault::RelayoutFault;
-use cs_loading::{LoadFault, build_rows};
+use cs_loading::{LoadFault, build_rows, count_rows, is_safe};
 use cs_rebuild::{Fault, FileSet, Gate, Run, table};
-use cs_safety::safe;
 use cs_schema::{Catalog, Cells, Loss};
 use std::marker::Sync;
 use std::thread::Threads;
@@ -23,24 +20,6 @@ use std::thread::Threads;
 pub struct Relaid {
     pub files: FileSet,
     pub rows: usize,
-}
-
-/// Whether a catalog is safe where no site is lost.
-fn is_safe(catalog: &Catalog) -> bool
-    ensures yes { result ≡ true → IsSafe catalog.now [] }
-    ensures no { result ≡ false → ¬ IsSafe catalog.now [] }
-{
-    safe(catalog, Loss::none())
-}
-
-/// How many rows columns have.
-fn count_rows(cells: &[Cells]) -> usize
-    ensures { result ≡ count_of cells.now }
-{
-    match cells.first() {
-        Some(first) => first.len(),
-        None => 0,
-    }
 }
 
 /// Why the survivors of a store hold no table.

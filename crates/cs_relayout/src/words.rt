@@ -2,6 +2,7 @@
 
 use crate::differences::Difference;
 use crate::fault::RelayoutFault;
+use cs_loading::{LoadFault, LoadWords};
 use cs_schema::{Catalog, Kind};
 use std::fmt;
 
@@ -36,6 +37,17 @@ impl RelayoutWords<'_> {
         )
     }
 
+    /// Why the new catalog takes no rows, in the words of a load.
+    fn write_refusal<W: fmt::Write>(
+        &self,
+        f: &mut fmt::Formatter<W>,
+        fault: &LoadFault,
+    ) -> fmt::Result {
+        let catalog = self.new;
+        let words = LoadWords { catalog, fault };
+        write!(f, "{words}")
+    }
+
     /// How the catalogs differ.
     fn write_difference<W: fmt::Write>(
         &self,
@@ -68,14 +80,13 @@ impl RelayoutWords<'_> {
 impl fmt::Display for RelayoutWords<'_> {
     fn fmt<W: fmt::Write>(&self, f: &mut fmt::Formatter<W>) -> fmt::Result {
         match self.fault {
-            RelayoutFault::Memory => f.write_str("want of memory"),
+            RelayoutFault::Memory => self.write_refusal(f, &LoadFault::Memory),
             RelayoutFault::Differs(difference) => self.write_difference(f, *difference),
-            RelayoutFault::Unsafe => f.write_str(
-                "the new catalog is unsafe: no projection reaches every column by joins",
-            ),
+            RelayoutFault::Unsafe => self.write_refusal(f, &LoadFault::Unsafe),
             RelayoutFault::Store(fault) => write!(f, "{fault}"),
             RelayoutFault::Full { p, s, rows } => {
-                write!(f, "p{p}.s{s} of the new catalog is full: {rows} rows")
+                let (p, s, rows) = (*p, *s, *rows);
+                self.write_refusal(f, &LoadFault::Full { p, s, rows })
             }
         }
     }

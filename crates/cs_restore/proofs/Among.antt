@@ -1,7 +1,7 @@
 -- Names among others, and one more.
 use Rattle.std.proofs.Common.{◌≡◌, ℕ, zero, suc, List, [], ◌∷◌, ◌++◌, length, Some, refl, slice_get}
 use Rattle.cs_schema.specs.declared.file_name.FileName.{FileName}
-use Rattle.cs_restore.specs.Placing.{IsAmong}
+use Rattle.cs_shelf.specs.Shelf.{IsAmong}
 
 still_there : (xs ys : List FileName) (i : ℕ) (n : FileName) → slice_get xs i ≡ Some n → slice_get (xs ++ ys) i ≡ Some n
 still_there [] ys i n at = absurd (cc)

@@ -5,9 +5,9 @@ use Rattle.std.specs.FinMap.{entries}
 use Rattle.std.specs.Option.{option_or}
 use Rattle.cs_schema.specs.declared.file_name.FileName.{FileName}
 use Rattle.cs_store.specs.FileSet.{Files, contents_of}
-use Rattle.cs_shelf.specs.Shelf.{ChangesNothing, IsNoMore}
+use Rattle.cs_shelf.specs.Shelf.{ChangesNothing, IsAmong, IsNoMore}
 use Rattle.cs_shelf.proofs.Loads.{still_then}
-use Rattle.cs_restore.specs.Placing.{AddsStep, HasAtLeast, HasUnder, IsAmong, IsThere, OthersAreThere}
+use Rattle.cs_restore.specs.Placing.{AddsStep, HasAtLeast, HasUnder, IsThere, OthersAreThere}
 use Rattle.cs_restore.specs.declared.step.Step.{Step}
 use Rattle.cs_restore.specs.declared.step.What.TheVariants.{Same}
 use Rattle.cs_restore.proofs.Among.{among_more, among_last}

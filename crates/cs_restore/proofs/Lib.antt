@@ -4,7 +4,6 @@ mod Compared
 mod Finished
 mod Found
 mod Loop
-mod Moments
 mod NameLists
 mod Parts
 mod Places

@@ -1,20 +1,12 @@
 -- What holds after the first files of an answer were put in place.
-use Rattle.std.proofs.Common.{◌≡◌, ℕ, ◌+◌, ◌≤◌, List, Some, length, inl, inr, ⊎_elim, refl, slice_get, arith, Result, Ok, Err, OnOk, IfErr}
+use Rattle.std.proofs.Common.{◌≡◌, ℕ, ◌+◌, ◌≤◌, List, Some, length, inl, inr, ⊎_elim, refl, slice_get, arith}
 use Rattle.cs_schema.specs.declared.file_name.FileName.{FileName}
 use Rattle.cs_store.specs.FileSet.{Files}
-use Rattle.cs_shelf.specs.Shelf.{Elapses, Follows, HasCopies, IsNoMore, LeavesOnly}
-use Rattle.cs_restore.specs.Placing.{HasOne, IsOldOrPartOver, IsPartOf, IsPartOver, IsPutOver, KeepsOld, MayHaveOne, OthersAreThere, TouchesOnly}
-use Rattle.cs_restore.proofs.Moments.{started, goes_on, then_run}
+use Rattle.cs_shelf.specs.Shelf.{Elapses, Follows, HasCopies, IsNoMore, KeepsOld, LeavesOnly}
+use Rattle.cs_restore.specs.Placing.{HasOne, IsOldOrPartOver, IsPartOf, IsPartOver, IsPutOver, MayHaveOne, OthersAreThere, TouchesOnly}
+use Rattle.cs_shelf.proofs.Moments.{started, goes_on, then_run}
+use Rattle.cs_shelf.proofs.Steps.{no_more, weaker}
 use Rattle.cs_restore.proofs.Parts.{HasFirst, first_none, first_more, first_all, part_none, part_more, may_touch, as_touched}
-
-pub no_more : (step : Files → Files → Type 0) (old mid new : Files → Type 0) → Follows step old mid → IsNoMore mid new → Follows step old new
-no_more step old mid new so_far none c now = so_far c (none c now)
-
-pub from_more : (step : Files → Files → Type 0) (old mid new : Files → Type 0) → IsNoMore old mid → Follows step mid new → Follows step old new
-from_more step old mid new none follows c now = let from = follows c now in (from.0, none from.0 from.1, from.2)
-
-pub weaker : (step weak : Files → Files → Type 0) (old new : Files → Type 0) → ((d c : Files) → step d c → weak d c) → Follows step old new → Follows weak old new
-weaker step weak old new w so_far c now = let from = so_far c now in (from.0, from.1, w from.0 c from.2)
 
 module _ {S : Type 0} (holds may_leave kept : S → Files → Type 0) (moment : S → ℕ) (left_since : S → ℕ → Files → Type 0) (faults : S → ℕ) (out : Files) (names : List FileName) (s : S) where
   -- the first i files stand in place in what is held, and what a stop leaves or left is a part
@@ -88,11 +80,6 @@ module _ {S : Type 0} (holds may_leave kept : S → Files → Type 0) (moment : 
     all_held enough others new none c now =
         let before = so_far.held c (none c now) in
         (before.0, before.1, first_all out names i before.0 c enough (others before.0 before.1) before.2)
-
--- what holds after Ok and after a fault
-pub either : {A E P Q : Type 0} (r : Result A E) → OnOk r P → IfErr r (λ _. Q) → (P → Q) → Q
-either (Ok a) p q weak = weak p
-either (Err e) p q weak = q
 
 -- ---- the old files are kept first
 

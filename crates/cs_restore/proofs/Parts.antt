@@ -9,10 +9,10 @@ use Rattle.cs_schema.specs.declared.file_name.FileName.{FileName}
 use Rattle.cs_schema.specs.FileNames.{name_cmp}
 use Rattle.cs_schema.specs.NameOrder.{name_cmp_total}
 use Rattle.cs_store.specs.FileSet.{Files, contents_of}
-use Rattle.cs_shelf.specs.Shelf.{Has, MayHave}
+use Rattle.cs_shelf.specs.Shelf.{Has, IsAmong, MayHave}
 use Rattle.cs_shelf.proofs.Names.{same_name, ties_itself}
 use Rattle.cs_recovery.specs.Claims.{put_over}
-use Rattle.cs_restore.specs.Placing.{HasOne, IsAmong, IsPartOf, IsPutOver, IsThere, MayHaveOne, TouchesOnly}
+use Rattle.cs_restore.specs.Placing.{HasOne, IsPartOf, IsPutOver, IsThere, MayHaveOne, TouchesOnly}
 
 -- putting over twice is putting over once
 over_twice : (o f : Option (List ℕ)) → option_or o (option_or o f) ≡ option_or o f

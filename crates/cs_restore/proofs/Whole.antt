@@ -5,11 +5,11 @@ use Rattle.cs_schema.specs.CatalogRules.{IsCatalog}
 use Rattle.cs_schema.specs.Losses.{Sites}
 use Rattle.cs_schema.specs.declared.file_name.FileName.{FileName}
 use Rattle.cs_store.specs.FileSet.{Files}
-use Rattle.cs_shelf.specs.Shelf.{AddsCopies, ChangesNothing, Follows, LeavesOnly}
-use Rattle.cs_restore.specs.Placing.{IsOldOrPartOver, IsPartOf, IsPutOver, KeepsOld}
+use Rattle.cs_shelf.specs.Shelf.{AddsCopies, ChangesNothing, Follows, KeepsOld, LeavesOnly}
+use Rattle.cs_restore.specs.Placing.{IsOldOrPartOver, IsPartOf, IsPutOver}
 use Rattle.cs_restore.specs.Restoring.{IsFinished, IsOldOrPart, MayBeLeft, PlansRestore}
 use Rattle.cs_restore.proofs.Finished.{finished}
-use Rattle.cs_restore.proofs.Moments.{nothing_changed, runs_weaker, then_run}
+use Rattle.cs_shelf.proofs.Moments.{nothing_changed, runs_weaker, then_run}
 
 module _ {S : Type 0} (holds may_leave kept : S → Files → Type 0) (moment : S → ℕ) (left_since : S → ℕ → Files → Type 0) (C : CatalogData) (L : Sites)
     (s t : S) (only_now : (c : Files) → left_since s (moment s) c → may_leave s c) (still : ChangesNothing holds may_leave kept moment left_since s t) where

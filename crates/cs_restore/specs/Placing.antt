@@ -2,13 +2,10 @@
 use Rattle.std.specs.Prelude.{◌≡◌, ◌⊎◌, ℕ, List, ◌∷◌, [], ◌++◌, Some, slice_get, IsSome}
 use Rattle.cs_schema.specs.declared.file_name.FileName.{FileName}
 use Rattle.cs_store.specs.FileSet.{Files, contents_of}
+use Rattle.cs_shelf.specs.Shelf.{IsAmong}
 use Rattle.cs_recovery.specs.Claims.{put_over}
 use Rattle.cs_restore.specs.declared.step.Step.{Step}
 use Rattle.cs_restore.specs.declared.step.What.TheVariants.{Same}
-
--- the name is one of these
-abbrev pub IsAmong : List FileName → FileName → Type 0
-IsAmong names n = (i : ℕ) × (slice_get names i ≡ Some n)
 
 -- what the set has under each name stands there, whichever of the contents is held
 abbrev pub HasAtLeast : Files → (Files → Type 0) → Type 0
@@ -59,11 +56,3 @@ IsPartOver out old c = (d : Files) × old d × IsPartOf out d c
 -- what a stop might have left before, or may leave of a set that is put over what is held
 abbrev pub IsOldOrPartOver : Files → (Files → Type 0) → (Files → Type 0) → Files → Type 0
 IsOldOrPartOver out held left c = left c ⊎ IsPartOver out held c
-
--- each file is as it was, or there is a copy under its name, if there was one
-abbrev pub HasOld : Files → Files → Files → Type 0
-HasOld d c k = (n : FileName) → (contents_of c n ≡ contents_of d n) ⊎ (IsSome (contents_of d n) → IsSome (contents_of k n))
-
--- what was held and is replaced is kept
-abbrev pub KeepsOld : (Files → Type 0) → (Files → Type 0) → (Files → Type 0) → Type 0
-KeepsOld old new kept = (c : Files) → new c → (d : Files) × old d × ((k : Files) → kept k → HasOld d c k)

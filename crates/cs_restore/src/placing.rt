@@ -2,12 +2,11 @@
 ghost use Rattle.std.specs.Prelude.{◌≡◌, ◌≤◌, Option, OnOk, OnErr, IsErrOf};
 ghost use Rattle.cs_schema.specs.declared.file_name.FileName.{FileName};
 ghost use Rattle.cs_store.specs.Fault.{CountsFault};
-ghost use Rattle.cs_store.specs.Save.{refusal as refusal_at};
-ghost use Rattle.cs_shelf.specs.Shelf.{AddsCopies, Elapses, Follows, IsNoMore, LeavesOnly};
-ghost use Rattle.cs_restore.specs.Placing.{HasOne, IsOldOrPartOver, IsPartOf, IsPartOver, IsPutOver, KeepsOld, MayHaveOne, OthersAreThere, TouchesOnly};
+ghost use Rattle.cs_shelf.specs.Shelf.{AddsCopies, Elapses, Follows, IsNoMore, KeepsOld, LeavesOnly};
+ghost use Rattle.cs_restore.specs.Placing.{HasOne, IsOldOrPartOver, IsPartOf, IsPartOver, IsPutOver, MayHaveOne, OthersAreThere, TouchesOnly};
 
 use cs_schema::FileName;
-use cs_shelf::Shelf;
+use cs_shelf::{Shelf, write_fault};
 use cs_store::{Fault, FileSet, StoreFault};
 
 /// Puts the file of this name in place, if the answer has it.
@@ -45,12 +44,12 @@ fn put_all<S: Shelf>(answer: &FileSet, names: &[FileName], shelf: &mut S) -> Res
     for name in names {
         match put_one(answer, *name, shelf) {
             Ok(()) => {}
-            Err(fault) => return Err(refusal(Some(*name), fault)),
+            Err(fault) => return Err(write_fault(Some(*name), fault)),
         }
     }
     match shelf.sync() {
         Ok(()) => Ok(()),
-        Err(fault) => Err(refusal(None, fault)),
+        Err(fault) => Err(write_fault(None, fault)),
     }
 }
 
@@ -70,16 +69,6 @@ pub fn exchange<S: Shelf>(answer: &FileSet, names: &[FileName], shelf: &mut S) -
 {
     match shelf.keep(names) {
         Ok(()) => put_all(answer, names, shelf),
-        Err(fault) => Err(refusal(names.first().copied(), fault)),
-    }
-}
-
-/// How a refusal at this file, or at the sync, is answered.
-fn refusal(at: Option<FileName>, fault: StoreFault) -> Fault
-    ensures { result ≡ refusal_at at fault }
-{
-    match fault {
-        StoreFault::Memory => Fault::Memory,
-        StoreFault::Device => Fault::Write(at),
+        Err(fault) => Err(write_fault(names.first().copied(), fault)),
     }
 }

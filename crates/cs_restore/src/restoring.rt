@@ -1,7 +1,6 @@
 //! Restoring a store in place.
 ghost use Rattle.std.specs.Prelude.{◌≤◌, IfOk};
-ghost use Rattle.cs_shelf.specs.Shelf.{AddsCopies, Follows, LeavesOnly};
-ghost use Rattle.cs_restore.specs.Placing.{KeepsOld};
+ghost use Rattle.cs_shelf.specs.Shelf.{AddsCopies, Follows, KeepsOld, LeavesOnly};
 ghost use Rattle.cs_restore.specs.Restoring.{IsFinished, IsOldOrPart, MayBeLeft, ReadsBack};
 
 use crate::placing::exchange;

@@ -9,7 +9,7 @@ use std::marker::Sync;
 use std::thread::Threads;
 
 /// How many calls a restore makes, at most.
-const CALLS: u64 = 100;
+pub const CALLS: u64 = 100;
 
 /// A store, and the sites of it that are lost.
 #[derive(Drop)]
@@ -44,7 +44,7 @@ fn loss_of(sites: &[u8]) -> Loss {
 }
 
 /// The store without its lost files, but for a stale one under each lost segment's own name.
-fn damaged(trial: &Trial) -> Result<FileSet> {
+pub fn damaged(trial: &Trial) -> Result<FileSet> {
     let loss = loss_of(trial.sites);
     let names = trial.catalog.surviving(trial.alloc, loss)?;
     let mut files = FileSet::new(trial.alloc)?;
@@ -63,7 +63,7 @@ fn damaged(trial: &Trial) -> Result<FileSet> {
 }
 
 /// Whether two sets have the same files.
-fn are_same(files: &FileSet, others: &FileSet) -> bool {
+pub fn are_same(files: &FileSet, others: &FileSet) -> bool {
     for i in 0..files.len() {
         let (name, bytes) = files.at(i);
         match others.get(name) {
@@ -75,13 +75,13 @@ fn are_same(files: &FileSet, others: &FileSet) -> bool {
 }
 
 /// The store on a shelf that stops there.
-fn shelf_of(trial: &Trial, stop: Option<Stop>) -> Result<MemoryShelf> {
+pub fn shelf_of(trial: &Trial, stop: Option<Stop>) -> Result<MemoryShelf> {
     let none = FileSet::new(trial.alloc)?;
     Ok(MemoryShelf::new(trial.alloc, damaged(trial)?, none, stop))
 }
 
 /// Restores what is on the shelf: how many rows it has, unless it was stopped.
-fn restored<R: Threads + Sync>(rt: &R, trial: &Trial, shelf: &mut MemoryShelf) -> Option<u64> {
+pub fn restored<R: Threads + Sync>(rt: &R, trial: &Trial, shelf: &mut MemoryShelf) -> Option<u64> {
     let run = Run {
         rt,
         alloc: trial.alloc,

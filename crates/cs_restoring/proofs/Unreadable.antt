@@ -3,7 +3,6 @@ use Rattle.std.proofs.Common.{◌≡◌, List, [], ◌∷◌, None, inl, inr, sy
 use Rattle.std.specs.List.{AllByRecursion}
 use Rattle.cs_schema.specs.declared.file_name.FileName.{FileName}
 use Rattle.cs_schema.specs.FileNames.{FileContents}
-use Rattle.cs_schema.specs.Lists.{IsIn}
 use Rattle.cs_inspection.specs.Laws.{AreAbsent}
 
 -- no file stands under any of them

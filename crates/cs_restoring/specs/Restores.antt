@@ -1,5 +1,5 @@
 -- What the verb `restore` does, by what the places and a store that can be changed say of one call.
-use Rattle.std.specs.Prelude.{◌≡◌, ◌⊎◌, ℕ, ⊤, Bool, true, List, Option, Some, None}
+use Rattle.std.specs.Prelude.{◌≡◌, ◌⊎◌, ℕ, ⊤, Bool, true, false, List, Some, None}
 use Rattle.cs_schema.specs.CatalogData.{CatalogData}
 use Rattle.cs_schema.specs.Losses.{Sites}
 use Rattle.cs_schema.specs.declared.file_name.FileName.{FileName}
@@ -29,22 +29,30 @@ module _ {P K : Type 0} where
     pub plan : PlansRestore C L (holds left) files changes
 
   -- a plan is the answer, which has no number of rows; a doubt says nothing
-  abbrev pub Foresees : (P → List ℕ → CatalogData → K → Type 0) → (K → Files → Type 0) → P → List ℕ → CatalogData → Restoration → Type 0
-  Foresees looks_at holds s path C (restoration.Done restored) = (restored.catalog ≡ C) × (restored.rows ≡ None) × PlansStore looks_at holds s path C restored.lost
-  Foresees looks_at holds s path C (restoration.Doubted _) = ⊤
+  abbrev pub Foresees : (P → List ℕ → CatalogData → K → Type 0) → (K → Files → Type 0) → P → List ℕ → CatalogData → Sites → Restoration → Type 0
+  Foresees looks_at holds s path C L (restoration.Done restored) = (restored.catalog ≡ C) × (restored.lost ≡ L) × (restored.rows ≡ None) × PlansStore looks_at holds s path C L
+  Foresees looks_at holds s path C L (restoration.Doubted _) = ⊤
 
-  -- the number of rows is the answer of a store that was restored; a doubt says nothing
+  -- the number of rows is the answer of a store that was restored; one that is doubtful was given back as it was taken
   abbrev pub EndsRestore : (P → K → Bool → P → Type 0) → (holds may_leave : K → Files → Type 0) → P → CatalogData → Sites → K → P → Restoration → Type 0
-  EndsRestore gives_back holds may_leave s C L store t (restoration.Done restored) = (restored.catalog ≡ C) × ((rows : ℕ) × (restored.rows ≡ Some rows) × WorksOnStore gives_back holds may_leave s C L store rows t)
-  EndsRestore gives_back holds may_leave s C L store t (restoration.Doubted _) = ⊤
+  EndsRestore gives_back holds may_leave s C L store t (restoration.Done restored) = (restored.catalog ≡ C) × (restored.lost ≡ L) × ((rows : ℕ) × (restored.rows ≡ Some rows) × WorksOnStore gives_back holds may_leave s C L store rows t)
+  EndsRestore gives_back holds may_leave s C L store t (restoration.Doubted _) = gives_back s store false t
 
 module _ {P S K : Type 0} (reads : P → List ℕ → List ℕ → P → Type 0) (opens : P → List ℕ → CatalogData → S → Type 0) (takes_store : P → List ℕ → CatalogData → Sites → K → P → Type 0) (looks_at : P → List ℕ → CatalogData → K → Type 0) (gives_back : P → K → Bool → P → Type 0) (holds may_leave : K → Files → Type 0) where
-  -- The store at this path was found. Then it was looked at alone; or it was taken, and restored as the sites ask that it
-  -- was taken for.
-  pub record DoesRestore (s : P) (path : List ℕ) (answer : Restoration) (t : P) : Type 0 where
+  -- the store was taken, for the sites that were asked for unless an unfinished restore goes on, and restored as these ask
+  pub record TakesAndEnds (resumes : Bool) (asked : Sites) (s : P) (path : List ℕ) (C : CatalogData) (answer : Restoration) (t : P) : Type 0 where
+    pub lost : Sites
+    pub as_asked : resumes ≡ false → lost ≡ asked
+    pub store : K
+    pub taken : P
+    pub takes : takes_store s path C lost store taken
+    pub ends : EndsRestore gives_back holds may_leave taken C lost store t answer
+
+  -- The store at this path was found. Of a dry run, and of none else, it was then looked at alone; else it was taken and restored.
+  pub record DoesRestore (is_dry_run resumes : Bool) (asked : Sites) (s : P) (path : List ℕ) (answer : Restoration) (t : P) : Type 0 where
     pub catalog : CatalogData
     pub found : P
     pub source : S
     pub finds : FindsStore reads opens s path catalog source found
-    pub does : (Foresees looks_at holds found path catalog answer × (t ≡ found))
-        ⊎ ((L : Sites) × (store : K) × (taken : P) × takes_store found path catalog L store taken × EndsRestore gives_back holds may_leave taken catalog L store t answer)
+    pub does : ((is_dry_run ≡ true) × (t ≡ found) × Foresees looks_at holds found path catalog asked answer)
+        ⊎ ((is_dry_run ≡ false) × TakesAndEnds resumes asked found path catalog answer t)

@@ -6,11 +6,11 @@ use cs_file_diagnosis::{Diagnosis, Verdict, diagnose};
 use cs_inspection::bad_files;
 use cs_places::Stop;
 use cs_progress::{Progress, Stage};
+use cs_reading::{SharedSource, load_readable_side_by_side};
 use cs_rebuild::Run;
 use cs_reports::{site_of, with_site};
 use cs_safety::safe;
 use cs_schema::{Catalog, Loss};
-use cs_store::{Source, load_readable};
 use std::alloc::AllocError;
 use std::marker::Sync;
 use std::thread::Threads;
@@ -30,13 +30,13 @@ fn others(loss: Loss) -> Loss {
 }
 
 /// Whether a bad file stands on each site of a loss. No file of another site is read.
-fn is_each_bad<R: Threads + Sync, G: Progress + Sync, S: Source>(
+fn is_each_bad<R: Threads + Sync, G: Progress + Sync, S: SharedSource>(
     run: &Run<'_, R, G>,
     catalog: &Catalog,
-    source: &mut S,
+    source: &S,
     loss: Loss,
 ) -> Result<bool, AllocError> {
-    let found = load_readable(run.alloc, catalog, others(loss), source)?;
+    let found = load_readable_side_by_side(run.rt, run.alloc, catalog, others(loss), source)?;
     let unreadable = found.unreadable.as_slice();
     let bad = bad_files(run.rt, run.alloc, catalog, &found.files, unreadable)?;
     let mut sites = Loss::none();
@@ -63,10 +63,10 @@ fn is_doubtful(diagnosis: &Diagnosis, loss: Loss, resumes: bool) -> bool {
 
 /// The diagnosis of a store that makes it doubtful that it lost just these sites. Where a bad file stands on each of them,
 /// there is no doubt, and nothing else is read.
-pub fn find_doubt<R: Threads + Sync, G: Progress + Sync, S: Source>(
+pub fn find_doubt<R: Threads + Sync, G: Progress + Sync, S: SharedSource>(
     run: &Run<'_, R, G>,
     catalog: &Catalog,
-    source: &mut S,
+    source: &S,
     loss: Loss,
     resumes: bool,
 ) -> Result<Option<Diagnosis>, Stop> {
@@ -86,15 +86,15 @@ pub fn find_doubt<R: Threads + Sync, G: Progress + Sync, S: Source>(
 }
 
 /// The diagnosis of a store by losses of at most so many sites.
-fn diagnosis_of<R: Threads + Sync, G: Progress + Sync, S: Source>(
+fn diagnosis_of<R: Threads + Sync, G: Progress + Sync, S: SharedSource>(
     run: &Run<'_, R, G>,
     catalog: &Catalog,
-    source: &mut S,
+    source: &S,
     at_most: u8,
 ) -> Result<Diagnosis, AllocError>
     requires { at_most ≤ 16 }
 {
-    let found = load_readable(run.alloc, catalog, Loss::none(), source)?;
+    let found = load_readable_side_by_side(run.rt, run.alloc, catalog, Loss::none(), source)?;
     run.gate.reached(Stage::Inspecting);
     let unreadable = found.unreadable.as_slice();
     diagnose(run, catalog, &found.files, unreadable, Some(at_most))

@@ -1,17 +1,36 @@
-//! How a restore ends early.
+//! How a restore or an undo ends early.
 use cs_places::{GivenBack, Stop, Untaken, stop_of};
 use cs_schema::{Catalog, Loss};
 use cs_store::{Fault, StoreFault};
 use std::alloc::Global;
+use std::fmt;
 
-/// The store that is restored.
+/// The store that is restored, or put back as it was.
 #[derive(Clone, Copy)]
 pub struct LostStore<'a> {
     pub catalog: &'a Catalog,
     /// The folder of the store.
     pub path: &'a str,
-    /// The sites that are lost.
+    /// The sites that are lost; none of an undo.
     pub lost: Loss,
+    /// The verb that is at work, by which it is gone on with.
+    pub verb: Verb,
+}
+
+/// A verb that changes a store in place.
+#[derive(Clone, Copy, Debug, PartialEq, Eq)]
+pub enum Verb {
+    Restore,
+    Undo,
+}
+
+impl fmt::Display for Verb {
+    fn fmt<W: fmt::Write>(&self, f: &mut fmt::Formatter<W>) -> fmt::Result {
+        f.write_str(match self {
+            Verb::Restore => "restore",
+            Verb::Undo => "undo",
+        })
+    }
 }
 
 /// The lines of a refusal, as how it ends a verb.
@@ -30,8 +49,8 @@ fn failed(text: Option<String>) -> Stop {
     }
 }
 
-/// How a store ends a restore that could not be taken.
-pub fn stop_untaken(alloc: Global, untaken: &Untaken, path: &str) -> Stop {
+/// How a store ends a verb for which it could not be taken.
+pub fn stop_untaken(alloc: Global, untaken: &Untaken, path: &str, verb: Verb) -> Stop {
     match untaken {
         Untaken::Memory => Stop::Memory,
         Untaken::Device => failed(format!(in alloc;
@@ -40,15 +59,49 @@ pub fn stop_untaken(alloc: Global, untaken: &Untaken, path: &str) -> Stop {
         Untaken::Unfinished => refused(format!(in alloc;
             "fault: a restore of {path} is not finished\nnext: pinepolo restore --resume {path}\n"
         ).ok()),
-        Untaken::Finished => refused(format!(in alloc;
-            "fault: no restore of {path} is unfinished\nnext: pinepolo restore {path} SITE..\n"
+        Untaken::UnfinishedUndo => refused(format!(in alloc;
+            "fault: an undo of {path} is not finished\nnext: pinepolo undo --resume {path}\n"
         ).ok()),
+        Untaken::Finished => refused(none_unfinished(alloc, path, verb)),
         Untaken::Busy => refused(format!(in alloc;
-            "fault: another restore of {path} is at work\nnext: let it end, then pinepolo check {path}\n"
+            "fault: another restore or undo of {path} is at work\nnext: let it end, then pinepolo check {path}\n"
         ).ok()),
         Untaken::Damaged => refused(format!(in alloc;
-            "fault: {path}/RESTORING is no record of a restore\nnext: move it away, then pinepolo diagnose {path}\n"
+            "fault: {path}/RESTORING is no record of a restore or an undo\nnext: move it away, then pinepolo diagnose {path}\n"
         ).ok()),
+        Untaken::NoneKept(_) | Untaken::Unrecorded(_) | Untaken::Incomplete(..) => refused(not_kept(
+            alloc, untaken, path,
+        )),
+    }
+}
+
+/// That nothing is unfinished that could be gone on with.
+fn none_unfinished(alloc: Global, path: &str, verb: Verb) -> Option<String> {
+    match verb {
+        Verb::Restore => format!(in alloc;
+            "fault: no restore of {path} is unfinished\nnext: pinepolo restore {path} SITE..\n"
+        ).ok(),
+        Verb::Undo => format!(in alloc;
+            "fault: no undo of {path} is unfinished\nnext: pinepolo undo {path}\n"
+        ).ok(),
+    }
+}
+
+/// That what is to be put back is not kept.
+fn not_kept(alloc: Global, untaken: &Untaken, path: &str) -> Option<String> {
+    match untaken {
+        Untaken::NoneKept(Some(number)) => format!(in alloc;
+            "fault: nothing is kept in {path}/replaced/{number}\nnext: see which numbers are there: ls {path}/replaced\n"
+        ).ok(),
+        Untaken::Unrecorded(number) => format!(in alloc;
+            "fault: {path}/replaced/{number} has no record of what changed\nnext: copy its files back by hand\n"
+        ).ok(),
+        Untaken::Incomplete(number, name) => format!(in alloc;
+            "fault: {path}/replaced/{number}/{name} is no regular file that can be read\nnext: copy the others of {path}/replaced/{number} back by hand\n"
+        ).ok(),
+        _ => format!(in alloc;
+            "fault: no restore of {path} has kept anything\nnext: pinepolo check {path}\n"
+        ).ok(),
     }
 }
 
@@ -71,9 +124,9 @@ fn with_next(alloc: Global, lines: &str, next: &str) -> Option<String> {
     format!(in alloc; "{line}\nnext: {next}\n").ok()
 }
 
-/// How a fault ends a restore that is to be gone on with.
-fn resumed(alloc: Global, stop: Stop, path: &str) -> Stop {
-    let Ok(next) = format!(in alloc; "pinepolo restore --resume {path}") else {
+/// How a fault ends a verb that is to be gone on with.
+fn resumed(alloc: Global, stop: Stop, path: &str, verb: Verb) -> Stop {
+    let Ok(next) = format!(in alloc; "pinepolo {verb} --resume {path}") else {
         return Stop::Memory;
     };
     match stop {
@@ -83,11 +136,11 @@ fn resumed(alloc: Global, stop: Stop, path: &str) -> Stop {
     }
 }
 
-/// How a fault ends a restore whose store was given back.
+/// How a fault ends a verb whose store was given back.
 pub fn stop_by(alloc: Global, store: &LostStore<'_>, fault: &Fault, given: GivenBack) -> Stop {
     let stop = stop_of(alloc, store.catalog, store.lost, fault);
     if given.is_unfinished {
-        return resumed(alloc, stop, store.path);
+        return resumed(alloc, stop, store.path, store.verb);
     }
     match (fault, stop) {
         (Fault::Write(_), Stop::Device(text)) => {
@@ -98,12 +151,12 @@ pub fn stop_by(alloc: Global, store: &LostStore<'_>, fault: &Fault, given: Given
     }
 }
 
-/// How a record ends a restore that could not be removed.
-pub fn stop_unended(alloc: Global, fault: StoreFault, path: &str) -> Stop {
+/// How a record ends a verb that could not be removed, or a journal that could not be written.
+pub fn stop_unended(alloc: Global, fault: StoreFault, path: &str, verb: Verb) -> Stop {
     match fault {
         StoreFault::Memory => Stop::Memory,
         StoreFault::Device => failed(format!(in alloc;
-            "fault: remove {path}/RESTORING\nnext: pinepolo restore --resume {path}\n"
+            "fault: remove {path}/RESTORING\nnext: pinepolo {verb} --resume {path}\n"
         ).ok()),
     }
 }

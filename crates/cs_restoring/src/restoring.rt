@@ -1,9 +1,9 @@
 //! The verb.
-ghost use Rattle.std.specs.Prelude.{◌≡◌, IfOk, Some};
+ghost use Rattle.std.specs.Prelude.{◌≡◌, IfOk, Some, false};
 ghost use Rattle.cs_restoring.specs.Restores.{DoesRestore, EndsRestore, Foresees};
 
 use crate::doubting::find_doubt;
-use crate::ending::{LostStore, stop_unended, stop_untaken};
+use crate::ending::{LostStore, Verb, stop_unended, stop_untaken};
 use crate::planning::{plan, planned};
 use crate::working::work;
 use cs_answers::{Diagnosed, Doubted, Restoration, Restored};
@@ -25,7 +25,8 @@ fn take<P: Shelves>(
     catalog: &Catalog,
     request: &Restoring<'_>,
 ) -> Result<(P::Shelf, Loss), Stop>
-    ensures { IfOk result (λ taken. P.takes_store places.old request.now.store.now catalog.now taken.1 taken.0 places.new) }
+    ensures taken { IfOk result (λ taken. P.takes_store places.old request.now.store.now catalog.now taken.1 taken.0 places.new) }
+    ensures lost { IfOk result (λ taken. request.now.resumes ≡ false → taken.1 ≡ request.now.loss) }
 {
     let path = request.store;
     let taken = if request.resumes {
@@ -38,7 +39,7 @@ fn take<P: Shelves>(
     };
     match taken {
         Ok(taken) => Ok(taken),
-        Err(untaken) => Err(stop_untaken(alloc, &untaken, path)),
+        Err(untaken) => Err(stop_untaken(alloc, &untaken, path, Verb::Restore)),
     }
 }
 
@@ -59,7 +60,7 @@ fn doubted(
 fn doubt_of<R: Threads + Sync, G: Progress + Sync, P: Shelves>(
     run: &Run<'_, R, G>,
     catalog: &Catalog,
-    source: &mut P::Store,
+    source: &P::Store,
     request: &Restoring<'_>,
     lost: Loss,
 ) -> Result<Option<Diagnosis>, Stop> {
@@ -76,11 +77,11 @@ fn look_ahead<R: Threads + Sync, G: Progress + Sync, P: Shelves>(
     found: (Catalog, P::Store),
     request: &Restoring<'_>,
 ) -> Result<Restoration, Stop>
-    ensures { IfOk result (Foresees P.looks_at P.Shelf.holds places.now request.now.store.now found.0) }
+    ensures { IfOk result (Foresees P.looks_at P.Shelf.holds places.now request.now.store.now found.0 request.now.loss) }
 {
-    let (catalog, mut source) = found;
+    let (catalog, source) = found;
     let lost = request.loss;
-    match doubt_of::<R, G, P>(run, &catalog, &mut source, request, lost) {
+    match doubt_of::<R, G, P>(run, &catalog, &source, request, lost) {
         Ok(None) => {}
         Ok(Some(diagnosis)) => return match doubted(run.alloc, catalog, diagnosis, lost) {
             Ok(doubted) => Ok(Restoration::Doubted(doubted)),
@@ -92,6 +93,7 @@ fn look_ahead<R: Threads + Sync, G: Progress + Sync, P: Shelves>(
         catalog: &catalog,
         path: request.store,
         lost,
+        verb: Verb::Restore,
     };
     match plan(run, places, &store) {
         Ok(steps) => Ok(Restoration::Done(planned(catalog, lost, steps))),
@@ -106,7 +108,7 @@ fn finished(
     restored: cs_restore::Restored,
     given: GivenBack,
 ) -> Restored
-    ensures { (result.catalog ≡ catalog) × (result.rows ≡ Some restored.rows) }
+    ensures { (result.catalog ≡ catalog) × ((result.lost ≡ lost) × (result.rows ≡ Some restored.rows)) }
 {
     let k = greatest_k(&catalog, Loss::none()).unwrap_or(0);
     Restored {
@@ -130,15 +132,15 @@ fn restore_taken<R: Threads + Sync, G: Progress + Sync, P: Shelves>(
     ensures { IfOk result (EndsRestore P.gives_back P.Shelf.holds P.Shelf.may_leave places.old found.0 taken.1 taken.0 places.new) }
 {
     let (shelf, lost) = taken;
-    let (catalog, mut source) = found;
-    match doubt_of::<R, G, P>(run, &catalog, &mut source, request, lost) {
+    let (catalog, source) = found;
+    match doubt_of::<R, G, P>(run, &catalog, &source, request, lost) {
         Ok(None) => {}
         Ok(Some(diagnosis)) => return match places.give_back(shelf, false) {
             Ok(_) => match doubted(run.alloc, catalog, diagnosis, lost) {
                 Ok(doubted) => Ok(Restoration::Doubted(doubted)),
                 Err(stop) => Err(stop),
             },
-            Err(fault) => Err(stop_unended(run.alloc, fault, request.store)),
+            Err(fault) => Err(stop_unended(run.alloc, fault, request.store, Verb::Restore)),
         },
         Err(stop) => {
             let _left = places.give_back(shelf, false).is_ok();
@@ -149,6 +151,7 @@ fn restore_taken<R: Threads + Sync, G: Progress + Sync, P: Shelves>(
         catalog: &catalog,
         path: request.store,
         lost,
+        verb: Verb::Restore,
     };
     match work(run, places, shelf, &store) {
         Ok((restored, given)) => Ok(Restoration::Done(finished(catalog, lost, restored, given))),
@@ -165,7 +168,7 @@ pub fn restore<R: Threads + Sync, G: Progress + Sync, P: Shelves>(
     request: &Restoring<'_>,
 ) -> Result<Restoration, Stop>
     ensures { IfOk result (λ restoration. DoesRestore P.reads P.opens P.takes_store P.looks_at P.gives_back P.Shelf.holds P.Shelf.may_leave
-        places.old request.now.store.now restoration places.new) }
+        request.now.is_dry_run request.now.resumes request.now.loss places.old request.now.store.now restoration places.new) }
 {
     let found = match find_store(run.alloc, places, request.store) {
         Ok(found) => found,

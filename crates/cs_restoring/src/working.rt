@@ -12,8 +12,8 @@ use std::alloc::Global;
 use std::marker::Sync;
 use std::thread::Threads;
 
-/// Gives a store back whose restore ended early, and says how.
-fn leave<P: Shelves>(
+/// Gives a store back whose restore or undo ended early, and says how.
+pub fn leave<P: Shelves>(
     alloc: Global,
     places: &mut P,
     shelf: P::Shelf,
@@ -22,7 +22,7 @@ fn leave<P: Shelves>(
 ) -> Stop {
     match places.give_back(shelf, false) {
         Ok(given) => stop_by(alloc, store, fault, given),
-        Err(failure) => stop_unended(alloc, failure, store.path),
+        Err(failure) => stop_unended(alloc, failure, store.path, store.verb),
     }
 }
 
@@ -43,6 +43,6 @@ pub fn work<R: Threads + Sync, G: Progress + Sync, P: Shelves>(
     };
     match places.give_back(shelf, true) {
         Ok(given) => Ok((restored, given)),
-        Err(failure) => Err(stop_unended(run.alloc, failure, store.path)),
+        Err(failure) => Err(stop_unended(run.alloc, failure, store.path, store.verb)),
     }
 }

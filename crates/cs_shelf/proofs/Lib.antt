@@ -1,4 +1,7 @@
 mod Copies
 pub mod Loads
+pub mod Moments
 pub mod Names
 mod Past
+mod Rest
+pub mod Steps

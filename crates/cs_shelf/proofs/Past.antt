@@ -3,7 +3,7 @@ use Rattle.std.proofs.Common.{◌≡◌, ◌⊎◌, inl, inr, ⊎_elim, ℕ, zer
 use Rattle.cs_store.specs.FileSet.{Files}
 use Rattle.std.specs.FinMap.{insert}
 use Rattle.cs_schema.specs.declared.file_name.FileName.{FileName}
-use Rattle.cs_shelf.specs.Shelf.{Elapses, Follows, Has, MayHave}
+use Rattle.cs_shelf.specs.Shelf.{Elapses, Follows, Has, Lacks, MayHave, MayLack}
 use Rattle.cs_shelf.specs.Memory.{HadBeen, Since}
 
 keeps_on : (past : List Files) (v c : Files) → HadBeen past c → HadBeen (past ++ v ∷ []) c
@@ -61,6 +61,17 @@ module _ (name : FileName) (bytes : List ℕ) (old new : Files) where
 
   pub file_may_be_put : new ≡ insert old name bytes → Follows (MayHave name bytes) (λ c. c ≡ old) (λ c. c ≡ new)
   file_may_be_put is c now = (old, refl, inr (now ∙ is))
+
+-- the same, of a file that was taken away
+module _ (name : FileName) (old new : Files) where
+  pub nothing_gone : new ≡ old → Follows (MayLack name) (λ c. c ≡ old) (λ c. c ≡ new)
+  nothing_gone is c now = (old, refl, inl (now ∙ is))
+
+  pub file_gone : Lacks name old new → Follows (Lacks name) (λ c. c ≡ old) (λ c. c ≡ new)
+  file_gone lacks c now = (old, refl, subst (λ f. Lacks name old f) (sym now) lacks)
+
+  pub file_may_be_gone : Lacks name old new → Follows (MayLack name) (λ c. c ≡ old) (λ c. c ≡ new)
+  file_may_be_gone lacks c now = (old, refl, inr (subst (λ f. Lacks name old f) (sym now) lacks))
 
 -- what holds anyhow holds at a fault
 pub at_any_fault : {A E P : Type 0} (r : Result A E) → P → IfErr r (λ _. P)

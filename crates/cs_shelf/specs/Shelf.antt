@@ -21,6 +21,15 @@ Has name bytes old new = new ≡ insert old name bytes
 abbrev pub MayHave : FileName → List ℕ → Files → Files → Type 0
 MayHave name bytes old new = (new ≡ old) ⊎ (new ≡ insert old name bytes)
 
+-- nothing stands under the name, and no other changed
+pub record Lacks (name : FileName) (old new : Files) : Type 0 where
+  pub here : contents_of new name ≡ None
+  pub others : (n : FileName) → (contents_of new n ≡ contents_of old n) ⊎ (n ≡ name)
+
+-- the name has what it had, or nothing, and no other changed
+abbrev pub MayLack : FileName → Files → Files → Type 0
+MayLack name old new = (new ≡ old) ⊎ Lacks name old new
+
 -- copies of files of c were added to j, and no copy was overwritten
 abbrev pub AddsCopiesOf : Files → Files → Files → Type 0
 AddsCopiesOf c j k = (n : FileName) → (contents_of k n ≡ contents_of j n) ⊎ ((contents_of j n ≡ None) × (contents_of k n ≡ contents_of c n))
@@ -29,12 +38,24 @@ AddsCopiesOf c j k = (n : FileName) → (contents_of k n ≡ contents_of j n) �
 abbrev pub AddsCopies : (Files → Type 0) → Files → Files → Type 0
 AddsCopies held j k = (n : FileName) → (contents_of k n ≡ contents_of j n) ⊎ ((contents_of j n ≡ None) × ((c : Files) × held c × (contents_of k n ≡ contents_of c n)))
 
+-- the name is one of these
+abbrev pub IsAmong : List FileName → FileName → Type 0
+IsAmong names n = (i : ℕ) × (slice_get names i ≡ Some n)
+
 -- each of these names that has a file has a copy
 abbrev pub HasCopiesOf : List FileName → Files → Files → Type 0
 HasCopiesOf names c k = (i : ℕ) (n : FileName) → slice_get names i ≡ Some n → IsSome (contents_of c n) → IsSome (contents_of k n)
 
 abbrev pub HasCopies : List FileName → (Files → Type 0) → (Files → Type 0) → Type 0
 HasCopies names held kept = (k : Files) → kept k → (c : Files) → held c → HasCopiesOf names c k
+
+-- each file is as it was, or there is a copy under its name, if there was one
+abbrev pub HasOld : Files → Files → Files → Type 0
+HasOld d c k = (n : FileName) → (contents_of c n ≡ contents_of d n) ⊎ (IsSome (contents_of d n) → IsSome (contents_of k n))
+
+-- what was held and is replaced is kept
+abbrev pub KeepsOld : (Files → Type 0) → (Files → Type 0) → (Files → Type 0) → Type 0
+KeepsOld old new kept = (c : Files) → new c → (d : Files) × old d × ((k : Files) → kept k → HasOld d c k)
 
 -- Time goes on: a stop since t might have left what it might have left before, or what it may leave now.
 pub record Elapses (before now : ℕ) (past since : ℕ → Files → Type 0) (may_leave : Files → Type 0) : Type 0 where

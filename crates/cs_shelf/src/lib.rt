@@ -6,8 +6,10 @@
 
 mod memory;
 mod reading;
+mod refusing;
 mod shelf;
 
 pub use memory::{MemoryShelf, Stop};
 pub use reading::{load_held, read_held};
+pub use refusing::write_fault;
 pub use shelf::Shelf;

@@ -3,10 +3,11 @@ ghost use Rattle.std.specs.Prelude.{◌≡◌, length};
 ghost use Rattle.std.proofs.Common.{inl};
 
 mod copies;
+mod rest;
 mod stop;
 
 use crate::Shelf;
-use copies::{keep_copies, put_over};
+use copies::{keep_copies, put_over, take_away};
 use cs_schema::FileName;
 use cs_store::{FileSet, Source, StoreFault};
 use std::alloc::Global;
@@ -20,7 +21,7 @@ pub struct MemoryShelf {
     pub files: FileSet,
     /// The old files that are kept apart.
     pub kept: FileSet,
-    /// The contents that it had before each replacement.
+    /// The contents that it had before each change.
     pub past: Vec<FileSet>,
     pub stop: Option<Stop>,
     pub faults: u64,
@@ -120,6 +121,18 @@ impl Shelf for MemoryShelf {
             return Err(StoreFault::Device);
         }
         put_over(self.alloc, &mut self.files, &mut self.past, name, bytes)?;
+        if course == Course::StopsAfter {
+            return Err(StoreFault::Device);
+        }
+        Ok(())
+    }
+
+    fn remove(&mut self, name: FileName) -> Result<(), StoreFault> {
+        let course = next_course(&mut self.stop, &mut self.faults);
+        if course == Course::StopsBefore {
+            return Err(StoreFault::Device);
+        }
+        take_away(self.alloc, &mut self.files, &mut self.past, name)?;
         if course == Course::StopsAfter {
             return Err(StoreFault::Device);
         }

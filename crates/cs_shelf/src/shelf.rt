@@ -4,12 +4,12 @@ ghost use Rattle.cs_schema.specs.declared.file_name.FileName.{FileName};
 ghost use Rattle.cs_store.specs.declared.fault.StoreFault.{StoreFault};
 ghost use Rattle.cs_store.specs.Fault.{CountsFault};
 ghost use Rattle.cs_store.specs.FileSet.{Files, contents_of};
-ghost use Rattle.cs_shelf.specs.Shelf.{AddsCopies, ChangesNothing, Elapses, Follows, Has, HasCopies, IsNoMore, MayHave};
+ghost use Rattle.cs_shelf.specs.Shelf.{AddsCopies, ChangesNothing, Elapses, Follows, Has, HasCopies, IsNoMore, Lacks, MayHave, MayLack};
 
 use cs_schema::FileName;
 use cs_store::{Source, StoreFault};
 
-/// A store whose files can be replaced one by one.
+/// A store whose files can be replaced and removed one by one.
 ///
 /// Its ghost members are claims about its files: one in memory says what they are and what a stop may
 /// leave, and one over a folder, of which no contract is told, makes no claim at all (no outcome).
@@ -30,7 +30,7 @@ pub trait Shelf: Source {
     /// What a stop at some moment from that one on might have left, during a call or between two.
     ghost left_since: { Self → ℕ → Files → Type 0 };
 
-    /// Keeps a copy of the file under each of these names that has one, before any is replaced. One
+    /// Keeps a copy of the file under each of these names that has one, before any is replaced or removed. One
     /// that is kept already stays as it is. After it, a stop leaves what a read finds.
     fn keep(&mut self, names: &[FileName]) -> Result<(), StoreFault>
         ensures ok { OnOk result (HasCopies names.now (holds self.old) (kept self.new)) }
@@ -50,6 +50,18 @@ pub trait Shelf: Source {
         ensures err { IfErr result (λ fault. Follows (MayHave name bytes.now) (holds self.old) (holds self.new)) }
         ensures copies { IsNoMore (kept self.old) (kept self.new) }
         ensures stop { Follows (MayHave name bytes.now) (may_leave self.old) (may_leave self.new) }
+        ensures time { Elapses (moment self.old) (moment self.new) (left_since self.old) (left_since self.new) (may_leave self.new) }
+        ensures device { IsErrOf result StoreFault.Device
+            → CountsFault (Self.fault_count self.old) (Self.fault_count self.new) }
+        ensures counted { Self.fault_count self.old ≤ Self.fault_count self.new };
+
+    /// Takes what stands under the name away, at one blow; where nothing stands, nothing changes. Until a sync a
+    /// stop may leave what stood there.
+    fn remove(&mut self, name: FileName) -> Result<(), StoreFault>
+        ensures ok { OnOk result (Follows (Lacks name) (holds self.old) (holds self.new)) }
+        ensures err { IfErr result (λ fault. Follows (MayLack name) (holds self.old) (holds self.new)) }
+        ensures copies { IsNoMore (kept self.old) (kept self.new) }
+        ensures stop { Follows (MayLack name) (may_leave self.old) (may_leave self.new) }
         ensures time { Elapses (moment self.old) (moment self.new) (left_since self.old) (left_since self.new) (may_leave self.new) }
         ensures device { IsErrOf result StoreFault.Device
             → CountsFault (Self.fault_count self.old) (Self.fault_count self.new) }

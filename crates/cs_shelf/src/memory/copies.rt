@@ -2,8 +2,9 @@
 ghost use Rattle.std.specs.Prelude.{◌≡◌, [], ◌∷◌, ◌++◌, IsSome, IfOk, OnOk, OnErr, IsErrOf};
 ghost use Rattle.std.specs.FinMap.{insert};
 ghost use Rattle.cs_store.specs.FileSet.{contents_of};
-ghost use Rattle.cs_shelf.specs.Shelf.{AddsCopiesOf, HasCopiesOf};
+ghost use Rattle.cs_shelf.specs.Shelf.{AddsCopiesOf, HasCopiesOf, Lacks};
 
+use super::rest::without;
 use cs_schema::FileName;
 use cs_store::memory::{MemorySink, save_to_memory};
 use cs_store::{FileSet, StoreFault};
@@ -44,6 +45,28 @@ pub fn put_over(
         return Err(StoreFault::Memory);
     };
     if next.put(name, bytes).is_err() || past.push(kept).is_err() {
+        return Err(StoreFault::Memory);
+    }
+    *files = next;
+    Ok(())
+}
+
+/// Takes the file away from the others, and keeps what was there.
+pub fn take_away(
+    alloc: Global,
+    files: &mut FileSet,
+    past: &mut Vec<FileSet>,
+    name: FileName,
+) -> Result<(), StoreFault>
+    ensures ok { OnOk result (Lacks name files.old files.new) }
+    ensures past { OnOk result (past.new.items ≡ past.old.items ++ files.old ∷ []) }
+    ensures err { OnErr result (files.new ≡ files.old) }
+    ensures past_err { OnErr result (past.new.items ≡ past.old.items) }
+    ensures memory { IsErrOf result StoreFault.Device → ⊥ }
+{
+    let next = without(alloc, files, name)?;
+    let kept = copy(alloc, files)?;
+    if past.push(kept).is_err() {
         return Err(StoreFault::Memory);
     }
     *files = next;

@@ -3,8 +3,8 @@ use Rattle.cs_operator.proofs.dumping.dump.Goals as goal
 
 pub returns : goal.returns
 returns g c = if-ok-then c.write_text.result _ _ (λ dumped h. record {
-  text = c.in-Ok-read_text.text.items;
+  text = c.in-Ok-read_text.text.text.items;
   reached = c.read_text.new.places;
-  reads_text = c.in-Ok-read_text.ensures;
-  writes = h;
+  reads_text = rw h.1 c.in-Ok-read_text.ensures;
+  writes = h.0;
 }) c.write_text.ensures

@@ -4,6 +4,7 @@ use Rattle.cs_schema.specs.declared.file_name.FileName.{FileName}
 use Rattle.cs_store.specs.FileSet.{contents_of}
 use Rattle.cs_store.specs.LoadReadable.{LoadsReadable}
 use Rattle.cs_inspection.specs.BadFiles.{AreBadFiles}
+use Rattle.cs_reading.specs.Standing.{standing}
 use Rattle.cs_operator.proofs.showing.look_over.Goals as goal
 
 pub returns-in-Ok-lines_of : goal.returns-in-Ok-lines_of
@@ -12,6 +13,6 @@ returns-in-Ok-lines_of g c =
     record {
       files = c.in-Ok.found.files;
       unreadable = c.in-Ok.found.unreadable.items;
-      loads = subst (λ (L : List ℕ). LoadsReadable g.S.Source.gives g.S.Source.refuses (surviving c.args.catalog.now L) c.args.source.now c.in-Ok.found.files c.in-Ok.found.unreadable.items c.load_readable.new.source) c.none.ensures c.in-Ok.ensures.ok;
+      loads = subst (λ (L : List ℕ). LoadsReadable (standing g.S.SharedSource.answers) (standing g.S.SharedSource.fails) (surviving c.args.catalog.now L) c.args.source.now c.in-Ok.found.files c.in-Ok.found.unreadable.items c.args.source.now) c.none.ensures c.in-Ok.ensures.ok;
       inspected = subst (λ (U : List FileName). AreBadFiles c.args.catalog.now (contents_of c.in-Ok.found.files) U c.in-Ok-bad_files.bad.items) read c.in-Ok-bad_files.ensures;
     }

@@ -1,7 +1,8 @@
 use Rattle.std.proofs.lemmas.Result.{on_ok_weaker}
 use Rattle.cs_shelf.specs.Shelf.{AddsCopies}
 use Rattle.cs_restore.specs.Placing.{IsPutOver}
-use Rattle.cs_restore.proofs.Loop.{from_more, no_more, kept_moments, old_part, old_kept, others_there, then_moments, then_part, then_kept}
+use Rattle.cs_shelf.proofs.Steps.{from_more, no_more}
+use Rattle.cs_restore.proofs.Loop.{kept_moments, old_part, old_kept, others_there, then_moments, then_part, then_kept}
 use Rattle.cs_restore.proofs.placing.exchange.Goals as goal
 
 pub put_all-requires : goal.put_all-requires

@@ -2,7 +2,7 @@ use Rattle.std.proofs.Common.{sym, inr}
 use Rattle.std.proofs.lemmas.Result.{on_ok_weaker}
 use Rattle.cs_shelf.specs.Shelf.{Has, MayHave}
 use Rattle.cs_restore.specs.Placing.{HasOne, MayHaveOne}
-use Rattle.cs_restore.proofs.Loop.{either, weaker}
+use Rattle.cs_shelf.proofs.Steps.{either, weaker}
 use Rattle.cs_restore.proofs.Parts.{may_put, one_put, none_put}
 use Rattle.cs_restore.proofs.placing.put_one.Goals as goal
 

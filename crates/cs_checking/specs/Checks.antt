@@ -1,0 +1,38 @@
+-- What the verb `check` does, by what the places and the store say of one call.
+use Rattle.std.specs.Prelude.{◌≡◌, ℕ, Bool, true, false, List, [], Option, Ok, Err}
+use Rattle.cs_schema.specs.CatalogData.{CatalogData}
+use Rattle.cs_schema.specs.FileNames.{FileContents, surviving}
+use Rattle.cs_schema.specs.declared.file_name.FileName.{FileName}
+use Rattle.cs_store.specs.FileSet.{Files, contents_of}
+use Rattle.cs_store.specs.LoadReadable.{LoadsReadable}
+use Rattle.cs_store.specs.declared.fault.StoreFault.{StoreFault}
+use Rattle.cs_recovery.specs.Claims.{IsCheckAnswer}
+use Rattle.cs_inspection.specs.BadFiles.{AreBadFiles}
+use Rattle.cs_design.specs.Fatal.{IsSafeBeyond}
+use Rattle.cs_places.specs.Finding.{FindsStore}
+use Rattle.cs_answers.specs.declared.checked.Checked.{Checked}
+use Rattle.cs_answers.specs.declared.checked.Verdict.{Verdict}
+use Rattle.cs_answers.specs.declared.checked.Verdict.TheVariants.{Sound, Fatal, BadFiles, Unsound}
+
+-- What a verdict says of files. Of a sound store: no file is bad, it has so many rows, and any k sites may fail.
+abbrev pub Judges : CatalogData → FileContents → Bool → Verdict → Type 0
+Judges C F is_bad (Sound rows k) = (is_bad ≡ false) × IsCheckAnswer C F 0 (Ok rows) × IsSafeBeyond C [] k
+Judges C F is_bad (Fatal k L) = ¬ IsSafeBeyond C [] k
+Judges C F is_bad BadFiles = is_bad ≡ true
+Judges C F is_bad (Unsound fault) = (is_bad ≡ false) × IsCheckAnswer C F 0 (Err fault)
+
+module _ {P S : Type 0} (reads : P → List ℕ → List ℕ → P → Type 0) (opens : P → List ℕ → CatalogData → S → Type 0) (gives : S → FileName → Option (List ℕ) → S → Type 0) where
+  -- the store at this path was found and each of its files read; these are its bad files, and the verdict was given on what could be read
+  pub record ChecksStore (refuses : S → FileName → StoreFault → S → Type 0) (restores : P → List ℕ → Bool → Type 0) (s : P) (path : List ℕ) (checked : Checked) (t : P) : Type 0 where
+    pub catalog : CatalogData
+    pub files : Files
+    pub unreadable : List FileName
+    pub is_bad : Bool
+    pub store : S
+    pub left : S
+    pub finds : FindsStore reads opens s path catalog store t
+    pub loads : LoadsReadable gives refuses (surviving catalog []) store files unreadable left
+    pub inspected : AreBadFiles catalog (contents_of files) unreadable checked.bad.items
+    pub none_bad : is_bad ≡ false → (checked.bad.items ≡ []) × (unreadable ≡ [])
+    pub judged : Judges catalog (contents_of files) is_bad checked.verdict
+    pub restoring : restores t path checked.is_restoring

@@ -1,0 +1,64 @@
+//! The verb `check`.
+ghost use Rattle.std.specs.Prelude.{◌≡◌, false, [], IfOk, OnErr};
+ghost use Rattle.cs_places.specs.Finding.{LooksUp};
+ghost use Rattle.cs_reading.specs.Standing.{standing};
+ghost use Rattle.cs_checking.specs.Checks.{ChecksStore};
+
+use crate::judging::judge;
+use cs_answers::Checked;
+use cs_inspection::{Badness, bad_files};
+use cs_operator_words::Checking;
+use cs_places::{Listings, Stop, find_store};
+use cs_progress::{Progress, Stage};
+use cs_reading::load_readable_side_by_side;
+use cs_rebuild::Run;
+use cs_schema::{FileName, Loss};
+use std::marker::Sync;
+use std::thread::Threads;
+
+/// Whether a file is bad or unreadable.
+fn any_bad(bad: &[(FileName, Badness)], unreadable: &[FileName]) -> bool
+    ensures { result ≡ false → (bad.now ≡ []) × (unreadable.now ≡ []) }
+{
+    !unreadable.is_empty() || !bad.is_empty()
+}
+
+/// Whether a store is sound, and how many of its sites may fail; all its bad files.
+pub fn check<R: Threads + Sync, G: Progress + Sync, P: Listings>(
+    run: &Run<'_, R, G>,
+    places: &mut P,
+    request: &Checking<'_>,
+) -> Result<Checked, Stop>
+    ensures ok { IfOk result (λ checked. ChecksStore P.reads P.opens (standing P.Store.answers) (standing P.Store.fails) P.restores
+        places.old request.now.store.now checked places.new) }
+    ensures err { OnErr result (LooksUp P.reads P.misses places.old request.now.store.now places.new) }
+{
+    let (rt, alloc) = (run.rt, run.alloc);
+    let (catalog, source) = match find_store(alloc, places, request.store) {
+        Ok(found) => found,
+        Err(stop) => return Err(stop),
+    };
+    let Ok(found) = load_readable_side_by_side(rt, alloc, &catalog, Loss::none(), &source) else {
+        return Err(Stop::Memory);
+    };
+    let unreadable = found.unreadable.as_slice();
+    run.gate.reached(Stage::Inspecting);
+    let Ok(bad) = bad_files(rt, alloc, &catalog, &found.files, unreadable) else {
+        return Err(Stop::Memory);
+    };
+    let Ok(is_restoring) = places.is_restoring(request.store) else {
+        return Err(Stop::Memory);
+    };
+    let is_unreadable = !unreadable.is_empty();
+    let is_bad = any_bad(bad.as_slice(), unreadable);
+    match judge(run, &catalog, &found.files, is_bad, request.k) {
+        Ok(verdict) => Ok(Checked {
+            catalog,
+            bad,
+            is_unreadable,
+            verdict,
+            is_restoring,
+        }),
+        Err(stop) => Err(stop),
+    }
+}

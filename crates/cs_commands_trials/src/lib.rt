@@ -1,0 +1,19 @@
+//! Trials of the commands, over places in memory and over folders.
+#![tactic(auto)]
+
+#[cfg(test)]
+mod commands;
+#[cfg(test)]
+mod devices;
+#[cfg(test)]
+mod expecting;
+#[cfg(test)]
+mod folders;
+#[cfg(test)]
+mod places;
+#[cfg(test)]
+mod stores;
+#[cfg(test)]
+mod streams;
+#[cfg(test)]
+mod watch;

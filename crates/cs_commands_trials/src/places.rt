@@ -1,0 +1,205 @@
+//! Places in memory, for one store and one output.
+ghost use Rattle.std.specs.Prelude.{◌≡◌, ⊤};
+
+use crate::stores::{Stored, sample_store};
+use crate::watch::Watch;
+use cs_commands::Places;
+use cs_schema::FileName;
+use cs_store::memory::{Failure, MemorySink, MemorySource};
+use cs_store::{FileSet, Sink, StoreFault};
+use std::alloc::{AllocError, Global};
+use std::cell::RefCell;
+use std::rc::Rc;
+use std::test::Fail;
+
+/// What an output took: the files, and the mark.
+#[derive(Drop)]
+pub struct Taken {
+    pub files: FileSet,
+    pub mark: Option<u64>,
+}
+
+/// One store, and one output that the tests can look into.
+#[derive(Drop)]
+pub struct MemoryPlaces {
+    pub catalog: Option<Vec<u8>>,
+    pub files: FileSet,
+    /// The files as they stood at first.
+    pub whole: FileSet,
+    /// The path at which the store was asked for, and then that of the output.
+    pub asked: String,
+    pub watch: Watch,
+    pub read_failure: Option<Failure>,
+    pub write_failure: Option<Failure>,
+    pub taken: Rc<RefCell<Taken>>,
+    pub is_made: bool,
+    faults: u64,
+    alloc: Global,
+}
+
+/// An output that shares with the tests what it took.
+#[derive(Drop)]
+pub struct SharedOutput {
+    sink: MemorySink,
+    taken: Rc<RefCell<Taken>>,
+    alloc: Global,
+}
+
+/// Places with the sample's store, whole, where nothing fails.
+pub fn places(alloc: Global) -> Result<MemoryPlaces, Fail> {
+    places_of(alloc, &sample_store(alloc)?)
+}
+
+/// Places with this store, where nothing fails.
+pub fn places_of(alloc: Global, stored: &Stored) -> Result<MemoryPlaces, Fail> {
+    let taken = Taken {
+        files: FileSet::new(alloc)?,
+        mark: None,
+    };
+    Ok(MemoryPlaces {
+        catalog: Some(Vec::from_slice(alloc, stored.catalog.as_slice())?),
+        files: copy_files(alloc, &stored.files)?,
+        whole: copy_files(alloc, &stored.files)?,
+        asked: String::new(alloc),
+        watch: Watch::new(),
+        read_failure: None,
+        write_failure: None,
+        taken: Rc::new(alloc, RefCell::new(taken))?,
+        is_made: false,
+        faults: 0,
+        alloc,
+    })
+}
+
+/// The same files.
+fn copy_files(alloc: Global, files: &FileSet) -> Result<FileSet, AllocError> {
+    let mut copy = FileSet::new(alloc)?;
+    for i in 0..files.len() {
+        let (name, bytes) = files.at(i);
+        copy.put(name, Vec::from_slice(alloc, bytes)?)?;
+    }
+    Ok(copy)
+}
+
+/// All files but one.
+pub fn others(alloc: Global, files: &FileSet, name: FileName) -> Result<FileSet, AllocError> {
+    let mut copy = FileSet::new(alloc)?;
+    for i in 0..files.len() {
+        let (other, bytes) = files.at(i);
+        if other != name {
+            copy.put(other, Vec::from_slice(alloc, bytes)?)?;
+        }
+    }
+    Ok(copy)
+}
+
+/// Whether these files stand among others, byte for byte.
+pub fn are_whole(files: &FileSet, all: &FileSet) -> bool {
+    for i in 0..files.len() {
+        let (name, bytes) = files.at(i);
+        if all.get(name) != Some(bytes) {
+            return false;
+        }
+    }
+    true
+}
+
+impl Places for MemoryPlaces {
+    type Store = MemorySource;
+
+    type Output = SharedOutput;
+
+    type Watch = Watch;
+
+    ghost finds = { λ s path bytes store t. ⊤ };
+
+    ghost makes = { λ s path output t. ⊤ };
+
+    ghost misses = { λ s path fault t. ⊤ };
+
+    ghost denies = { λ s path fault t. ⊤ };
+
+    ghost fault_count = { λ s. s.faults };
+
+    fn store(&mut self, path: &str) -> Result<(Vec<u8>, MemorySource), StoreFault> {
+        if self.asked.push_str(path).is_err() {
+            return Err(StoreFault::Memory);
+        }
+        let Some(catalog) = &self.catalog else {
+            self.faults = self.faults.saturating_add(1);
+            return Err(StoreFault::Device);
+        };
+        let bytes = Vec::from_slice(self.alloc, catalog.as_slice()).map_err(
+            |_| StoreFault::Memory,
+        )?;
+        let files = copy_files(self.alloc, &self.files).map_err(|_| StoreFault::Memory)?;
+        Ok((
+            bytes,
+            MemorySource::new(self.alloc, files, self.read_failure),
+        ))
+    }
+
+    fn output(&mut self, path: &str) -> Result<SharedOutput, StoreFault> {
+        if self.asked.push_str(" > ").is_err() || self.asked.push_str(path).is_err() {
+            return Err(StoreFault::Memory);
+        }
+        if self.is_made {
+            self.faults = self.faults.saturating_add(1);
+            return Err(StoreFault::Device);
+        }
+        self.is_made = true;
+        let files = FileSet::new(self.alloc).map_err(|_| StoreFault::Memory)?;
+        Ok(SharedOutput {
+            sink: MemorySink::new(self.alloc, files, self.write_failure),
+            taken: self.taken.clone().map_err(|_| StoreFault::Memory)?,
+            alloc: self.alloc,
+        })
+    }
+
+    fn watch(&self) -> &Watch {
+        &self.watch
+    }
+
+    fn faults(&self) -> u64 {
+        self.faults
+    }
+}
+
+impl Sink for SharedOutput {
+    ghost takes = { λ s name bytes t. ⊤ };
+
+    ghost marks = { λ s files t. ⊤ };
+
+    ghost refuses = { λ s at fault t. ⊤ };
+
+    ghost fault_count = { λ s. s.sink.faults };
+
+    fn put(&mut self, name: FileName, bytes: &[u8]) -> Result<(), StoreFault> {
+        self.sink.put(name, bytes)?;
+        let Ok(copy) = Vec::from_slice(self.alloc, bytes) else {
+            return Err(StoreFault::Memory);
+        };
+        match self.taken.try_borrow_mut() {
+            Ok(mut taken) => match taken.files.put(name, copy) {
+                Ok(()) => Ok(()),
+                Err(_) => Err(StoreFault::Memory),
+            },
+            Err(_) => Err(StoreFault::Memory),
+        }
+    }
+
+    fn mark(&mut self, files: u64) -> Result<(), StoreFault> {
+        self.sink.mark(files)?;
+        match self.taken.try_borrow_mut() {
+            Ok(mut taken) => {
+                taken.mark = Some(files);
+                Ok(())
+            }
+            Err(_) => Err(StoreFault::Memory),
+        }
+    }
+
+    fn faults(&self) -> u64 {
+        self.sink.faults()
+    }
+}

@@ -1,0 +1,21 @@
+use Rattle.std.proofs.Common.{subst}
+use Rattle.std.proofs.lemmas.Result.{IfOk-weaker}
+use Rattle.cs_restoring.proofs.undoing.undo.Goals as goal
+
+pub returns-in-Ok-take_undo : goal.returns-in-Ok-take_undo
+returns-in-Ok-take_undo g c =
+    let found = c.in-Ok.found in
+    let undoable = c.in-Ok-take_undo.taken in
+    let taken = c.take_undo.new.self in
+    IfOk-weaker c.undo_taken.result _ _ (λ undone ends. record {
+      catalog = found.0;
+      found = c.find_store.new.places;
+      source = found.1;
+      finds = c.in-Ok.ensures.ok;
+      back = undoable.1.back;
+      names = undoable.1.names.items;
+      store = undoable.0;
+      taken = taken;
+      takes = subst (λ asked. g.P.Shelves.takes_undo c.find_store.new.places c.args.request.now.store.now found.0 asked undoable.1.back undoable.1.names.items undoable.0 taken) c.undo_of.ensures c.in-Ok-take_undo.ensures;
+      ends = ends;
+    }) c.undo_taken.ensures

@@ -1,0 +1,78 @@
+//! The verb `undo`.
+ghost use Rattle.std.specs.Prelude.{◌≡◌, IfOk};
+ghost use Rattle.cs_restoring.specs.Undoes.{DoesUndo, EndsUndo, undo_asked};
+
+use crate::ending::{LostStore, Verb, stop_unended, stop_untaken};
+use crate::working::leave;
+use cs_answers::Undone;
+use cs_operator_words::Undoing;
+use cs_places::{Shelves, Stop, UndoOf, Undoable, find_store};
+use cs_schema::{Catalog, Loss};
+use cs_undo::put_back;
+use std::alloc::Global;
+
+/// Which work a request asks to undo.
+fn undo_of(request: &Undoing<'_>) -> UndoOf
+    ensures { result ≡ undo_asked request.now.resumes request.now.kept }
+{
+    match (request.resumes, request.kept) {
+        (true, _) => UndoOf::Unfinished,
+        (false, Some(number)) => UndoOf::Number(number),
+        (false, None) => UndoOf::Last,
+    }
+}
+
+/// Puts back what stood in a store that was taken, and gives it back.
+fn undo_taken<P: Shelves>(
+    alloc: Global,
+    places: &mut P,
+    taken: (P::Shelf, Undoable),
+    catalog: Catalog,
+    path: &str,
+) -> Result<Undone, Stop>
+    ensures { IfOk result (EndsUndo P.gives_back P.Shelf.holds P.Shelf.may_leave
+        places.old catalog taken.1.back taken.1.names.items taken.0 places.new) }
+{
+    let (shelf, undoable) = taken;
+    let mut shelf = shelf;
+    if let Err(fault) = put_back(&undoable.back, undoable.names.as_slice(), &mut shelf) {
+        let store = LostStore {
+            catalog: &catalog,
+            path,
+            lost: Loss::none(),
+            verb: Verb::Undo,
+        };
+        return Err(leave(alloc, places, shelf, &store, &fault));
+    }
+    match places.give_back(shelf, true) {
+        Ok(given) => Ok(Undone {
+            catalog,
+            undoable,
+            kept: given.kept,
+        }),
+        Err(failure) => Err(stop_unended(alloc, failure, path, Verb::Undo)),
+    }
+}
+
+/// Puts back what stood in a store before a restore or an undo of it, whatever the store holds.
+///
+/// The store is taken before what is kept is read. A name that had no file has none again; what is replaced or taken away is
+/// kept in its turn.
+pub fn undo<P: Shelves>(
+    alloc: Global,
+    places: &mut P,
+    request: &Undoing<'_>,
+) -> Result<Undone, Stop>
+    ensures { IfOk result (DoesUndo P.reads P.opens P.takes_undo P.gives_back P.Shelf.holds P.Shelf.may_leave
+        places.old request.now.store.now (undo_asked request.now.resumes request.now.kept) places.new) }
+{
+    let path = request.store;
+    let (catalog, _source) = match find_store(alloc, places, path) {
+        Ok(found) => found,
+        Err(stop) => return Err(stop),
+    };
+    match places.take_undo(path, &catalog, undo_of(request)) {
+        Ok(taken) => undo_taken(alloc, places, taken, catalog, path),
+        Err(untaken) => Err(stop_untaken(alloc, &untaken, path, Verb::Undo)),
+    }
+}

@@ -1,0 +1,70 @@
+//! Taking a store's folder for an undo.
+use crate::record::Work;
+use crate::replaced::{Undoable, last_finished, read_replaced};
+use crate::taking::{Taken, Untaken, failed, remove_record, resume, take};
+use std::alloc::Global;
+use std::fs::File;
+use std::rt::Files;
+
+/// Which work is undone.
+#[derive(Clone, Copy, Debug, PartialEq, Eq)]
+pub enum UndoOf {
+    /// The last that was finished.
+    Last,
+    /// That of this number.
+    Number(u32),
+    /// That of which an undo is not finished.
+    Unfinished,
+}
+
+/// The number of the last work that was finished.
+fn last<R: Files + Alloc + Clone + Drop>(
+    alloc: Global,
+    rt: &R,
+    store: &str,
+) -> Result<u32, Untaken> {
+    match last_finished(alloc, rt, store) {
+        Ok(Some(number)) => Ok(number),
+        Ok(None) => Err(Untaken::NoneKept(None)),
+        Err(e) => Err(failed(e)),
+    }
+}
+
+/// Takes the store in this folder to go on with its unfinished undo.
+fn go_on<R: Files<File = File>>(
+    alloc: Global,
+    rt: &R,
+    store: &str,
+) -> Result<(Taken, Undoable), Untaken> {
+    let taken = resume(alloc, rt, store)?;
+    let Work::Undo(number) = taken.record.work else {
+        return Err(Untaken::Unfinished);
+    };
+    match read_replaced(alloc, rt, store, number) {
+        Ok(undoable) => Ok((taken, undoable)),
+        Err(untaken) => Err(untaken),
+    }
+}
+
+/// Takes the store in this folder for an undo, and reads what that puts back. What is refused then leaves the folder free,
+/// unless the undo was unfinished.
+pub fn take_undo<R: Files<File = File> + Alloc + Clone + Drop>(
+    alloc: Global,
+    rt: &R,
+    store: &str,
+    of: UndoOf,
+) -> Result<(Taken, Undoable), Untaken> {
+    let number = match of {
+        UndoOf::Unfinished => return go_on(alloc, rt, store),
+        UndoOf::Number(number) => number,
+        UndoOf::Last => last(alloc, rt, store)?,
+    };
+    let taken = take(alloc, rt, store, Work::Undo(number))?;
+    match read_replaced(alloc, rt, store, number) {
+        Ok(undoable) => Ok((taken, undoable)),
+        Err(untaken) => {
+            remove_record(alloc, rt, store).map_err(failed)?;
+            Err(untaken)
+        }
+    }
+}

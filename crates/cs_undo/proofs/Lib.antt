@@ -1,0 +1,3 @@
+mod Backs
+mod Comes
+mod Loop

@@ -1,0 +1,53 @@
+-- What the verbs on manifests do, each by what the places and the store say of one call.
+use Rattle.std.specs.Prelude.{◌≡◌, ◌+◌, ℕ, List, [], length, Option, Some, Ok}
+use Rattle.cs_schema.specs.CatalogData.{CatalogData}
+use Rattle.cs_schema.specs.FileNames.{surviving}
+use Rattle.cs_schema.specs.declared.file_name.FileName.{FileName}
+use Rattle.cs_store.specs.declared.fault.StoreFault.{StoreFault}
+use Rattle.cs_manifest.specs.Comparisons.{AreDifferences}
+use Rattle.cs_manifest.specs.Digests.{digest, DigestsFiles}
+use Rattle.cs_manifest.specs.Lines.{manifest_text}
+use Rattle.cs_manifest.specs.Reading.{IsReading}
+use Rattle.cs_manifest.specs.declared.digesting.Digested.{Digested}
+use Rattle.cs_manifest.specs.declared.manifest.Manifest.{Manifest}
+use Rattle.cs_places.specs.Finding.{FindsStoreText}
+use Rattle.cs_verifying.specs.declared.listed.Listed.{Listed}
+use Rattle.cs_verifying.specs.declared.verified.Verified.{Verified}
+
+-- bytes are those that a stream had left, where these are known
+abbrev pub AreAllOf : Option (List ℕ) → List ℕ → Type 0
+AreAllOf known bytes = (text : List ℕ) → known ≡ Some text → bytes ≡ text
+
+module _ {P I : Type 0} (opens_table : P → List ℕ → I → P → Type 0) (remaining : I → Option (List ℕ)) where
+  -- the text at this path was opened and read, and is this manifest
+  pub record ReadsManifest (s : P) (path : List ℕ) (manifest : Manifest) (t : P) : Type 0 where
+    pub input : I
+    pub bytes : List ℕ
+    pub opened : opens_table s path input t
+    pub all : AreAllOf (remaining input) bytes
+    pub says : IsReading bytes (Ok manifest)
+
+module _ {P S : Type 0} (reads : P → List ℕ → List ℕ → P → Type 0) (opens : P → List ℕ → CatalogData → S → Type 0) (gives : S → FileName → Option (List ℕ) → S → Type 0) (refuses : S → FileName → StoreFault → S → Type 0) where
+  -- the store at this path was found, whose catalog has these bytes, and each of its files read, which came to this
+  pub record DigestsStore (s : P) (path : List ℕ) (C : CatalogData) (catalog : List ℕ) (files : List (FileName × Digested)) (t : P) : Type 0 where
+    pub store : S
+    pub left : S
+    pub finds : FindsStoreText reads opens s path C catalog store t
+    pub digests : DigestsFiles gives refuses (surviving C []) store files left
+
+  -- the files of the store were read, and the text is the manifest of what they came to
+  pub record ListsStore (s : P) (path : List ℕ) (listed : Listed) (t : P) : Type 0 where
+    pub catalog : List ℕ
+    pub digests : DigestsStore s path listed.catalog catalog listed.files.items t
+    pub text : listed.text.items ≡ manifest_text (digest catalog) listed.files.items
+
+  -- The manifest was read, and then the files of the store; these are the differences, among so many files with the catalog.
+  pub record VerifiesStore {I : Type 0} (opens_table : P → List ℕ → I → P → Type 0) (remaining : I → Option (List ℕ)) (s : P) (path manifest_path : List ℕ) (verified : Verified) (t : P) : Type 0 where
+    pub manifest : Manifest
+    pub catalog : List ℕ
+    pub files : List (FileName × Digested)
+    pub reached : P
+    pub reads_manifest : ReadsManifest opens_table remaining s manifest_path manifest reached
+    pub digests : DigestsStore reached path verified.catalog catalog files t
+    pub compared : AreDifferences manifest (digest catalog) files verified.comparison
+    pub count : verified.files ≡ length files + 1

@@ -1,0 +1,19 @@
+//! Stores beside manifests: the verbs `manifest` and `verify`, with their answers.
+#![tactic(auto)]
+
+mod digests;
+mod file_line;
+mod listed;
+mod listing;
+mod objects;
+mod reading;
+mod verified;
+mod verifying;
+
+pub use file_line::FileLine;
+pub use listed::Listed;
+pub use listing::list;
+pub use objects::{listed_object, verified_object};
+pub use reading::manifest_at;
+pub use verified::Verified;
+pub use verifying::verify;

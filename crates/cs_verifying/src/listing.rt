@@ -1,0 +1,29 @@
+//! The verb `manifest`.
+ghost use Rattle.std.specs.Prelude.{IfOk};
+ghost use Rattle.cs_reading.specs.Standing.{standing};
+ghost use Rattle.cs_verifying.specs.Promises.{ListsStore};
+
+use crate::digests::digest_store;
+use crate::listed::Listed;
+use cs_manifest::write_manifest;
+use cs_places::{Places, Stop};
+use std::alloc::Global;
+
+/// The manifest of a store: its files that are there, with their digests; and those that are not.
+pub fn list<P: Places>(alloc: Global, places: &mut P, path: &str) -> Result<Listed, Stop>
+    ensures { IfOk result (λ listed. ListsStore P.reads P.opens (standing P.Store.answers) (standing P.Store.fails)
+        places.old path.now listed places.new) }
+{
+    let found = match digest_store(alloc, places, path) {
+        Ok(found) => found,
+        Err(stop) => return Err(stop),
+    };
+    match write_manifest(alloc, &found.digest, found.files.as_slice()) {
+        Ok(text) => Ok(Listed {
+            catalog: found.catalog,
+            files: found.files,
+            text,
+        }),
+        Err(_) => Err(Stop::Memory),
+    }
+}

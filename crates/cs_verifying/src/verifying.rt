@@ -1,0 +1,39 @@
+//! The verb `verify`.
+ghost use Rattle.std.specs.Prelude.{IfOk};
+ghost use Rattle.cs_reading.specs.Standing.{standing};
+ghost use Rattle.cs_verifying.specs.Promises.{VerifiesStore};
+
+use crate::digests::digest_store;
+use crate::reading::manifest_at;
+use crate::verified::Verified;
+use cs_manifest::compare;
+use cs_places::{Places, Stop, Tables};
+use std::alloc::Global;
+
+/// Which files of a store are not those of a manifest.
+pub fn verify<P: Places + Tables>(
+    alloc: Global,
+    places: &mut P,
+    path: &str,
+    manifest_path: &str,
+) -> Result<Verified, Stop>
+    ensures { IfOk result (λ verified. VerifiesStore P.reads P.opens (standing P.Store.answers) (standing P.Store.fails) P.opens_table P.Input.remaining
+        places.old path.now manifest_path.now verified places.new) }
+{
+    let manifest = match manifest_at(alloc, places, manifest_path) {
+        Ok(manifest) => manifest,
+        Err(stop) => return Err(stop),
+    };
+    let found = match digest_store(alloc, places, path) {
+        Ok(found) => found,
+        Err(stop) => return Err(stop),
+    };
+    match compare(alloc, &manifest, &found.digest, found.files.as_slice()) {
+        Ok(comparison) => Ok(Verified {
+            catalog: found.catalog,
+            files: found.files.len() + 1,
+            comparison,
+        }),
+        Err(_) => Err(Stop::Memory),
+    }
+}
