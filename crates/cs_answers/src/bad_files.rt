@@ -1,5 +1,5 @@
 //! Bad files in lines, one for each, or one for a site of which no file is left.
-use crate::badness::word;
+use crate::badness::badness_word;
 use cs_inspection::Badness;
 use cs_reports::{SitedFile, site_of, with_site};
 use cs_schema::{Catalog, FileName, Loss};
@@ -21,7 +21,7 @@ impl fmt::Display for FileLines<'_> {
                 catalog,
                 name: *name,
             };
-            let badness = word(badness);
+            let badness = badness_word(badness);
             writeln!(f, "{file}: {badness}")?;
         }
         Ok(())
@@ -93,7 +93,7 @@ impl fmt::Display for BadLines<'_> {
                 let line = FileLine {
                     catalog: self.catalog,
                     name: *name,
-                    what: word(badness),
+                    what: badness_word(badness),
                 };
                 write!(f, "{line}")?;
             } else if !has(said, site) {

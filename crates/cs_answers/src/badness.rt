@@ -2,7 +2,7 @@
 use cs_inspection::Badness;
 
 /// What a bad file is called.
-pub fn word(badness: &Badness) -> &'static str {
+pub fn badness_word(badness: &Badness) -> &'static str {
     match badness {
         Badness::Unreadable => "unreadable",
         Badness::Missing => "missing",

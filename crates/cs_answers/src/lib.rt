@@ -1,4 +1,4 @@
-//! What the verbs of pinepolo answer, with its text, its JSON and its status.
+//! What the verbs of pinepolo answer, with its text and its status.
 #![tactic(auto)]
 
 mod answer;
@@ -8,35 +8,30 @@ mod badness;
 mod checked;
 mod designed;
 mod diagnosed;
-mod diagnosed_json;
 mod disputed;
-mod disputed_json;
 mod doubted;
 mod dumped;
 mod explained;
 mod grouped;
-mod json;
 mod new_store;
-mod printing;
 mod recovered;
 mod restoration;
 mod restored;
-mod restored_json;
-mod tables_json;
 mod undone;
-mod undone_json;
 mod unrecoverable;
 
 pub use answer::Answer;
-pub use bad_store::{BadStore, NextStep};
-pub use checked::{Checked, Verdict};
+pub use bad_store::{BadStore, NextStep, Unfinished};
+pub use badness::badness_word;
+pub use checked::{Checked, Verdict, Wrong};
 pub use designed::Designed;
 pub use diagnosed::Diagnosed;
+pub use disputed::{is_disputed, table_at};
 pub use doubted::{Doubted, holds};
 pub use dumped::Dumped;
+pub use explained::{number_of, rows_of, verdict_word};
 pub use new_store::NewStore;
-pub use printing::{say, say_refusal};
 pub use recovered::Recovered;
 pub use restoration::Restoration;
-pub use restored::Restored;
-pub use undone::Undone;
+pub use restored::{Restored, what_word};
+pub use undone::{Undone, undone_word};

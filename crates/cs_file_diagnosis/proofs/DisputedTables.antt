@@ -4,8 +4,7 @@ use Rattle.std.proofs.lemmas.Option.{same_Some}
 use Rattle.std.specs.List.{slice_get}
 use Rattle.cs_schema.specs.CatalogData.{CatalogData}
 use Rattle.cs_schema.specs.FileNames.{FileContents}
-use Rattle.cs_schema.specs.Losses.{Sites}
-use Rattle.cs_schema.specs.Rows.{Row, IsTable}
+use Rattle.cs_schema.specs.Rows.{IsTable}
 use Rattle.cs_recovery.specs.Holding.{HoldsSurvivors}
 use Rattle.cs_diagnosis.specs.declared.findings.Explanation.{Explanation}
 use Rattle.cs_diagnosis.specs.Findings.{AreExplanations}

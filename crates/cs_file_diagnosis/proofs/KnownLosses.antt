@@ -1,23 +1,22 @@
 -- What is known of a loss is known of those within it.
 use Rattle.std.specs.Prelude.{OnOk}
-use Rattle.std.proofs.Common.{Result, Ok, Err, ◌≡◌, List, ◌∷◌, ◌++◌, [], refl, sym, ◌∙◌, ap, subst, inl, inr, Option, Some, None, Vec, Global}
+use Rattle.std.proofs.Common.{Result, Ok, Err, ◌≡◌, List, ◌∷◌, ◌++◌, [], refl, sym, ◌∙◌, ap, subst, inl, inr, Some, None, Vec, Global}
 use Rattle.std.proofs.lemmas.Option.{same_Some, none-some}
 use Rattle.cs_schema.specs.CatalogData.{CatalogData}
 use Rattle.cs_schema.specs.CatalogRules.{IsCatalog}
 use Rattle.cs_schema.specs.FileNames.{FileContents}
 use Rattle.cs_schema.specs.Lists.{IsIn}
-use Rattle.cs_schema.specs.Losses.{Sites, IsLoss}
+use Rattle.cs_schema.specs.Losses.{Sites}
 use Rattle.cs_schema.specs.Rows.{Row}
 use Rattle.cs_schema.proofs.Lists.{in_append}
 use Rattle.cs_store.specs.declared.fault.Fault.{Fault}
 use Rattle.cs_store.specs.Fault.{MemoryOr}
 use Rattle.cs_safety.specs.Within.{IsWithin}
 use Rattle.cs_recovery.specs.AcceptedLosses.{IsAcceptedLoss}
-use Rattle.cs_recovery.specs.Holding.{HoldsSurvivors}
 use Rattle.cs_recovery.proofs.ChangedSites.{acceptance_grows}
 use Rattle.cs_recovery.proofs.Read.{layers}
 use Rattle.cs_file_diagnosis.specs.Diagnoses.{rows_found}
-use Rattle.cs_file_diagnosis.specs.Evidence.{IsRefused, IsWithTable, IsWithAnother, IsEvidence, IsWithinOne}
+use Rattle.cs_file_diagnosis.specs.Evidence.{IsRefused, IsEvidence, IsWithinOne}
 use Rattle.cs_file_diagnosis.specs.declared.evidence.Evidence.{Evidence}
 use Rattle.cs_file_diagnosis.specs.declared.tables.FoundTable.{FoundTable}
 

@@ -58,7 +58,8 @@ fn add_disputes(
     ensures { OnOk result ((d : TableDisputes) × (found.new.items ≡ found.old.items ++ d ∷ []) × AreOfTables catalog.now tables.now at_most d × (d.first ≡ first) × (d.second ≡ second)) }
 {
     let alloc = *found.allocator();
-    let disputes = disputes_of(alloc, catalog, &tables[first], &tables[second], at_most)?;
+    let (earlier, later) = (&tables[first], &tables[second]);
+    let disputes = disputes_of(alloc, catalog, earlier, later, at_most)?;
     found.push(TableDisputes {
         first,
         second,

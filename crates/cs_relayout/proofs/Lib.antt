@@ -7,3 +7,4 @@ pub mod DifferenceLemmas
 pub mod BackLemmas
 pub mod AnswerLemmas
 pub mod RoomLemmas
+pub mod DumpLemmas

@@ -1,5 +1,5 @@
 -- Laws on tables laid out anew, each the contract of a function of src/laws.rt.
-use Rattle.std.specs.Prelude.{◌≡◌, List, map, None, Result, Ok, Err}
+use Rattle.std.specs.Prelude.{◌≡◌, ℕ, List, map, None, Some, Result, Ok, Err}
 use Rattle.cs_schema.specs.CatalogData.{CatalogData}
 use Rattle.cs_schema.specs.CatalogRules.{IsCatalog}
 use Rattle.cs_schema.specs.FileNames.{FileContents}
@@ -8,6 +8,9 @@ use Rattle.cs_schema.specs.Order.{Fits}
 use Rattle.cs_schema.specs.Rows.{Row, IsTable}
 use Rattle.cs_store.specs.FileSet.{contents_of}
 use Rattle.cs_safety.specs.Safety.{IsSafe}
+use Rattle.cs_loading.specs.Dumping.{IsTableText}
+use Rattle.cs_loading.specs.Loading.{LoadsTable}
+use Rattle.cs_loading.specs.declared.loading.Loaded.{Loaded}
 use Rattle.cs_recovery.specs.Holding.{Holds, HoldsSurvivors}
 use Rattle.cs_relayout.specs.ByName.{by_name}
 use Rattle.cs_relayout.specs.Differences.{first_difference}
@@ -34,3 +37,9 @@ abbrev pub SurvivorsAreLaidOut : Type 0
 SurvivorsAreLaidOut =
     (old new : CatalogData) → IsCatalog old → IsCatalog new → MayFollow old new → (F : FileContents) (L : Sites) (T : List Row) → IsLoss old L → IsSafe old L → HoldsSurvivors old F L T
     → Fits new (map (by_name old new) T) → (r : Result Relaid RelayoutFault) → LaysOut old F L new r → IsHeldOrMemory new (map (by_name old new) T) r
+
+-- files that are loaded from the dump of what survives a loss hold the table that survived
+abbrev pub DumpsLoadBack : Type 0
+DumpsLoadBack =
+    (C : CatalogData) → IsCatalog C → (F : FileContents) (L : Sites) (T : List Row) (text : List ℕ) (loaded : Loaded)
+    → HoldsSurvivors C F L T → IsTableText C F L text → LoadsTable C (Some text) (Ok loaded) → Holds C (contents_of loaded.files) T

@@ -1,5 +1,5 @@
-//! Laws on tables laid out anew. Each function does nothing, and its contract is the law.
-ghost use Rattle.cs_relayout.specs.Laws.{SurvivorsAreLaidOut, TablesComeBack};
+//! Laws on tables that are brought into other stores. Each function does nothing, and its contract is the law.
+ghost use Rattle.cs_relayout.specs.Laws.{DumpsLoadBack, SurvivorsAreLaidOut, TablesComeBack};
 
 /// A table laid out under another catalog of the same columns is a table of that, and laid out under its own again it is the
 /// same table.
@@ -11,4 +11,9 @@ pub fn tables_come_back()
 /// want of memory aside.
 pub fn survivors_are_laid_out()
     ensures { SurvivorsAreLaidOut }
+{}
+
+/// Files that are loaded from the dump of a store, whatever that had lost, hold its table.
+pub fn dumps_load_back()
+    ensures { DumpsLoadBack }
 {}

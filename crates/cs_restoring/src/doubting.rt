@@ -1,8 +1,9 @@
 //! Whether it is doubtful that a store lost just the sites that are named.
-ghost use Rattle.std.specs.Prelude.{◌≤◌};
+ghost use Rattle.std.specs.Prelude.{◌≤◌, IfOk};
+ghost use Rattle.cs_file_diagnosis.specs.Disputed.{IsSomeDiagnosis};
 
 use cs_answers::holds;
-use cs_file_diagnosis::{Diagnosis, Verdict, diagnose};
+use cs_file_diagnosis::{Diagnosis, TableDisputes, Verdict, diagnose, disputed_rows};
 use cs_inspection::bad_files;
 use cs_places::Stop;
 use cs_progress::{Progress, Stage};
@@ -11,12 +12,22 @@ use cs_rebuild::Run;
 use cs_reports::{site_of, with_site};
 use cs_safety::safe;
 use cs_schema::{Catalog, Loss};
-use std::alloc::AllocError;
+use std::alloc::{AllocError, Global};
 use std::marker::Sync;
 use std::thread::Threads;
 
 /// How many sites there are, at most.
 const SITE_LIMIT: u8 = 16;
+
+/// How many rows are named, at most, in which two tables differ.
+const DISPUTES: usize = 10;
+
+/// What makes it doubtful that a store lost just some sites: a diagnosis, and where each two of its tables differ.
+#[derive(Drop)]
+pub struct Doubt {
+    pub diagnosis: Diagnosis,
+    pub disputes: Vec<TableDisputes>,
+}
 
 /// All sites but those of a loss.
 fn others(loss: Loss) -> Loss {
@@ -61,15 +72,26 @@ fn is_doubtful(diagnosis: &Diagnosis, loss: Loss, resumes: bool) -> bool {
     }
 }
 
-/// The diagnosis of a store that makes it doubtful that it lost just these sites. Where a bad file stands on each of them,
-/// there is no doubt, and nothing else is read.
+/// The doubt that a diagnosis makes, with where its tables differ.
+fn doubt_by(alloc: Global, catalog: &Catalog, diagnosis: Diagnosis) -> Result<Doubt, AllocError>
+    requires { IsSomeDiagnosis catalog.now diagnosis }
+{
+    let disputes = disputed_rows(alloc, catalog, &diagnosis, DISPUTES)?;
+    Ok(Doubt {
+        diagnosis,
+        disputes,
+    })
+}
+
+/// What makes it doubtful that a store lost just these sites. Where a bad file stands on each of them, there is no doubt, and
+/// nothing else is read.
 pub fn find_doubt<R: Threads + Sync, G: Progress + Sync, S: SharedSource>(
     run: &Run<'_, R, G>,
     catalog: &Catalog,
     source: &S,
     loss: Loss,
     resumes: bool,
-) -> Result<Option<Diagnosis>, Stop> {
+) -> Result<Option<Doubt>, Stop> {
     if !catalog.has_sites(loss) || !safe(catalog, loss) {
         return Ok(None);
     }
@@ -78,9 +100,14 @@ pub fn find_doubt<R: Threads + Sync, G: Progress + Sync, S: SharedSource>(
         Ok(false) => {}
         Err(_) => return Err(Stop::Memory),
     }
-    match diagnosis_of(run, catalog, source, loss.count().min(SITE_LIMIT)) {
-        Ok(diagnosis) if is_doubtful(&diagnosis, loss, resumes) => Ok(Some(diagnosis)),
-        Ok(_) => Ok(None),
+    let Ok(diagnosis) = diagnosis_of(run, catalog, source, loss.count().min(SITE_LIMIT)) else {
+        return Err(Stop::Memory);
+    };
+    if !is_doubtful(&diagnosis, loss, resumes) {
+        return Ok(None);
+    }
+    match doubt_by(run.alloc, catalog, diagnosis) {
+        Ok(doubt) => Ok(Some(doubt)),
         Err(_) => Err(Stop::Memory),
     }
 }
@@ -93,6 +120,7 @@ fn diagnosis_of<R: Threads + Sync, G: Progress + Sync, S: SharedSource>(
     at_most: u8,
 ) -> Result<Diagnosis, AllocError>
     requires { at_most ≤ 16 }
+    ensures { IfOk result (IsSomeDiagnosis catalog.now) }
 {
     let found = load_readable_side_by_side(run.rt, run.alloc, catalog, Loss::none(), source)?;
     run.gate.reached(Stage::Inspecting);

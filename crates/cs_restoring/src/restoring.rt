@@ -2,13 +2,12 @@
 ghost use Rattle.std.specs.Prelude.{◌≡◌, IfOk, Some, false};
 ghost use Rattle.cs_restoring.specs.Restores.{DoesRestore, EndsRestore, Foresees};
 
-use crate::doubting::find_doubt;
+use crate::doubting::{Doubt, find_doubt};
 use crate::ending::{LostStore, Verb, stop_unended, stop_untaken};
 use crate::planning::{plan, planned};
 use crate::working::work;
 use cs_answers::{Diagnosed, Doubted, Restoration, Restored};
 use cs_design::greatest_k;
-use cs_file_diagnosis::Diagnosis;
 use cs_operator_words::Restoring;
 use cs_places::{GivenBack, Shelves, Stop, find_store};
 use cs_progress::Progress;
@@ -44,26 +43,25 @@ fn take<P: Shelves>(
 }
 
 /// The answer of a restore that is doubtful.
-fn doubted(
-    alloc: Global,
-    catalog: Catalog,
-    diagnosis: Diagnosis,
-    lost: Loss,
-) -> Result<Doubted, Stop> {
-    match Diagnosed::new(alloc, catalog, diagnosis) {
+fn doubted(alloc: Global, catalog: Catalog, doubt: Doubt, lost: Loss) -> Result<Doubted, Stop> {
+    let Doubt {
+        diagnosis,
+        disputes,
+    } = doubt;
+    match Diagnosed::compared(alloc, catalog, diagnosis, disputes, false) {
         Ok(diagnosed) => Ok(Doubted { diagnosed, lost }),
         Err(_) => Err(Stop::Memory),
     }
 }
 
-/// The diagnosis that makes a loss doubtful, unless its sites are known to be gone.
+/// What makes a loss doubtful, unless its sites are known to be gone.
 fn doubt_of<R: Threads + Sync, G: Progress + Sync, P: Shelves>(
     run: &Run<'_, R, G>,
     catalog: &Catalog,
     source: &P::Store,
     request: &Restoring<'_>,
     lost: Loss,
-) -> Result<Option<Diagnosis>, Stop> {
+) -> Result<Option<Doubt>, Stop> {
     if request.accepts_loss {
         return Ok(None);
     }
@@ -83,7 +81,7 @@ fn look_ahead<R: Threads + Sync, G: Progress + Sync, P: Shelves>(
     let lost = request.loss;
     match doubt_of::<R, G, P>(run, &catalog, &source, request, lost) {
         Ok(None) => {}
-        Ok(Some(diagnosis)) => return match doubted(run.alloc, catalog, diagnosis, lost) {
+        Ok(Some(doubt)) => return match doubted(run.alloc, catalog, doubt, lost) {
             Ok(doubted) => Ok(Restoration::Doubted(doubted)),
             Err(stop) => Err(stop),
         },
@@ -135,8 +133,8 @@ fn restore_taken<R: Threads + Sync, G: Progress + Sync, P: Shelves>(
     let (catalog, source) = found;
     match doubt_of::<R, G, P>(run, &catalog, &source, request, lost) {
         Ok(None) => {}
-        Ok(Some(diagnosis)) => return match places.give_back(shelf, false) {
-            Ok(_) => match doubted(run.alloc, catalog, diagnosis, lost) {
+        Ok(Some(doubt)) => return match places.give_back(shelf, false) {
+            Ok(_) => match doubted(run.alloc, catalog, doubt, lost) {
                 Ok(doubted) => Ok(Restoration::Doubted(doubted)),
                 Err(stop) => Err(stop),
             },

@@ -1,4 +1,4 @@
-use Rattle.std.proofs.Common.{◌≡◌, ◌<◌, refl, arith}
+use Rattle.std.proofs.Common.{refl, arith}
 use Rattle.cs_design.proofs.Items.{item_at}
 use Rattle.cs_file_diagnosis.proofs.disputing.add_disputes.Goals as goal
 

@@ -1,10 +1,8 @@
-use Rattle.std.proofs.Common.{◌≡◌, ℕ, ◌+◌, ◌<◌, ◌∷◌, ◌++◌, [], List, length, refl, sym, ap, subst, ◌∙◌, arith, inl, inr, Some}
+use Rattle.std.proofs.Common.{◌≡◌, ◌∷◌, [], List, length, refl, sym, ap, subst, ◌∙◌, arith, inl, inr, Some}
 use Rattle.std.proofs.lemmas.Bool.{cases_lt}
 use Rattle.std.specs.List.{slice_get}
 use Rattle.cs_schema.specs.Lists.{IsIn}
-use Rattle.cs_schema.specs.Rows.{IsTable}
 use Rattle.cs_schema.proofs.Lists.{append_left, append_right, in_append}
-use Rattle.cs_file_diagnosis.specs.Diagnoses.{rows_found}
 use Rattle.cs_file_diagnosis.specs.Disputed.{AreOfTables}
 use Rattle.cs_file_diagnosis.specs.declared.disputing.TableDisputes.{TableDisputes}
 use Rattle.cs_file_diagnosis.specs.declared.tables.FoundTable.{FoundTable}

@@ -1,5 +1,3 @@
-use Rattle.std.proofs.Common.{◌≡◌, inl, inr}
-use Rattle.std.proofs.lemmas.Option.{none-some}
 use Rattle.cs_store.specs.FileSet.{contents_of}
 use Rattle.cs_rebuild.proofs.Verdicts.{names_sites}
 use Rattle.cs_file_diagnosis.proofs.FoundTables.{even, holds_rows, refuses}

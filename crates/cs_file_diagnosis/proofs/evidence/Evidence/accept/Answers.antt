@@ -1,4 +1,4 @@
-use Rattle.std.proofs.Common.{◌≡◌, sym, ◌∙◌}
+use Rattle.std.proofs.Common.{sym, ◌∙◌}
 use Rattle.cs_schema.proofs.Ascending.{false≢true}
 use Rattle.cs_file_diagnosis.proofs.KnownLosses.{one_with_table, one_with_another}
 use Rattle.cs_file_diagnosis.proofs.evidence.Evidence.accept.Goals as goal

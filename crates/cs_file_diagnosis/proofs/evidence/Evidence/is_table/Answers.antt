@@ -1,4 +1,4 @@
-use Rattle.std.proofs.Common.{◌≡◌, sym, ap, ◌∙◌}
+use Rattle.std.proofs.Common.{sym, ap, ◌∙◌}
 use Rattle.cs_recovery.specs.Columns.{rows_in}
 use Rattle.cs_file_diagnosis.proofs.evidence.Evidence.is_table.Goals as goal
 

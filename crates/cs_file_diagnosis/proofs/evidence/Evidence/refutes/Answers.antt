@@ -1,4 +1,4 @@
-use Rattle.std.proofs.Common.{◌≡◌, subst}
+use Rattle.std.proofs.Common.{subst}
 use Rattle.cs_schema.specs.Lists.{IsIn}
 use Rattle.cs_file_diagnosis.proofs.KnownLosses.{refused_within, refuted}
 use Rattle.cs_file_diagnosis.proofs.evidence.Evidence.refutes.Goals as goal

@@ -1,6 +1,5 @@
 //! What came of a whole table, as JSON.
-use crate::dumped::Dumped;
-use crate::new_store::NewStore;
+use cs_answers::{Dumped, NewStore};
 use cs_reports::object::{Object, sites};
 use serde_json::Value;
 use std::alloc::{AllocError, Global};

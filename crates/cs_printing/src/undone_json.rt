@@ -1,7 +1,7 @@
 //! What an undo came to, as JSON.
 use crate::json::file_object;
 use crate::restored_json::known;
-use crate::undone::{Undone, undone_word};
+use cs_answers::{Undone, undone_word};
 use cs_reports::object::Object;
 use serde_json::Value;
 use std::alloc::{AllocError, Global};

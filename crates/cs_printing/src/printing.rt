@@ -3,10 +3,8 @@ ghost use Rattle.std.specs.Prelude.{◌≡◌, ◌≤◌, ◌⊎◌};
 ghost use Rattle.cs_answers.specs.Statuses.{answer_status};
 ghost use Rattle.cs_verifying.specs.Statuses.{listed_status};
 
-use crate::answer::Answer;
-use crate::bad_store::Unfinished;
-use crate::dumped::Dumped;
 use crate::json::{answer_object, refusal_object};
+use cs_answers::{Answer, Dumped, Unfinished};
 use cs_places::{DEVICE, DONE, MEMORY, REFUSED};
 use cs_verifying::Listed;
 use serde_json::Value;

@@ -1,7 +1,5 @@
 //! Where the tables of an ambiguous store differ, as JSON.
-use crate::diagnosed::Diagnosed;
-use crate::disputed::{is_disputed, table_at};
-use crate::explained::number_of;
+use cs_answers::{Diagnosed, is_disputed, number_of, table_at};
 use cs_file_diagnosis::{Dispute, TableDisputes};
 use cs_reports::object::Object;
 use cs_schema::{Cells, Value as Cell};

@@ -1,8 +1,7 @@
 //! What a restore came to, as JSON.
 use crate::diagnosed_json::diagnosed_object;
 use crate::json::file_object;
-use crate::restoration::Restoration;
-use crate::restored::{Restored, what_word};
+use cs_answers::{Restoration, Restored, what_word};
 use cs_reports::object::{Object, sites};
 use serde_json::Value;
 use std::alloc::{AllocError, Global};

@@ -1,12 +1,9 @@
 //! Answers as JSON.
-use crate::answer::Answer;
-use crate::badness::word;
-use crate::checked::{Checked, Verdict, Wrong};
 use crate::diagnosed_json::diagnosed_object;
-use crate::recovered::Recovered;
 use crate::restored_json::restoration_object;
 use crate::tables_json::{dumped_object, new_store_object};
 use crate::undone_json::undone_object;
+use cs_answers::{Answer, Checked, Recovered, Verdict, Wrong, badness_word};
 use cs_inspection::Badness;
 use cs_overview::{file_object as shown_file_object, store_object};
 use cs_reports::object::{Object, number_or_null, sites};
@@ -98,7 +95,7 @@ pub fn bad_object(
     badness: &Badness,
 ) -> Result<Value, AllocError> {
     file_object(alloc, catalog, name)
-        .text("fault", word(badness))
+        .text("fault", badness_word(badness))
         .finish()
 }
 

@@ -1,8 +1,7 @@
 //! A diagnosis as JSON.
-use crate::diagnosed::Diagnosed;
 use crate::disputed_json::dispute_objects;
-use crate::explained::{number_of, rows_of, verdict_word};
 use crate::json::bad_object;
+use cs_answers::{Diagnosed, number_of, rows_of, verdict_word};
 use cs_file_diagnosis::{Diagnosis, Explanation};
 use cs_reports::object::{Object, number_or_null, sites};
 use serde_json::Value;

@@ -1,0 +1,12 @@
+//! What the verbs of pinepolo print: an answer as text or as JSON, and a refusal as JSON.
+#![tactic(auto)]
+
+mod diagnosed_json;
+mod disputed_json;
+mod json;
+mod printing;
+mod restored_json;
+mod tables_json;
+mod undone_json;
+
+pub use printing::{say, say_refusal};
