@@ -1,9 +1,12 @@
 //! What each line is answered, and what it asks of the places.
-use crate::expecting::{Trial, USAGE, expect};
-use crate::places::{places, places_of};
-use crate::stores::{edited, joined, three_projections, three_projections_by_rows};
-use cs_schema::samples::TWO_ORDERS;
+use crate::expecting::{Trial, USAGE, expect_all};
+use crate::stores::{
+    Stored, joined, sample_store, three_projections, three_projections_by_rows, with_an_empty_site,
+};
+use std::marker::Sync;
+use std::process::Abort;
 use std::test::Fail;
+use std::thread::Threads;
 
 const UNSAFE: &str = "fault: unsafe loss: 1,2\n";
 
@@ -77,38 +80,46 @@ const OTHER_WORDS: [&str; 25] = [
 
 #[test]
 fn answers_each_line(rt: HostRuntime) -> Result<(), Fail> {
-    for trial in LINES {
-        let mut places = places(rt.alloc())?;
-        expect(&rt, &mut places, trial)?;
-    }
-    for line in OTHER_WORDS {
-        let mut places = places(rt.alloc())?;
-        expect(&rt, &mut places, (line, 2, "", USAGE, "", 0))?;
+    let stored = sample_store(rt.alloc())?;
+    expect_all(&rt, &stored, &LINES)?;
+    expect_usage(&rt, &stored, &OTHER_WORDS)
+}
+
+fn expect_usage(
+    rt: &(impl Threads + Sync + AllocGlobal + Abort),
+    stored: &Stored,
+    lines: &[&'static str],
+) -> Result<(), Fail> {
+    for line in lines {
+        expect_all(rt, stored, &[(*line, 2, "", USAGE, "", 0)])?;
     }
     Ok(())
 }
 
+const OF_JOINED: [Trial; 4] = [
+    ("check 1 S", 0, "ok rows=2 k=1\n", "", "S", 0),
+    ("check 2 S", 1, "", "fault: unsafe loss: 1,3\n", "S", 0),
+    ("recover S O 9", 1, "", OUTSIDE, "S", 0),
+    ("recover S O 3", 0, "ok files=2\n", "", "S > O", 2),
+];
+
+const OF_THREE: [Trial; 2] = [
+    ("check 2 S", 0, "ok rows=4 k=2\n", "", "S", 0),
+    ("recover S O 2 3", 0, "ok files=4\n", "", "S > O", 4),
+];
+
+const OF_THREE_BY_ROWS: [Trial; 1] = [("recover S O 1 3 6", 0, "ok files=6\n", "", "S > O", 6)];
+
+const OF_AN_EMPTY_SITE: [Trial; 1] = [("recover S O 3", 0, "ok files=0\n", "", "S > O", 0)];
+
 #[test]
 fn recovers_each_store(rt: HostRuntime) -> Result<(), Fail> {
-    let stores = [
-        joined(&rt)?,
-        three_projections(&rt)?,
-        three_projections_by_rows(&rt)?,
-        edited(rt.alloc(), TWO_ORDERS, "sites = 2\n", "sites = 3\n")?,
-    ];
-    for (store, trial) in [
-        (0, ("check 1 S", 0, "ok rows=2 k=1\n", "", "S", 0)),
-        (0, ("check 2 S", 1, "", "fault: unsafe loss: 1,3\n", "S", 0)),
-        (0, ("recover S O 9", 1, "", OUTSIDE, "S", 0)),
-        (0, ("recover S O 3", 0, "ok files=2\n", "", "S > O", 2)),
-        (1, ("check 2 S", 0, "ok rows=4 k=2\n", "", "S", 0)),
-        (1, ("recover S O 2 3", 0, "ok files=4\n", "", "S > O", 4)),
-        (2, ("recover S O 1 3 6", 0, "ok files=6\n", "", "S > O", 6)),
-        (3, ("recover S O 3", 0, "ok files=0\n", "", "S > O", 0)),
-    ] {
-        let stored = stores.get(store).ok_or("no such store")?;
-        let mut places = places_of(rt.alloc(), stored)?;
-        expect(&rt, &mut places, trial)?;
-    }
-    Ok(())
+    expect_all(&rt, &joined(&rt)?, &OF_JOINED)?;
+    expect_all(&rt, &three_projections(&rt)?, &OF_THREE)
+}
+
+#[test]
+fn recovers_each_edited_store(rt: HostRuntime) -> Result<(), Fail> {
+    expect_all(&rt, &three_projections_by_rows(&rt)?, &OF_THREE_BY_ROWS)?;
+    expect_all(&rt, &with_an_empty_site(rt.alloc())?, &OF_AN_EMPTY_SITE)
 }

@@ -1,7 +1,7 @@
 //! Stores whose files can't be read or written, one after the other, and streams that are full.
-use crate::expecting::{expect, words};
-use crate::places::{MemoryPlaces, others, places, places_of};
-use crate::stores::{Stored, joined, three_projections};
+use crate::expecting::{Trial, expect, words};
+use crate::places::{others, places_of};
+use crate::stores::{Stored, joined, sample_store, three_projections};
 use crate::streams::Full;
 use cs_commands::run;
 use cs_schema::FileName;
@@ -37,48 +37,64 @@ const JOINED_WRITES: [&str; 3] = [
 
 const NO_MEMORY: &str = "fault: want of memory\n";
 
-#[test]
-fn names_each_read_that_fails(rt: HostRuntime) -> Result<(), Fail> {
-    let stored = joined(&rt)?;
-    let line = "recover --workers 2 --cut 1 S O 3";
-    for (after, device) in (0u64..).zip(READS) {
-        for (fault, status, text) in [
-            (StoreFault::Device, 4, device),
-            (StoreFault::Memory, 3, NO_MEMORY),
-        ] {
-            let mut places = places_of(rt.alloc(), &stored)?;
-            places.read_failure = Some(Failure { after, fault });
-            expect(&rt, &mut places, (line, status, "", text, "S", 0))?;
-        }
+/// Which calls fail.
+#[derive(Clone, Copy)]
+enum Calls {
+    Reads,
+    Writes,
+}
+
+/// Tries a line where a call fails.
+fn expect_failure(
+    rt: &(impl Threads + Sync + AllocGlobal + Abort),
+    stored: &Stored,
+    calls: Calls,
+    failure: Failure,
+    trial: &Trial,
+) -> Result<(), Fail> {
+    let mut places = places_of(rt.alloc(), stored)?;
+    match calls {
+        Calls::Reads => places.read_failure = Some(failure),
+        Calls::Writes => places.write_failure = Some(failure),
+    }
+    expect(rt, &mut places, trial)
+}
+
+/// Tries a line where each call in turn fails, of the device and for want of memory. The texts are those of the device.
+fn expect_failures(
+    rt: &(impl Threads + Sync + AllocGlobal + Abort),
+    stored: &Stored,
+    calls: Calls,
+    line: &'static str,
+    texts: &[&'static str],
+) -> Result<(), Fail> {
+    for (after, text) in (0u64..).zip(texts.iter()) {
+        let (asked, files) = match calls {
+            Calls::Reads => ("S", 0),
+            Calls::Writes => ("S > O", after as usize),
+        };
+        let fault = StoreFault::Device;
+        let told = (line, 4, "", *text, asked, files);
+        expect_failure(rt, stored, calls, Failure { after, fault }, &told)?;
+        let fault = StoreFault::Memory;
+        let told = (line, 3, "", NO_MEMORY, asked, files);
+        expect_failure(rt, stored, calls, Failure { after, fault }, &told)?;
     }
     Ok(())
 }
 
-/// Recovers with a save that fails at each of its calls in turn.
-fn expect_writes(
-    rt: &(impl Threads + Sync + AllocGlobal + Abort),
-    stored: &Stored,
-    line: &'static str,
-    writes: &[&'static str],
-) -> Result<(), Fail> {
-    for (after, device) in (0u64..).zip(writes.iter()) {
-        for (fault, status, text) in [
-            (StoreFault::Device, 4, *device),
-            (StoreFault::Memory, 3, NO_MEMORY),
-        ] {
-            let mut places = places_of(rt.alloc(), stored)?;
-            places.write_failure = Some(Failure { after, fault });
-            let files = after as usize;
-            expect(rt, &mut places, (line, status, "", text, "S > O", files))?;
-        }
-    }
-    Ok(())
+#[test]
+fn names_each_read_that_fails(rt: HostRuntime) -> Result<(), Fail> {
+    let line = "recover --workers 2 --cut 1 S O 3";
+    expect_failures(&rt, &joined(&rt)?, Calls::Reads, line, &READS)
 }
 
 #[test]
 fn names_each_write_that_fails(rt: HostRuntime) -> Result<(), Fail> {
-    expect_writes(&rt, &three_projections(&rt)?, "recover S O 2 3", &WRITES)?;
-    expect_writes(&rt, &joined(&rt)?, "recover S O 3", &JOINED_WRITES)
+    let line = "recover S O 2 3";
+    expect_failures(&rt, &three_projections(&rt)?, Calls::Writes, line, &WRITES)?;
+    let line = "recover S O 3";
+    expect_failures(&rt, &joined(&rt)?, Calls::Writes, line, &JOINED_WRITES)
 }
 
 #[test]
@@ -86,85 +102,130 @@ fn names_a_file_that_is_not_there(rt: HostRuntime) -> Result<(), Fail> {
     let mut places = places_of(rt.alloc(), &joined(&rt)?)?;
     places.files = others(rt.alloc(), &places.files, FileName::Del { p: 0, s: 0 })?;
     let missing = "fault: missing p0.s0.del\n";
-    expect(&rt, &mut places, ("check 1 S", 1, "", missing, "S", 0))
+    expect(&rt, &mut places, &("check 1 S", 1, "", missing, "S", 0))
+}
+
+/// The bytes of a catalog, if there are any, and what a recovery is answered.
+const CATALOGS: [(Option<&[u8]>, u8, &str); 3] = [
+    (None, 4, "fault: read catalog.toml\n"),
+    (Some(b"="), 1, "fault: catalog: not TOML\n"),
+    (Some(b"version = 3"), 1, "fault: catalog: rule 1\n"),
+];
+
+fn expect_catalog(
+    rt: &(impl Threads + Sync + AllocGlobal + Abort),
+    stored: &Stored,
+    catalog: Option<&[u8]>,
+    trial: &Trial,
+) -> Result<(), Fail> {
+    let mut places = places_of(rt.alloc(), stored)?;
+    places.catalog = match catalog {
+        Some(bytes) => Some(Vec::from_slice(rt.alloc(), bytes)?),
+        None => None,
+    };
+    expect(rt, &mut places, trial)
 }
 
 #[test]
-fn names_what_can_not_be_read_or_made(rt: HostRuntime) -> Result<(), Fail> {
-    let line = "recover S O 1";
-    let catalogs: [(Option<&'static [u8]>, u8, &'static str); 3] = [
-        (None, 4, "fault: read catalog.toml\n"),
-        (Some(b"="), 1, "fault: catalog: not TOML\n"),
-        (Some(b"version = 3"), 1, "fault: catalog: rule 1\n"),
-    ];
-    for (catalog, status, text) in catalogs {
-        let mut places = places(rt.alloc())?;
-        places.catalog = match catalog {
-            Some(bytes) => Some(Vec::from_slice(rt.alloc(), bytes)?),
-            None => None,
-        };
-        expect(&rt, &mut places, (line, status, "", text, "S", 0))?;
+fn names_a_catalog_that_can_not_be_read(rt: HostRuntime) -> Result<(), Fail> {
+    let stored = sample_store(rt.alloc())?;
+    for (catalog, status, text) in CATALOGS.iter() {
+        let told = ("recover S O 1", *status, "", *text, "S", 0);
+        expect_catalog(&rt, &stored, *catalog, &told)?;
     }
-    let mut there = places(rt.alloc())?;
-    there.is_made = true;
-    let made = (line, 4, "", "fault: write OUT\n", "S > O", 0);
-    expect(&rt, &mut there, made)
+    Ok(())
 }
 
-/// Puts an empty file in the place of a segment.
-fn damage(places: &mut MemoryPlaces) -> Result<(), Fail> {
-    let segment = FileName::Seg { p: 1, s: 1 };
-    let empty = Vec::new(*places.asked.allocator());
-    places.files.put(segment, empty)?;
-    // an output that is there already comes after the store's own fault
+#[test]
+fn names_an_output_that_can_not_be_made(rt: HostRuntime) -> Result<(), Fail> {
+    let mut places = places_of(rt.alloc(), &sample_store(rt.alloc())?)?;
     places.is_made = true;
-    Ok(())
+    let text = "fault: write OUT\n";
+    expect(
+        &rt,
+        &mut places,
+        &("recover S O 1", 4, "", text, "S > O", 0),
+    )
+}
+
+const DAMAGED: &str = "fault: damaged p1.s1.seg\n";
+
+/// Lines over a store with a damaged file, and an output that is there already: that would come after the store's fault.
+const REFUSED: [Trial; 5] = [
+    ("check 3 S", 1, "", "fault: unsafe loss: 1,3,5\n", "S", 0),
+    (
+        "recover S O 1 3 5",
+        1,
+        "",
+        "fault: unsafe loss: 1,3,5\n",
+        "S",
+        0,
+    ),
+    (
+        "recover S O 1 3 6",
+        1,
+        "",
+        "fault: unsafe loss: 1,3,6\n",
+        "S",
+        0,
+    ),
+    ("check 2 S", 1, "", DAMAGED, "S", 0),
+    ("recover S O 2 3", 1, "", DAMAGED, "S", 0),
+];
+
+fn expect_damaged(
+    rt: &(impl Threads + Sync + AllocGlobal + Abort),
+    stored: &Stored,
+    trial: &Trial,
+) -> Result<(), Fail> {
+    let mut places = places_of(rt.alloc(), stored)?;
+    let segment = FileName::Seg { p: 1, s: 1 };
+    places.files.put(segment, Vec::new(rt.alloc()))?;
+    places.is_made = true;
+    expect(rt, &mut places, trial)
 }
 
 #[test]
 fn asks_for_no_output_of_a_refused_store(rt: HostRuntime) -> Result<(), Fail> {
     let stored = three_projections(&rt)?;
-    let damaged = "fault: damaged p1.s1.seg\n";
-    for (line, text) in [
-        ("check 3 S", "fault: unsafe loss: 1,3,5\n"),
-        ("recover S O 1 3 5", "fault: unsafe loss: 1,3,5\n"),
-        ("recover S O 1 3 6", "fault: unsafe loss: 1,3,6\n"),
-        ("check 2 S", damaged),
-        ("recover S O 2 3", damaged),
-    ] {
-        let mut places = places_of(rt.alloc(), &stored)?;
-        damage(&mut places)?;
-        expect(&rt, &mut places, (line, 1, "", text, "S", 0))?;
+    for trial in REFUSED.iter() {
+        expect_damaged(&rt, &stored, trial)?;
     }
     Ok(())
 }
 
+/// A line, the room of standard output and of standard error, and what is left of them.
+const FULL: [(&str, (usize, usize), (usize, usize)); 6] = [
+    ("", (0, 99), (0, 99)),
+    ("", (1, 99), (0, 99)),
+    ("", (37, 99), (0, 99)),
+    ("check 1 S", (13, 99), (0, 99)),
+    ("recover S O 1", (10, 99), (0, 99)),
+    ("restore", (99, 5), (99, 0)),
+];
+
+/// A line's status where the streams have this room, and the room that is left.
+fn left_of(
+    rt: &(impl Threads + Sync + AllocGlobal),
+    stored: &Stored,
+    line: &str,
+    room: (usize, usize),
+) -> Result<(u8, (usize, usize)), Fail> {
+    let alloc = rt.alloc();
+    let mut places = places_of(alloc, stored)?;
+    let words = words(alloc, line)?;
+    let mut out = Full { room: room.0 };
+    let mut err = Full { room: room.1 };
+    let got = run(rt, alloc, words.as_slice(), &mut places, &mut out, &mut err);
+    Ok((got, (out.room, err.room)))
+}
+
 #[test]
 fn fails_where_a_stream_is_full(rt: HostRuntime) -> Result<(), Fail> {
-    let alloc = rt.alloc();
-    // the room of both streams, and what is left of it
-    for (line, out_room, err_room, left) in [
-        ("", 0, 99, (0, 99)),
-        ("", 1, 99, (0, 99)),
-        ("", 37, 99, (0, 99)),
-        ("check 1 S", 13, 99, (0, 99)),
-        ("recover S O 1", 10, 99, (0, 99)),
-        ("restore", 99, 5, (99, 0)),
-    ] {
-        let mut places = places(alloc)?;
-        let words = words(alloc, line)?;
-        let mut out = Full { room: out_room };
-        let mut err = Full { room: err_room };
-        let got = run(
-            &rt,
-            alloc,
-            words.as_slice(),
-            &mut places,
-            &mut out,
-            &mut err,
-        );
-        assert_eq!(rt; got, 4, "{line}");
-        assert_eq!(rt; (out.room, err.room), left, "{line}");
+    let stored = sample_store(rt.alloc())?;
+    for (line, room, left) in FULL.iter() {
+        let got = left_of(&rt, &stored, line, *room)?;
+        assert_eq!(rt; got, (4, *left), "{line}");
     }
     Ok(())
 }

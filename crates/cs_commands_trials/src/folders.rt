@@ -1,7 +1,7 @@
 //! The program, over folders of the system that are made where the tests run.
-use crate::expecting::words;
+use crate::expecting::{answer_of, expect_answer};
 use crate::stores::{Stored, sample_store};
-use cs_commands::{Folders, run};
+use cs_commands::Folders;
 use std::fs;
 use std::fs::{File, OpenFile};
 use std::marker::Sync;
@@ -33,42 +33,55 @@ const LINES: [Line; 6] = [
     ),
 ];
 
-/// Runs a line over the system's folders, and asks for its status and texts.
+/// Runs lines over the system's folders, and asks for their statuses and texts.
 fn expect_over<R: Threads + Sync + AllocGlobal + Abort + Files + Copy>(
     rt: R,
-    line: Line,
+    lines: &[Line],
 ) -> Result<(), Fail> {
-    let alloc = rt.alloc();
-    let (line, status, out_text, err_text) = line;
-    let words = words(alloc, line)?;
-    let mut places = Folders::new(alloc, rt);
-    let mut out = Vec::new(alloc);
-    let mut err = Vec::new(alloc);
-    let got = run(
-        &rt,
-        alloc,
-        words.as_slice(),
-        &mut places,
-        &mut out,
-        &mut err,
-    );
-    assert_eq!(&rt; got, status, "{line}");
-    assert_eq!(&rt; out.as_slice(), out_text.as_bytes(), "{line}");
-    assert_eq!(&rt; err.as_slice(), err_text.as_bytes(), "{line}");
+    for (line, status, out, err) in lines {
+        let mut places = Folders::new(rt.alloc(), rt);
+        let answer = answer_of(&rt, line, &mut places)?;
+        expect_answer(&rt, line, &answer, *status, out, err);
+    }
     Ok(())
 }
 
 /// Writes a store into a folder.
 fn put_store(rt: &(impl Files + AllocGlobal), folder: &str, stored: &Stored) -> Result<(), Fail> {
     fs::create_dir(rt, folder)?;
-    let path = format!(in rt.alloc(); "{folder}/catalog.toml")?;
-    fs::write(rt, path.as_str(), stored.catalog.as_slice())?;
+    put_file(rt, folder, "catalog.toml", stored.catalog.as_slice())?;
     for i in 0..stored.files.len() {
         let (name, bytes) = stored.files.at(i);
-        let path = format!(in rt.alloc(); "{folder}/{name}")?;
-        fs::write(rt, path.as_str(), bytes)?;
+        let name = format!(in rt.alloc(); "{name}")?;
+        put_file(rt, folder, name.as_str(), bytes)?;
     }
     Ok(())
+}
+
+fn put_file(
+    rt: &(impl Files + AllocGlobal),
+    folder: &str,
+    name: &str,
+    bytes: &[u8],
+) -> Result<(), Fail> {
+    let path = format!(in rt.alloc(); "{folder}/{name}")?;
+    Ok(fs::write(rt, path.as_str(), bytes)?)
+}
+
+const TOO_LONG: [Line; 1] = [("check 1 tried/S", 4, "", "fault: read p1.s0.seg\n")];
+
+/// Puts a file there that is longer than any.
+fn put_too_long(rt: &impl Files, path: &str) -> Result<(), Fail> {
+    let file = File::create(rt, path)?;
+    Ok(file.set_len(40_000_000_000)?)
+}
+
+const NO_FILE: [Line; 1] = [("check 1 tried/S", 4, "", "fault: read p0.s0.del\n")];
+
+/// Puts a folder in the place of a file.
+fn put_folder(rt: &impl Files, path: &str) -> Result<(), Fail> {
+    fs::remove_file(rt, path)?;
+    Ok(fs::create_dir(rt, path)?)
 }
 
 #[test]
@@ -76,19 +89,13 @@ fn runs_over_folders(rt: HostRuntime) -> Result<(), Fail> {
     let _ = fs::remove_dir_all(&rt, "tried");
     fs::create_dir(&rt, "tried")?;
     put_store(&rt, "tried/S", &sample_store(rt.alloc())?)?;
-    for line in LINES {
-        expect_over(rt, line)?;
-    }
+    expect_over(rt, &LINES)?;
     let mark = fs::read_to_string(&rt, "tried/O/DONE")?;
     assert_eq!(rt; mark.as_str(), "files=2\n");
-    // a file longer than any, and then a folder in the place of a file
-    File::create(&rt, "tried/S/p1.s0.seg")?.set_len(40_000_000_000)?;
-    let too_long = "fault: read p1.s0.seg\n";
-    expect_over(rt, ("check 1 tried/S", 4, "", too_long))?;
-    fs::remove_file(&rt, "tried/S/p0.s0.del")?;
-    fs::create_dir(&rt, "tried/S/p0.s0.del")?;
-    let no_file = "fault: read p0.s0.del\n";
-    expect_over(rt, ("check 1 tried/S", 4, "", no_file))?;
+    put_too_long(&rt, "tried/S/p1.s0.seg")?;
+    expect_over(rt, &TOO_LONG)?;
+    put_folder(&rt, "tried/S/p0.s0.del")?;
+    expect_over(rt, &NO_FILE)?;
     fs::remove_dir_all(&rt, "tried")?;
     Ok(())
 }

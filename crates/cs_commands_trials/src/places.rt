@@ -1,7 +1,7 @@
 //! Places in memory, for one store and one output.
 ghost use Rattle.std.specs.Prelude.{◌≡◌, ⊤};
 
-use crate::stores::{Stored, sample_store};
+use crate::stores::{Stored, put_all};
 use crate::watch::Watch;
 use cs_commands::Places;
 use cs_schema::FileName;
@@ -45,11 +45,6 @@ pub struct SharedOutput {
     alloc: Global,
 }
 
-/// Places with the sample's store, whole, where nothing fails.
-pub fn places(alloc: Global) -> Result<MemoryPlaces, Fail> {
-    places_of(alloc, &sample_store(alloc)?)
-}
-
 /// Places with this store, where nothing fails.
 pub fn places_of(alloc: Global, stored: &Stored) -> Result<MemoryPlaces, Fail> {
     let taken = Taken {
@@ -74,10 +69,7 @@ pub fn places_of(alloc: Global, stored: &Stored) -> Result<MemoryPlaces, Fail> {
 /// The same files.
 fn copy_files(alloc: Global, files: &FileSet) -> Result<FileSet, AllocError> {
     let mut copy = FileSet::new(alloc)?;
-    for i in 0..files.len() {
-        let (name, bytes) = files.at(i);
-        copy.put(name, Vec::from_slice(alloc, bytes)?)?;
-    }
+    put_all(alloc, &mut copy, files)?;
     Ok(copy)
 }
 

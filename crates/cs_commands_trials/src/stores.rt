@@ -7,7 +7,7 @@ use cs_schema::samples::{SPLIT_COLUMNS, THREE_PROJECTIONS};
 use cs_schema::{FileName, Loss};
 use cs_segment::seal::seal;
 use cs_store::FileSet;
-use std::alloc::Global;
+use std::alloc::{AllocError, Global};
 use std::marker::Sync;
 use std::test::Fail;
 use std::thread::Threads;
@@ -64,13 +64,9 @@ pub fn three_projections(rt: &(impl Threads + Sync + AllocGlobal)) -> Result<Sto
 
 /// The same store, safe by rows.
 pub fn three_projections_by_rows(rt: &(impl Threads + Sync + AllocGlobal)) -> Result<Stored, Fail> {
-    let alloc = rt.alloc();
     let mut stored = three_projections(rt)?;
-    let (_, rest) = THREE_PROJECTIONS
-        .split_once("version = 1\n")
-        .ok_or("no version")?;
-    let text = format!(in alloc; "version = 2\nsafety = \"rows\"\n{rest}")?;
-    stored.catalog = Vec::from_slice(alloc, text.as_bytes())?;
+    let by_rows = "version = 2\nsafety = \"rows\"\n";
+    stored.catalog = edited(rt.alloc(), THREE_PROJECTIONS, "version = 1\n", by_rows)?;
     Ok(stored)
 }
 
@@ -88,13 +84,23 @@ pub fn sample_store(alloc: Global) -> Result<Stored, Fail> {
     })
 }
 
-/// The sample's store, in whose catalog a text stands in the place of another.
-pub fn edited(alloc: Global, text: &str, old: &str, new: &str) -> Result<Stored, Fail> {
+/// The sample's store, with a third site on which nothing stands.
+pub fn with_an_empty_site(alloc: Global) -> Result<Stored, Fail> {
     let mut stored = sample_store(alloc)?;
-    let (before, after) = text.split_once(old).ok_or("no such text")?;
-    let text = format!(in alloc; "{before}{new}{after}")?;
-    stored.catalog = Vec::from_slice(alloc, text.as_bytes())?;
+    stored.catalog = edited(alloc, sample::CATALOG, "sites = 2\n", "sites = 3\n")?;
     Ok(stored)
+}
+
+/// The catalog in which a text stands in the place of another.
+fn edited(alloc: Global, text: &str, old: &str, new: &str) -> Result<Vec<u8>, Fail> {
+    let Some((before, after)) = text.split_once(old) else {
+        return Err(Fail::from("no such text"));
+    };
+    let mut catalog = Vec::new(alloc);
+    for part in [before, new, after] {
+        catalog.extend_from_slice(part.as_bytes())?;
+    }
+    Ok(catalog)
 }
 
 /// The store of which the third projection is this. The loss is that of the others.
@@ -106,21 +112,48 @@ fn whole(
 ) -> Result<Stored, Fail> {
     let alloc = rt.alloc();
     let mut files = FileSet::new(alloc)?;
-    for (s, rows, bytes) in segments {
-        let mut bytes = Vec::from_slice(alloc, *bytes)?;
-        seal(&mut bytes)?;
-        files.put(FileName::Seg { p: 2, s: *s }, bytes)?;
-        let delta = write_empty_delta(alloc, 2, *s, u32::from(*rows))?;
-        files.put(FileName::Del { p: 2, s: *s }, delta)?;
+    for segment in segments {
+        put_segment(alloc, &mut files, segment)?;
     }
-    let catalog = read_catalog(alloc, text.as_bytes())?;
-    let others = rebuild(rt, alloc, &catalog, &files, loss, 1, 1)?;
-    for i in 0..others.len() {
-        let (name, bytes) = others.at(i);
-        files.put(name, Vec::from_slice(alloc, bytes)?)?;
-    }
+    put_rebuilt(rt, text, &mut files, loss)?;
     Ok(Stored {
         catalog: Vec::from_slice(alloc, text.as_bytes())?,
         files,
     })
+}
+
+/// Puts a segment and its delta without items.
+fn put_segment(alloc: Global, files: &mut FileSet, segment: &Segment) -> Result<(), AllocError> {
+    let (s, rows, bytes) = *segment;
+    let mut bytes = Vec::from_slice(alloc, bytes)?;
+    seal(&mut bytes)?;
+    files.put(FileName::Seg { p: 2, s }, bytes)?;
+    let delta = write_empty_delta(alloc, 2, s, u32::from(rows))?;
+    files.put(FileName::Del { p: 2, s }, delta)
+}
+
+/// Puts what is rebuilt after a loss.
+fn put_rebuilt(
+    rt: &(impl Threads + Sync + AllocGlobal),
+    text: &str,
+    files: &mut FileSet,
+    loss: Loss,
+) -> Result<(), Fail> {
+    let alloc = rt.alloc();
+    let Ok(catalog) = read_catalog(alloc, text.as_bytes()) else {
+        return Err(Fail::from("the catalog is not read"));
+    };
+    match rebuild(rt, alloc, &catalog, files, loss, 1, 1) {
+        Ok(others) => Ok(put_all(alloc, files, &others)?),
+        Err(_) => Err(Fail::from("refused")),
+    }
+}
+
+/// Puts copies of other files among these.
+pub fn put_all(alloc: Global, files: &mut FileSet, others: &FileSet) -> Result<(), AllocError> {
+    for i in 0..others.len() {
+        let (name, bytes) = others.at(i);
+        files.put(name, Vec::from_slice(alloc, bytes)?)?;
+    }
+    Ok(())
 }

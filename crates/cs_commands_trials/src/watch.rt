@@ -1,10 +1,13 @@
 //! What the work of a command is told: its pieces, and whether two are at work at once.
 use crate::expecting::{Trial, expect};
 use crate::places::places_of;
-use crate::stores::three_projections;
+use crate::stores::{Stored, three_projections};
 use cs_board::Gate;
+use std::marker::Sync;
+use std::process::Abort;
 use std::sync::atomic::{AtomicU64, Ordering};
 use std::test::Fail;
+use std::thread::Threads;
 
 /// Counts the pieces, and holds the first of each round of work until the second of that round is begun.
 #[derive(Drop)]
@@ -49,8 +52,6 @@ impl Gate for Watch {
     }
 }
 
-const RECOVERED: (u8, &str) = (0, "ok files=4\n");
-
 /// A line, in how many pieces its work is done, and whether two of them are at work at once.
 const LINES: [(&str, u64, bool); 6] = [
     ("recover S O 2 3", 13, false),
@@ -61,19 +62,28 @@ const LINES: [(&str, u64, bool); 6] = [
     ("recover S O 2 3 --cut 65536", 13, false),
 ];
 
+/// In how many pieces a line's work is done, and whether one was held in vain.
+fn pieces_of(
+    rt: &(impl Threads + Sync + AllocGlobal + Abort),
+    stored: &Stored,
+    line: &'static str,
+    turns: u64,
+) -> Result<(u64, bool), Fail> {
+    let mut places = places_of(rt.alloc(), stored)?;
+    places.watch.turns = turns;
+    let recovered: Trial = (line, 0, "ok files=4\n", "", "S > O", 4);
+    expect(rt, &mut places, &recovered)?;
+    let entered = places.watch.entered.load(Ordering::SeqCst);
+    Ok((entered, places.watch.gave_up.load(Ordering::SeqCst) > 0))
+}
+
 #[test]
 fn workers_and_cut_reach_the_work(rt: HostRuntime) -> Result<(), Fail> {
     let stored = three_projections(&rt)?;
-    let (status, out) = RECOVERED;
-    for (line, pieces, at_once) in LINES {
-        let mut places = places_of(rt.alloc(), &stored)?;
-        places.watch.turns = if at_once { 1_000_000_000 } else { 1_000 };
-        let trial: Trial = (line, status, out, "", "S > O", 4);
-        expect(&rt, &mut places, trial)?;
-        let entered = places.watch.entered.load(Ordering::SeqCst);
-        assert_eq!(rt; entered, pieces, "{line}");
-        let gave_up = places.watch.gave_up.load(Ordering::SeqCst) > 0;
-        assert_eq!(rt; gave_up, !at_once, "{line}");
+    for (line, pieces, at_once) in LINES.iter() {
+        let turns = if *at_once { 1_000_000_000 } else { 1_000 };
+        let got = pieces_of(&rt, &stored, line, turns)?;
+        assert_eq!(rt; got, (*pieces, !*at_once), "{line}");
     }
     Ok(())
 }

@@ -1,9 +1,10 @@
 //! What of a catalog's crate the program of `cs_catalog_trials` doesn't print.
 use cs_catalog::{CatalogFault, read_catalog};
 use cs_schema::samples::TWO_ORDERS;
-use cs_schema::{FileName, Loss, Value};
+use cs_schema::{Catalog, FileName, Loss, Value};
 use std::alloc::{AllocError, Global};
-use std::test::Fail;
+use std::fmt;
+use std::fmt::Write;
 
 /// A text with a part that is repeated, each time with its number.
 struct Repeated {
@@ -30,33 +31,30 @@ const NAMES: Repeated = Repeated {
     after: "]\n",
 };
 
-fn written(alloc: Global, repeated: &Repeated) -> Result<String, AllocError> {
-    let (unit, end) = (repeated.unit, repeated.end);
-    let mut text = String::from_str(alloc, repeated.before)?;
+fn written(alloc: Global, repeated: &Repeated) -> Result<String, fmt::Error> {
+    let mut text = String::new(alloc);
+    text.write_str(repeated.before)?;
     for i in 0..repeated.count {
-        let next = format!(in alloc; "{unit}{i}{end}")?;
-        text.push_str(next.as_str())?;
+        write!(text, "{}{i}{}", repeated.unit, repeated.end)?;
     }
-    text.push_str(repeated.after)?;
+    text.write_str(repeated.after)?;
     Ok(text)
 }
 
 #[test]
-fn long_catalogs_are_refused_by_the_least_rule(rt: HostRuntime) -> Result<(), Fail> {
-    let alloc = rt.alloc();
+fn long_catalogs_are_refused_by_the_least_rule(rt: HostRuntime) {
     for (repeated, rule) in [(&COLUMNS, 4), (&NAMES, 7)] {
-        let text = written(alloc, repeated)?;
+        let text = written(rt.alloc(), repeated).expect(&rt, "a long catalog");
         assert!(rt; text.len() > 80_000, "rule {rule}");
-        let answer = read_catalog(alloc, text.as_bytes());
-        assert_eq!(rt; answer.err(), Some(CatalogFault::Rule(rule)));
+        let answer = read_catalog(rt.alloc(), text.as_bytes()).err();
+        assert!(rt; answer == Some(CatalogFault::Rule(rule)), "rule {rule}");
     }
-    Ok(())
 }
 
 #[test]
 fn bytes_that_are_no_text(rt: HostRuntime) {
     let answer = read_catalog(rt.alloc(), b"\xff");
-    assert_eq!(rt; answer.err(), Some(CatalogFault::Toml));
+    assert!(rt; matches!(answer, Err(CatalogFault::Toml)));
 }
 
 #[test]
@@ -85,43 +83,50 @@ fn names_files(rt: HostRuntime) {
 }
 
 #[test]
-fn loses_sites(rt: HostRuntime) -> Result<(), Fail> {
-    let alloc = rt.alloc();
+fn loses_sites(rt: HostRuntime) {
     let none = Loss::none();
     let loss = none.with(16).with(1).with(16);
-    for (shown, text) in [(none, "none"), (loss, "1,16")] {
-        assert_eq!(rt; format!(in alloc; "{shown}")?.as_str(), text);
+    for (shown, wanted) in [(none, "none"), (loss, "1,16")] {
+        let text = format!(in rt.alloc(); "{shown}").expect(&rt, "a text");
+        assert!(rt; text.as_str() == wanted, "{wanted}");
     }
     for (site, has) in [(1, true), (2, false), (16, true)] {
-        assert_eq!(rt; loss.has(site), has, "site {site}");
+        assert!(rt; loss.has(site) == has, "site {site}");
     }
-    assert_eq!(rt; loss.count(), 2);
-    assert_eq!(rt; loss, none.with(1).with(16));
-    Ok(())
+    assert!(rt; loss.count() == 2 && loss == none.with(1).with(16));
+}
+
+/// The catalog of two orders, of which the first is cut at 10.
+fn cut_orders(alloc: Global) -> Result<Catalog, CatalogFault> {
+    let Some((first, rest)) = TWO_ORDERS.split_once("cuts = []\nsites = [1]") else {
+        return Err(CatalogFault::Toml);
+    };
+    let Ok(text) = format!(in alloc; "{first}cuts = [10]\nsites = [1, 2]{rest}") else {
+        return Err(CatalogFault::Memory);
+    };
+    read_catalog(alloc, text.as_bytes())
+}
+
+/// The paths of the files that survive a loss, each with a space behind it.
+fn surviving(alloc: Global, catalog: &Catalog, loss: Loss) -> Result<String, AllocError> {
+    let mut paths = String::new(alloc);
+    for name in &catalog.surviving(alloc, loss)? {
+        paths.push_str(name.path().as_str())?;
+        paths.push_str(" ")?;
+    }
+    Ok(paths)
 }
 
 #[test]
-fn divides_by_cuts_with_ample_memory(rt: HostRuntime) -> Result<(), Fail> {
-    let alloc = rt.alloc();
-    let (first, rest) = TWO_ORDERS
-        .split_once("cuts = []\nsites = [1]")
-        .ok_or("no cuts")?;
-    let text = format!(in alloc; "{first}cuts = [10]\nsites = [1, 2]{rest}")?;
-    let catalog = read_catalog(alloc, text.as_bytes())?;
+fn divides_by_cuts_with_ample_memory(rt: HostRuntime) {
+    let catalog = cut_orders(rt.alloc()).expect(&rt, "a catalog");
     assert_eq!(rt; catalog.projection_count(), 2);
     for (value, segment) in [(9, 0), (10, 1), (11, 1)] {
-        assert_eq!(rt;
-            catalog.segment_of(0, &Value::Int(value)),
-            segment,
+        assert!(rt;
+            catalog.segment_of(0, &Value::Int(value)) == segment,
             "{value}"
         );
     }
-    let mut names = String::new(alloc);
-    for name in &catalog.surviving(alloc, Loss::none().with(2))? {
-        let path = name.path();
-        names.push_str(path.as_str())?;
-        names.push_str(" ")?;
-    }
-    assert_eq!(rt; names.as_str(), "p0.s0.seg p0.s0.del ");
-    Ok(())
+    let paths = surviving(rt.alloc(), &catalog, Loss::none().with(2)).expect(&rt, "paths");
+    assert_eq!(rt; paths.as_str(), "p0.s0.seg p0.s0.del ");
 }

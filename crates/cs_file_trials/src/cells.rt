@@ -1,35 +1,60 @@
+//! Words, texts and cells.
+ghost use Rattle.std.specs.Prelude.{◌≤◌};
+
 use cs_schema::{Cells, Kind, Text, Value, Word, WordFault};
-use std::test::Fail;
+use std::alloc::{AllocError, Global};
 
 /// 256 times the letter a.
 const LETTERS: [u8; 256] = [97; 256];
 
-#[test]
-fn words_have_at_most_255_bytes(rt: HostRuntime) -> Result<(), Fail> {
-    let text = std::str::from_utf8(&LETTERS).ok().ok_or("text")?;
-    assert_eq!(rt; Word::new(text).err(), Some(WordFault::TooLong));
-    let longest = std::str::from_utf8(&LETTERS[..255]).ok().ok_or("text")?;
-    for text in [longest, "\u{e9}", ""] {
-        let word = Word::new(text)?;
-        assert_eq!(rt; word.as_str(), text);
-        assert!(rt; Value::Int(7) < Value::Text(word), "{text}");
+/// So many letters.
+fn letters(count: usize) -> &'static str
+    requires { count ≤ 256 }
+{
+    match std::str::from_utf8(&LETTERS[..count]) {
+        Ok(text) => text,
+        Err(_) => "no text",
     }
-    Ok(())
+}
+
+/// Whether a word keeps a text of so many bytes, and is greater than an int.
+fn is_word(text: &str, length: usize) -> bool {
+    match Word::new(text) {
+        Ok(word) => {
+            text.len() == length && word.as_str() == text && Value::Int(7) < Value::Text(word)
+        }
+        Err(_) => false,
+    }
 }
 
 #[test]
-fn texts_are_kept_with_ample_memory(rt: HostRuntime) -> Result<(), Fail> {
-    let alloc = rt.alloc();
-    for len in [0usize, 24, 25, 255] {
-        let text = std::str::from_utf8(&LETTERS[..len]).ok().ok_or("text")?;
-        let cell = Text::new(alloc, text)?.ok_or("cell")?;
-        let copy = cell.copy(alloc)?;
-        assert!(rt; copy == cell && copy >= Text::empty());
-        assert_eq!(rt; copy.as_bytes().len(), len);
+fn words_have_at_most_255_bytes(rt: HostRuntime) {
+    assert!(rt; matches!(Word::new(letters(256)), Err(WordFault::TooLong)));
+    for (text, length) in [(letters(255), 255), ("\u{e9}", 2), ("", 0)] {
+        assert!(rt; is_word(text, length), "{text}");
     }
-    let text = std::str::from_utf8(&LETTERS).ok().ok_or("text")?;
-    assert!(rt; Text::new(alloc, text)?.is_none());
-    Ok(())
+}
+
+/// Whether so many letters are kept, and copied as they are.
+fn keeps_letters(alloc: Global, count: usize) -> Result<bool, AllocError>
+    requires { count ≤ 256 }
+{
+    let Some(cell) = Text::new(alloc, letters(count))? else {
+        return Ok(false);
+    };
+    let copy = cell.copy(alloc)?;
+    Ok(copy == cell && copy >= Text::empty() && copy.as_bytes().len() == count)
+}
+
+#[test]
+fn texts_are_kept_with_ample_memory(rt: HostRuntime) {
+    for count in [0usize, 24, 25, 255] {
+        assert!(rt;
+            keeps_letters(rt.alloc(), count) == Ok(true),
+            "{count} letters"
+        );
+    }
+    assert!(rt; matches!(Text::new(rt.alloc(), letters(256)), Ok(None)));
 }
 
 #[test]
@@ -38,21 +63,38 @@ fn least_cells(rt: HostRuntime) {
     assert_eq!(rt; Word::empty().as_str(), "");
 }
 
-#[test]
-fn cells_grow_with_ample_memory(rt: HostRuntime) -> Result<(), Fail> {
-    let mut cells = Cells::new(rt.alloc(), Kind::Int);
+/// The ints 5 and 3, then 4 and 3 once more.
+fn grown(alloc: Global) -> Result<Cells, AllocError> {
+    let mut cells = Cells::new(alloc, Kind::Int);
     cells.push(Value::Int(5))?;
     cells.push(Value::Int(3))?;
-    let mut more = Cells::new(rt.alloc(), Kind::Int);
+    let mut more = Cells::new(alloc, Kind::Int);
     more.push(Value::Int(4))?;
     more.push_cell(&cells, 1)?;
     cells.append(more)?;
-    assert_eq!(rt; cells.len(), 4);
-    for (i, int) in [(0, 5), (1, 3), (2, 4), (3, 3)] {
-        assert!(rt; cells.cell(i) == Value::Int(int), "cell {i}");
+    Ok(cells)
+}
+
+/// Whether the cells are these ints.
+fn are_ints(cells: &Cells, wanted: &[i64]) -> bool {
+    if cells.len() != wanted.len() {
+        return false;
     }
+    for (i, int) in wanted.iter().enumerate() {
+        if cells.cell(i) != Value::Int(*int) {
+            return false;
+        }
+    }
+    true
+}
+
+#[test]
+fn cells_grow_with_ample_memory(rt: HostRuntime) {
+    let Ok(mut cells) = grown(rt.alloc()) else {
+        panic!(rt; "no memory");
+    };
+    assert!(rt; cells.len() == 4 && are_ints(&cells, &[5, 3, 4, 3]));
     assert!(rt; cells.same(1, &cells, 3) && !cells.same(0, &cells, 1));
     cells.truncate(1);
     assert_eq!(rt; cells.len(), 1);
-    Ok(())
 }

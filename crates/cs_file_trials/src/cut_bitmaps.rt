@@ -1,10 +1,10 @@
 //! Bitmaps of a column that was cut in pieces.
-ghost use Rattle.std.specs.Prelude.{◌<◌};
+ghost use Rattle.std.specs.Prelude.{◌<◌, ◌≤◌};
 
+use crate::made::are_made;
 use cs_codec::Encoding;
 use cs_codec::bitmaps::{Bitmaps, BitmapsPart};
-use std::alloc::Global;
-use std::test::Fail;
+use std::alloc::{AllocError, Global};
 
 /// The column.
 const CELLS: [i64; 9] = [0, 0, 1, 1, 2, 1, 0, 2, 1];
@@ -14,30 +14,33 @@ const TEXT: &[u8] = b"\0\0\0\0\0\0\0\0\0\0\0\x04\0\0\0\0\0\0\0\x02\0\0\0\x04\0\0
 \0\0\0\0\0\0\0\x01\0\0\0\x06\0\0\0\x02\0\0\0\x02\0\0\0\x01\0\0\0\x01\0\0\0\x02\0\0\0\x01\
 \0\0\0\0\0\0\0\x02\0\0\0\x04\0\0\0\x04\0\0\0\x01\0\0\0\x02\0\0\0\x01";
 
-/// The part of cells that were cut in pieces of this length, the last of which may be shorter.
-fn pieced(alloc: Global, cells: &[i64], size: usize) -> Result<BitmapsPart<i64>, Fail>
-    requires { 0 < size }
+/// The part of cells that were cut in pieces of this length, the last of which may be shorter. Of too many the first few.
+fn pieced(alloc: Global, cells: &[i64], size: usize) -> Result<BitmapsPart<i64>, AllocError>
+    requires { (0 < size) × (size ≤ 1048576) }
 {
     let mut whole = Bitmaps::encode(alloc, &[])?;
     for piece in cells.chunks(size) {
-        if piece.len() > 1_048_576 {
-            return Err(Fail::from("a long piece"));
-        }
         let next = Bitmaps::encode(alloc, piece)?;
         if !<Bitmaps as Encoding<i64>>::can_join(&whole, &next) {
-            return Err(Fail::from("too long a column"));
+            return Ok(whole);
         }
         whole = <Bitmaps as Encoding<i64>>::join(whole, next)?;
     }
     Ok(whole)
 }
 
+/// The text of cells that were cut in pieces of this length.
+fn pieced_text(alloc: Global, cells: &[i64], size: usize) -> Result<Vec<u8>, AllocError>
+    requires { (0 < size) × (size ≤ 1048576) }
+{
+    let whole = pieced(alloc, cells, size)?;
+    <Bitmaps as Encoding<i64>>::write(alloc, &whole)
+}
+
 #[test]
-fn bitmaps_know_no_pieces_with_ample_memory(rt: HostRuntime) -> Result<(), Fail> {
+fn bitmaps_know_no_pieces_with_ample_memory(rt: HostRuntime) {
     for size in 1..10usize {
-        let whole = pieced(rt.alloc(), &CELLS, size)?;
-        let text = <Bitmaps as Encoding<i64>>::write(rt.alloc(), &whole)?;
-        assert_eq!(rt; text.as_slice(), TEXT, "pieces of {size}");
+        let text = pieced_text(rt.alloc(), &CELLS, size);
+        assert!(rt; are_made(text, TEXT), "pieces of {size}");
     }
-    Ok(())
 }

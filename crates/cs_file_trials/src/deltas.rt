@@ -2,13 +2,13 @@
 mod files;
 pub mod images;
 
-ghost use Rattle.std.specs.Prelude.{◌<◌, length, IfOk};
+ghost use Rattle.std.specs.Prelude.{◌<◌, length};
 
 use cs_catalog::read_catalog;
 use cs_schema::Catalog;
 use cs_segment::seal::seal;
-use std::alloc::{AllocError, Global};
-use std::test::Fail;
+use std::alloc::{AllocError, AllocGlobal, Global};
+use std::process::Abort;
 
 /// One projection of one column of ints.
 pub const ONE_COLUMN: &str = r#"version = 1
@@ -58,12 +58,10 @@ pub fn sealed(alloc: Global, body: &[u8]) -> Result<Vec<u8>, AllocError> {
     Ok(bytes)
 }
 
-pub fn one_column(alloc: Global) -> Result<Catalog, Fail>
-    ensures { IfOk result (λ catalog. 0 < length catalog.projections) }
+pub fn one_column(rt: &(impl Abort + AllocGlobal)) -> Catalog
+    ensures { 0 < length result.projections }
 {
-    let catalog = read_catalog(alloc, ONE_COLUMN.as_bytes())?;
-    if catalog.projection_count() == 0 {
-        return Err(Fail::from("no projection"));
-    }
-    Ok(catalog)
+    let catalog = read_catalog(rt.alloc(), ONE_COLUMN.as_bytes()).expect(rt, "a catalog");
+    assert!(rt; 0 < catalog.projection_count());
+    catalog
 }

@@ -1,5 +1,8 @@
-ghost use Rattle.std.specs.Prelude.{◌≡◌, ◌≤◌, ◌++◌, IfOk};
+//! Codes of columns: texts given to the byte, cut and joined, and bytes that are no text.
+ghost use Rattle.std.specs.Prelude.{◌≡◌, ◌≤◌, ℤ, List, ◌++◌, length, IfOk};
 
+use crate::made::are_made;
+use cs_codec::Cell;
 use cs_codec::bitmaps::Bitmaps;
 use cs_codec::differences::{Differences, DifferencesPart};
 use cs_codec::encoding::{CodecFault, Encoding};
@@ -7,7 +10,6 @@ use cs_codec::plain::Plain;
 use cs_codec::runs::Runs;
 use cs_schema::Text;
 use std::alloc::{AllocError, Global};
-use std::test::Fail;
 
 /// The text of two lists, one after the other, each of which had a part of its own.
 fn joined<E: Encoding<i64>>(
@@ -26,6 +28,35 @@ fn joined<E: Encoding<i64>>(
     E::write(alloc, &whole)
 }
 
+/// The first cut of the cells whose parts have not this text together.
+fn wrong_cut<E: Encoding<i64>>(alloc: Global, cells: &[i64], text: &[u8]) -> Option<usize>
+    requires { (list : List ℤ) → length list ≤ length cells.now → E.fits list }
+{
+    for at in 0..=cells.len() {
+        if !are_made(joined::<E>(alloc, &cells[..at], &cells[at..]), text) {
+            return Some(at);
+        }
+    }
+    None
+}
+
+/// Whether these are the cells that are read of a text.
+fn reads<E: Encoding<i64>>(alloc: Global, text: &[u8], wanted: &[i64]) -> bool
+    requires { length wanted.now ≤ 1048576 }
+{
+    match E::read(alloc, text, wanted.len() as u32) {
+        Ok(cells) => cells.as_slice() == wanted,
+        Err(_) => false,
+    }
+}
+
+/// Whether the bytes are the text of no list of so many cells.
+fn refuses<C: Cell, E: Encoding<C>>(alloc: Global, bytes: &[u8], rows: u32) -> bool
+    requires { rows ≤ 1048576 }
+{
+    matches!(E::read(alloc, bytes, rows), Err(CodecFault::NotAText))
+}
+
 /// The cells 1, 4, 7, 7, 8, 12.
 const RISING_TEXT: [u8; 17] = [0, 0, 0, 1, 0, 0, 0, 0, 0, 0, 0, 1, 3, 3, 0, 1, 4];
 
@@ -42,34 +73,31 @@ fn rising(alloc: Global, cells: &[i64]) -> Result<DifferencesPart, AllocError> {
     Ok(whole)
 }
 
-/// The text of cells that were cut in two.
-fn cut(alloc: Global, front: &[i64], back: &[i64]) -> Result<Vec<u8>, Fail> {
+/// The text of cells that were cut in two. Of cells that fall the text of the first few.
+fn cut(alloc: Global, front: &[i64], back: &[i64]) -> Result<Vec<u8>, AllocError> {
     let left = rising(alloc, front)?;
     let right = rising(alloc, back)?;
     if !Differences::can_join(&left, &right) {
-        return Err(Fail::from("the cells fall"));
+        return Differences::write(alloc, &left);
     }
     let whole = Differences::join(left, right)?;
-    Ok(Differences::write(alloc, &whole)?)
+    Differences::write(alloc, &whole)
 }
 
 #[test]
-fn differences_know_no_cut_with_ample_memory(rt: HostRuntime) -> Result<(), Fail> {
+fn differences_know_no_cut_with_ample_memory(rt: HostRuntime) {
     let cells = [1, 4, 7, 7, 8, 12];
     for at in 0..=6usize {
-        let text = cut(rt.alloc(), &cells[..at], &cells[at..])?;
-        assert_eq!(rt; text.as_slice(), RISING_TEXT.as_slice(), "cut {at}");
+        let text = cut(rt.alloc(), &cells[..at], &cells[at..]);
+        assert!(rt; are_made(text, &RISING_TEXT), "cut {at}");
     }
-    let text = joined::<Differences>(rt.alloc(), &[1, 4, 7], &[7, 8, 12])?;
-    assert_eq!(rt; text.as_slice(), RISING_TEXT.as_slice());
-    Ok(())
+    let text = joined::<Differences>(rt.alloc(), &[1, 4, 7], &[7, 8, 12]);
+    assert!(rt; are_made(text, &RISING_TEXT));
 }
 
 #[test]
-fn differences_are_read(rt: HostRuntime) -> Result<(), Fail> {
-    let cells = Differences::read(rt.alloc(), &RISING_TEXT, 6)?;
-    assert_eq!(rt; cells.as_slice(), [1, 4, 7, 7, 8, 12].as_slice());
-    Ok(())
+fn differences_are_read(rt: HostRuntime) {
+    assert!(rt; reads::<Differences>(rt.alloc(), &RISING_TEXT, &[1, 4, 7, 7, 8, 12]));
 }
 
 #[test]
@@ -81,37 +109,34 @@ fn bytes_that_are_no_differences(rt: HostRuntime) {
         (RISING_TEXT.as_slice(), 7),
         (longer.as_slice(), 2),
     ] {
-        let answer = Differences::read(rt.alloc(), bytes, rows);
-        assert_eq!(rt; answer.err(), Some(CodecFault::NotAText), "{rows} rows");
+        assert!(rt;
+            refuses::<i64, Differences>(rt.alloc(), bytes, rows),
+            "{rows} rows"
+        );
     }
 }
 
-#[test]
-fn the_widest_difference(rt: HostRuntime) -> Result<(), Fail> {
-    let text = joined::<Differences>(rt.alloc(), &[i64::MIN], &[i64::MAX])?;
-    let expected = [
-        0, 0, 0, 1, 0x80, 0, 0, 0, 0, 0, 0, 0, 0xff, 0xff, 0xff, 0xff, 0xff, 0xff, 0xff, 0xff,
-        0xff, 1,
-    ];
-    assert_eq!(rt; text.as_slice(), expected.as_slice());
-    let cells = Differences::read(rt.alloc(), &text, 2)?;
-    assert_eq!(rt; cells.as_slice(), [i64::MIN, i64::MAX].as_slice());
-    Ok(())
-}
-
-/// Whether these are the differences of more than 128 and at most 256 times 7: in two blocks, of 128 cells and of the others.
-fn is_text_of_sevens(text: &[u8], count: usize) -> bool {
-    if text.len() < 151 || text.len() - 22 != count {
-        return false;
-    }
-    &text[..12] == [0, 0, 0, 1, 0, 0, 0, 0, 0, 0, 0, 7].as_slice()
-        && text[12..139].iter().all(|byte| *byte == 0)
-        && &text[139..151] == [0, 0, 0, 129, 0, 0, 0, 0, 0, 0, 0, 7].as_slice()
-        && text[151..].iter().all(|byte| *byte == 0)
-}
+/// The least and the greatest of all cells.
+const WIDEST_TEXT: [u8; 22] = [
+    0, 0, 0, 1, 0x80, 0, 0, 0, 0, 0, 0, 0, 0xff, 0xff, 0xff, 0xff, 0xff, 0xff, 0xff, 0xff, 0xff, 1,
+];
 
 #[test]
-fn blocks_begin_at_every_128th_position(rt: HostRuntime) -> Result<(), Fail> {
+fn the_widest_difference(rt: HostRuntime) {
+    let text = joined::<Differences>(rt.alloc(), &[i64::MIN], &[i64::MAX]);
+    assert!(rt; are_made(text, &WIDEST_TEXT));
+    assert!(rt; reads::<Differences>(rt.alloc(), &WIDEST_TEXT, &[i64::MIN, i64::MAX]));
+}
+
+/// 130 times the cell 7: a block of 128 cells and one of the others. That of 129 times has a byte less.
+const SEVENS_TEXT: &[u8; 152] = b"\0\0\0\x01\0\0\0\0\0\0\0\x07\0\0\0\0\0\0\0\
+\0\0\0\0\0\0\0\0\0\0\0\0\0\0\0\0\0\0\0\0\0\0\0\0\0\0\0\0\0\0\0\0\0\0\0\0\0\0\0\0\
+\0\0\0\0\0\0\0\0\0\0\0\0\0\0\0\0\0\0\0\0\0\0\0\0\0\0\0\0\0\0\0\0\0\0\0\0\0\0\0\0\
+\0\0\0\0\0\0\0\0\0\0\0\0\0\0\0\0\0\0\0\0\0\0\0\0\0\0\0\0\0\0\0\0\0\0\0\0\0\0\0\0\
+\0\0\0\x81\0\0\0\0\0\0\0\x07\0";
+
+#[test]
+fn blocks_begin_at_every_128th_position(rt: HostRuntime) {
     let sevens = [7; 130];
     for (count, at) in [
         (129usize, 128usize),
@@ -120,21 +145,24 @@ fn blocks_begin_at_every_128th_position(rt: HostRuntime) -> Result<(), Fail> {
         (130, 128),
         (130, 129),
     ] {
-        let text = cut(rt.alloc(), &sevens[..at], &sevens[at..count])?;
+        let text = cut(rt.alloc(), &sevens[..at], &sevens[at..count]);
         assert!(rt;
-            is_text_of_sevens(&text, count),
+            are_made(text, &SEVENS_TEXT[..count + 22]),
             "{count} cells cut at {at}"
         );
     }
-    Ok(())
+}
+
+/// Whether the part of one cell joins that of another.
+fn joins(alloc: Global, front: i64, back: i64) -> Result<bool, AllocError> {
+    let left = Differences::encode(alloc, &[front])?;
+    let right = Differences::encode(alloc, &[back])?;
+    Ok(Differences::can_join(&left, &right))
 }
 
 #[test]
-fn falling_cells_do_not_join(rt: HostRuntime) -> Result<(), Fail> {
-    let seven = Differences::encode(rt.alloc(), &[7])?;
-    let six = Differences::encode(rt.alloc(), &[6])?;
-    assert!(rt; !Differences::can_join(&seven, &six));
-    Ok(())
+fn falling_cells_do_not_join(rt: HostRuntime) {
+    assert!(rt; joins(rt.alloc(), 7, 6) == Ok(false));
 }
 
 /// The cells 4, 4, 4, 5.
@@ -148,21 +176,15 @@ const SPLIT_RUNS: [u8; 32] = [
 ];
 
 #[test]
-fn runs_know_no_cut_with_ample_memory(rt: HostRuntime) -> Result<(), Fail> {
+fn runs_know_no_cut_with_ample_memory(rt: HostRuntime) {
     let cells = [4, 4, 4, 5];
-    for at in 0..=4usize {
-        let out = joined::<Runs>(rt.alloc(), &cells[..at], &cells[at..])?;
-        assert_eq!(rt; out.as_slice(), RUNS_TEXT.as_slice(), "cut {at}");
-    }
-    let back = <Runs as Encoding<i64>>::read(rt.alloc(), &RUNS_TEXT, 4)?;
-    assert_eq!(rt; back.as_slice(), cells.as_slice());
-    Ok(())
+    assert_eq!(rt; wrong_cut::<Runs>(rt.alloc(), &cells, &RUNS_TEXT), None);
+    assert!(rt; reads::<Runs>(rt.alloc(), &RUNS_TEXT, &cells));
 }
 
 #[test]
 fn bytes_that_are_no_runs(rt: HostRuntime) {
-    let answer = <Runs as Encoding<i64>>::read(rt.alloc(), &SPLIT_RUNS, 2);
-    assert_eq!(rt; answer.err(), Some(CodecFault::NotAText));
+    assert!(rt; refuses::<i64, Runs>(rt.alloc(), &SPLIT_RUNS, 2));
 }
 
 const BITMAPS_CELLS: [i64; 9] = [0, 0, 1, 1, 2, 1, 0, 2, 1];
@@ -174,15 +196,13 @@ const BITMAPS_TEXT: [u8; 92] = [
 ];
 
 #[test]
-fn bitmaps_know_no_cut_with_ample_memory(rt: HostRuntime) -> Result<(), Fail> {
+fn bitmaps_know_no_cut_with_ample_memory(rt: HostRuntime) {
     let cells = BITMAPS_CELLS;
-    for at in 0..=9usize {
-        let out = joined::<Bitmaps>(rt.alloc(), &cells[..at], &cells[at..])?;
-        assert_eq!(rt; out.as_slice(), BITMAPS_TEXT.as_slice(), "cut {at}");
-    }
-    let back = <Bitmaps as Encoding<i64>>::read(rt.alloc(), &BITMAPS_TEXT, 9)?;
-    assert_eq!(rt; back.as_slice(), cells.as_slice());
-    Ok(())
+    assert_eq!(rt;
+        wrong_cut::<Bitmaps>(rt.alloc(), &cells, &BITMAPS_TEXT),
+        None
+    );
+    assert!(rt; reads::<Bitmaps>(rt.alloc(), &BITMAPS_TEXT, &cells));
 }
 
 #[test]
@@ -197,41 +217,51 @@ fn bytes_that_are_no_bitmaps(rt: HostRuntime) {
         (trailing_zeros.as_slice(), 2),
         (far_too_many.as_slice(), 1_048_576),
     ] {
-        let answer = <Bitmaps as Encoding<i64>>::read(rt.alloc(), bytes, rows);
-        assert_eq!(rt; answer.err(), Some(CodecFault::NotAText), "{rows} rows");
+        assert!(rt;
+            refuses::<i64, Bitmaps>(rt.alloc(), bytes, rows),
+            "{rows} rows"
+        );
     }
 }
 
 #[test]
-fn plain_ints_are_written_with_ample_memory(rt: HostRuntime) -> Result<(), Fail> {
-    let text = joined::<Plain>(rt.alloc(), &[1], &[-1])?;
+fn plain_ints_are_written_with_ample_memory(rt: HostRuntime) {
     let expected = [
         0, 0, 0, 0, 0, 0, 0, 1, 0xff, 0xff, 0xff, 0xff, 0xff, 0xff, 0xff, 0xff,
     ];
-    assert_eq!(rt; text.as_slice(), expected.as_slice());
-    Ok(())
+    assert!(rt; are_made(joined::<Plain>(rt.alloc(), &[1], &[-1]), &expected));
 }
 
 /// An empty text and é.
 const WORDS: [u8; 4] = [0, 2, 0xc3, 0xa9];
 
+/// Whether the words are these.
+fn are_words(words: &[Text], wanted: &[&str]) -> bool {
+    words.len() == wanted.len()
+        && words
+            .iter()
+            .zip(wanted)
+            .all(|(word, text)| word.as_str() == *text)
+}
+
+/// Whether a text is read as these words, and written again as it was.
+fn is_text_of_words(alloc: Global, text: &[u8], wanted: &[&str]) -> Result<bool, CodecFault>
+    requires { length wanted.now ≤ 1048576 }
+{
+    let words = <Plain as Encoding<Text>>::read(alloc, text, wanted.len() as u32)?;
+    let part = <Plain as Encoding<Text>>::encode(alloc, &words)?;
+    let written = <Plain as Encoding<Text>>::write(alloc, &part)?;
+    Ok(are_words(&words, wanted) && written.as_slice() == text)
+}
+
 #[test]
-fn plain_texts_are_read_and_written_with_ample_memory(rt: HostRuntime) -> Result<(), Fail> {
-    let words = <Plain as Encoding<Text>>::read(rt.alloc(), &WORDS, 2)?;
-    assert_eq!(rt; words.len(), 2);
-    for (word, text) in words.iter().zip(["", "é"]) {
-        assert_eq!(rt; word.as_str(), text);
-    }
-    let part = <Plain as Encoding<Text>>::encode(rt.alloc(), &words)?;
-    let back = <Plain as Encoding<Text>>::write(rt.alloc(), &part)?;
-    assert_eq!(rt; back.as_slice(), WORDS.as_slice());
-    Ok(())
+fn plain_texts_are_read_and_written_with_ample_memory(rt: HostRuntime) {
+    assert!(rt; is_text_of_words(rt.alloc(), &WORDS, &["", "é"]) == Ok(true));
 }
 
 #[test]
 fn bytes_that_are_no_plain_texts(rt: HostRuntime) {
     for bytes in [[1, 0xff], [0, 0]] {
-        let answer = <Plain as Encoding<Text>>::read(rt.alloc(), &bytes, 1);
-        assert_eq!(rt; answer.err(), Some(CodecFault::NotAText));
+        assert!(rt; refuses::<Text, Plain>(rt.alloc(), &bytes, 1));
     }
 }

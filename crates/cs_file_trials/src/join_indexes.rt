@@ -1,8 +1,9 @@
+//! Join indexes: their files, and bytes that are none.
+use crate::made::are_made;
 use cs_jix::{read_jix, write_jix};
 use cs_segment::fault::FileFault;
 use cs_segment::seal::seal;
 use std::alloc::{AllocError, Global};
-use std::test::Fail;
 
 /// The entries (1, 1), (0, 1), (0, 2), without the digest.
 const BODY: [u8; 36] = [
@@ -16,44 +17,46 @@ fn file(alloc: Global) -> Result<Vec<u8>, AllocError> {
     Ok(bytes)
 }
 
+/// Entries by their keys.
+const ENTRIES: [(u32, Option<(u16, u32)>); 5] = [
+    (0, None),
+    (1, Some((1, 1))),
+    (2, Some((0, 1))),
+    (3, Some((0, 2))),
+    (4, None),
+];
+
 #[test]
-fn entries_are_read_with_ample_memory(rt: HostRuntime) -> Result<(), Fail> {
-    let bytes = file(rt.alloc())?;
+fn entries_are_read_with_ample_memory(rt: HostRuntime) {
+    let bytes = file(rt.alloc()).expect(&rt, "a file");
     assert_eq!(rt; bytes.len(), 68);
-    let join = read_jix(rt.alloc(), 0, 0, 1, &bytes)?;
+    let join = read_jix(rt.alloc(), 0, 0, 1, &bytes).expect(&rt, "a join index");
     assert_eq!(rt; join.top(), 3);
-    for (key, entry) in [
-        (0, None),
-        (1, Some((1, 1))),
-        (2, Some((0, 1))),
-        (3, Some((0, 2))),
-        (4, None),
-    ] {
-        assert_eq!(rt; join.entry(key), entry, "key {key}");
+    for (key, entry) in ENTRIES {
+        assert!(rt; join.entry(key) == entry, "key {key}");
     }
-    Ok(())
 }
 
 #[test]
-fn entries_are_written_with_ample_memory(rt: HostRuntime) -> Result<(), Fail> {
-    let entries = [(1u16, 1u32), (0, 1), (0, 2)];
-    let written = write_jix(rt.alloc(), 0, 0, 1, &entries)?;
-    assert_eq!(rt; written.as_slice(), file(rt.alloc())?.as_slice());
-    Ok(())
+fn entries_are_written_with_ample_memory(rt: HostRuntime) {
+    let wanted = file(rt.alloc()).expect(&rt, "a file");
+    let written = write_jix(rt.alloc(), 0, 0, 1, &[(1, 1), (0, 1), (0, 2)]);
+    assert!(rt; are_made(written, &wanted));
+}
+
+fn is_damaged(alloc: Global, q: u16, bytes: &[u8]) -> bool {
+    matches!(read_jix(alloc, 0, 0, q, bytes), Err(FileFault::Damaged))
 }
 
 #[test]
-fn files_are_damaged(rt: HostRuntime) -> Result<(), Fail> {
-    let mut bytes = file(rt.alloc())?;
-    bytes.push(0)?;
-    let whole = 68usize;
+fn files_are_damaged(rt: HostRuntime) {
+    let mut bytes = file(rt.alloc()).expect(&rt, "a file");
+    bytes.push(0).expect(&rt, "a byte more");
     // Another target, no bytes, a byte less, a byte more.
-    for (q, len) in [(0u16, whole), (1, 0), (1, 67), (1, 69)] {
-        let text = bytes.as_slice().get(..len).ok_or("too long")?;
-        let answer = read_jix(rt.alloc(), 0, 0, q, text);
-        assert_eq!(rt; answer.err(), Some(FileFault::Damaged), "{len} bytes");
+    for (q, len) in [(0u16, 68usize), (1, 0), (1, 67), (1, 69)] {
+        let text = bytes.as_slice().get(..len).expect(&rt, "so many bytes");
+        assert!(rt; is_damaged(rt.alloc(), q, text), "{len} bytes");
     }
-    Ok(())
 }
 
 /// What is read of the file with one byte of its body changed.
@@ -67,7 +70,7 @@ fn fault_of(alloc: Global, at: usize, value: u8) -> Result<Option<FileFault>, Al
 }
 
 #[test]
-fn refuses_entries(rt: HostRuntime) -> Result<(), Fail> {
+fn refuses_entries(rt: HostRuntime) {
     let damaged = Some(FileFault::Damaged);
     for (at, value, fault) in [
         (29, 0, None),
@@ -75,7 +78,6 @@ fn refuses_entries(rt: HostRuntime) -> Result<(), Fail> {
         (19, 16, damaged),
         (19, 15, None),
     ] {
-        assert_eq!(rt; fault_of(rt.alloc(), at, value)?, fault, "byte {at}");
+        assert!(rt; fault_of(rt.alloc(), at, value) == Ok(fault), "byte {at}");
     }
-    Ok(())
 }

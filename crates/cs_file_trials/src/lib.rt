@@ -20,6 +20,8 @@ mod full_images;
 #[cfg(test)]
 mod join_indexes;
 #[cfg(test)]
+mod made;
+#[cfg(test)]
 mod pieces;
 #[cfg(test)]
 mod stores;

@@ -1,8 +1,9 @@
+//! Pieces of columns: their texts in each code, and which of them join.
+use crate::made::are_made;
 use cs_codec::encoding::CodecFault;
-use cs_piece::{encode_piece, join_pieces, read_column, write_piece};
+use cs_piece::{Piece, encode_piece, join_pieces, read_column, write_piece};
 use cs_schema::{Code, Kind};
-use std::alloc::Global;
-use std::test::Fail;
+use std::alloc::{AllocError, Global};
 
 /// The texts a, a, b, plain.
 const PLAIN: &[u8] = &[1, 97, 1, 97, 1, 98];
@@ -22,65 +23,68 @@ const CODES: [(Code, &[u8]); 3] = [
     (Code::Bitmaps, BITMAPS),
 ];
 
-/// The column that is read of the bytes, written again in a code that fits all columns.
-fn written(alloc: Global, from: Code, bytes: &[u8], to: Code) -> Result<Vec<u8>, CodecFault> {
+/// The column of three rows that is read of the bytes, as a piece in a code that fits all columns.
+fn piece_of(alloc: Global, from: Code, bytes: &[u8], to: Code) -> Result<Piece, CodecFault> {
     let cells = read_column(alloc, from, Kind::Text, bytes, 3)?;
     let to = match to {
         Code::Differences => Code::Plain,
         other => other,
     };
-    let piece = encode_piece(alloc, to, &cells)?;
-    Ok(write_piece(alloc, &piece)?)
+    Ok(encode_piece(alloc, to, &cells)?)
+}
+
+fn text_of(alloc: Global, piece: Piece) -> Result<Vec<u8>, AllocError> {
+    write_piece(alloc, &piece)
+}
+
+/// The text of the column in another code.
+fn written(alloc: Global, from: Code, bytes: &[u8], to: Code) -> Result<Vec<u8>, CodecFault> {
+    let piece = piece_of(alloc, from, bytes, to)?;
+    Ok(text_of(alloc, piece)?)
 }
 
 #[test]
-fn texts_are_pieces_of_every_code_with_ample_memory(rt: HostRuntime) -> Result<(), Fail> {
+fn texts_are_pieces_of_every_code_with_ample_memory(rt: HostRuntime) {
     for (from, bytes) in CODES {
         for (to, wanted) in CODES {
-            let out = written(rt.alloc(), from, bytes, to)?;
-            assert_eq!(rt; out.as_slice(), wanted, "{from:?} as {to:?}");
+            let out = written(rt.alloc(), from, bytes, to);
+            assert!(rt; are_made(out, wanted), "{from:?} as {to:?}");
         }
     }
-    Ok(())
 }
 
 #[test]
-fn runs_merge_where_pieces_join_with_ample_memory(rt: HostRuntime) -> Result<(), Fail> {
+fn runs_merge_where_pieces_join_with_ample_memory(rt: HostRuntime) {
     let alloc = rt.alloc();
-    let one = read_column(alloc, Code::Plain, Kind::Text, &[1, 97], 1)?;
-    let left = encode_piece(alloc, Code::Runs, &one)?;
-    let right = encode_piece(alloc, Code::Runs, &one)?;
+    let one = read_column(alloc, Code::Plain, Kind::Text, &[1, 97], 1).expect(&rt, "a column");
+    let left = encode_piece(alloc, Code::Runs, &one).expect(&rt, "the left piece");
+    let right = encode_piece(alloc, Code::Runs, &one).expect(&rt, "the right piece");
     assert!(rt; left.can_join(&right));
-    let whole = join_pieces(left, right)?;
-    let text = write_piece(alloc, &whole)?;
-    assert_eq!(rt; text.as_slice(), [1, 97, 0, 0, 0, 1, 0, 0, 0, 2].as_slice());
-    Ok(())
+    let whole = join_pieces(left, right).expect(&rt, "both pieces");
+    assert!(rt; are_made(text_of(alloc, whole), &[1, 97, 0, 0, 0, 1, 0, 0, 0, 2]));
+}
+
+fn do_join(left: Piece, right: Piece) -> bool {
+    left.can_join(&right)
 }
 
 #[test]
-fn pieces_of_two_codes_do_not_join(rt: HostRuntime) -> Result<(), Fail> {
-    let cells = read_column(rt.alloc(), Code::Plain, Kind::Text, PLAIN, 3)?;
-    let runs = encode_piece(rt.alloc(), Code::Runs, &cells)?;
-    let bitmaps = encode_piece(rt.alloc(), Code::Bitmaps, &cells)?;
-    assert!(rt; !runs.can_join(&bitmaps));
-    Ok(())
+fn pieces_of_two_codes_do_not_join(rt: HostRuntime) {
+    let alloc = rt.alloc();
+    let runs = piece_of(alloc, Code::Plain, PLAIN, Code::Runs).expect(&rt, "runs");
+    let bitmaps = piece_of(alloc, Code::Plain, PLAIN, Code::Bitmaps).expect(&rt, "bitmaps");
+    assert!(rt; !do_join(runs, bitmaps));
 }
 
-#[test]
-fn bytes_that_are_no_column(rt: HostRuntime) {
-    for (code, kind, bytes, rows) in [
-        (Code::Bitmaps, Kind::Int, BITMAPS, 3),
-        (Code::Differences, Kind::Text, b"", 1),
-        (Code::Differences, Kind::Text, b"\0", 0),
-    ] {
-        let answer = read_column(rt.alloc(), code, kind, bytes, rows);
-        assert_eq!(rt; answer.err(), Some(CodecFault::NotAText), "{code:?}");
+/// Whether no bytes are no texts in a code.
+fn reads_no_texts(alloc: Global, code: Code) -> bool {
+    match read_column(alloc, code, Kind::Text, &[], 0) {
+        Ok(cells) => cells.is_empty() && cells.kind() == Kind::Text,
+        Err(_) => false,
     }
 }
 
 #[test]
-fn no_texts_fit_differences(rt: HostRuntime) -> Result<(), Fail> {
-    let none = read_column(rt.alloc(), Code::Differences, Kind::Text, &[], 0)?;
-    assert!(rt; none.is_empty() && none.kind() == Kind::Text);
-    Ok(())
+fn no_texts_fit_differences(rt: HostRuntime) {
+    assert!(rt; reads_no_texts(rt.alloc(), Code::Differences));
 }

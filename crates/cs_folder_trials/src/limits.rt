@@ -1,4 +1,6 @@
 //! How long files may be.
+ghost use Rattle.std.specs.Prelude.{◌<◌, ◌^◌};
+
 use crate::making::{fresh, sparse};
 use cs_catalog::read_catalog;
 use cs_folders::{CATALOG_LIMIT, FileLimits, StoreFolder, read_bounded};
@@ -7,7 +9,6 @@ use cs_schema::samples::TWO_ORDERS;
 use cs_store::StoreFault;
 use std::alloc::Global;
 use std::rt::Files;
-use std::test::Fail;
 
 /// The limits of files of the catalog of two orders, and where none is read.
 const LIMITS: [(FileName, u64, u64); 3] = [
@@ -21,14 +22,13 @@ const LIMITS: [(FileName, u64, u64); 3] = [
 ];
 
 #[test]
-fn limits_files_by_their_catalog(rt: HostRuntime) -> Result<(), Fail> {
-    let catalog = read_catalog(rt.alloc(), TWO_ORDERS.as_bytes())?;
+fn limits_files_by_their_catalog(rt: HostRuntime) {
+    let catalog = read_catalog(rt.alloc(), TWO_ORDERS.as_bytes()).expect(&rt, "a catalog");
     let limits = FileLimits::of(&catalog);
     for (name, limit, fixed) in LIMITS {
-        assert_eq!(rt; limits.limit_of(name), limit, "{name}");
-        assert_eq!(rt; FileLimits::Fixed.limit_of(name), fixed, "{name}");
+        assert!(rt; limits.limit_of(name) == limit, "{name}");
+        assert!(rt; FileLimits::Fixed.limit_of(name) == fixed, "{name}");
     }
-    Ok(())
 }
 
 /// The length of the catalog in a folder, or why there is none.
@@ -38,34 +38,46 @@ fn catalog_length<R: Files + Drop>(
     path: &str,
 ) -> Result<Option<u64>, StoreFault> {
     let mut store = StoreFolder::new(alloc, rt, path, FileLimits::Fixed)?;
-    match store.catalog()? {
-        Some(bytes) => Ok(Some(bytes.len() as u64)),
-        None => Ok(None),
+    match store.catalog() {
+        Ok(Some(bytes)) => Ok(Some(bytes.len() as u64)),
+        Ok(None) => Ok(None),
+        Err(fault) => Err(fault),
     }
 }
 
 #[test]
-fn reads_a_catalog_up_to_its_limit(rt: HostRuntime) -> Result<(), Fail> {
-    fresh(&rt, "catalogs")?;
-    for (length, want) in [
+fn reads_a_catalog_up_to_its_limit(rt: HostRuntime) {
+    fresh(&rt, "catalogs").expect(&rt, "a folder");
+    for (length, wanted) in [
         (1_048_576, Ok(Some(CATALOG_LIMIT))),
         (1_048_577, Err(StoreFault::Device)),
     ] {
-        sparse(&rt, "catalogs/catalog.toml", length)?;
-        assert_eq!(rt; catalog_length(rt.alloc(), rt, "catalogs"), want);
+        sparse(&rt, "catalogs/catalog.toml", length).expect(&rt, "a catalog");
+        assert!(rt;
+            catalog_length(rt.alloc(), rt, "catalogs") == wanted,
+            "{length} bytes"
+        );
     }
-    Ok(())
+}
+
+/// Three bytes, where the bound has room for them.
+fn abc(alloc: Global, limit: u64) -> Result<Vec<u8>, StoreFault>
+    requires { limit < 2 ^ 63 }
+{
+    let mut file: &[u8] = b"abc";
+    read_bounded(alloc, &mut file, limit)
+}
+
+/// Whether a call gave these bytes.
+fn are_bytes(given: Result<Vec<u8>, StoreFault>, wanted: &[u8]) -> bool {
+    match given {
+        Ok(bytes) => bytes.as_slice() == wanted,
+        Err(_) => false,
+    }
 }
 
 #[test]
-fn reads_up_to_a_bound(rt: HostRuntime) -> Result<(), Fail> {
-    let alloc = rt.alloc();
-    for (limit, want) in [
-        (3, Ok(Vec::from_slice(alloc, b"abc")?)),
-        (2, Err(StoreFault::Device)),
-    ] {
-        let mut file: &[u8] = b"abc";
-        assert_eq!(rt; read_bounded(alloc, &mut file, limit), want);
-    }
-    Ok(())
+fn reads_up_to_a_bound(rt: HostRuntime) {
+    assert!(rt; are_bytes(abc(rt.alloc(), 3), b"abc"));
+    assert!(rt; matches!(abc(rt.alloc(), 2), Err(StoreFault::Device)));
 }

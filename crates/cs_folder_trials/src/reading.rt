@@ -6,10 +6,9 @@ use cs_schema::FileName;
 use cs_schema::samples::TWO_ORDERS;
 use cs_store::{Source, StoreFault};
 use std::alloc::Global;
-use std::fs;
 use std::os::unix::fs::symlink;
 use std::rt::Files;
-use std::test::Fail;
+use std::{fs, io};
 
 const SEGMENT: FileName = FileName::Seg { p: 0, s: 0 };
 
@@ -59,55 +58,56 @@ const PLACES: [(&str, &str, Place, Result<Option<usize>, StoreFault>); 5] = [
     ),
 ];
 
-fn put(rt: &(impl Files + AllocGlobal), path: &str, place: Place) -> Result<(), Fail> {
+fn put(rt: &(impl Files + AllocGlobal), path: &str, place: Place) -> io::Result<()> {
     match place {
-        Place::Folder => fs::create_dir(rt, path)?,
-        Place::Link(target) => symlink(rt, target, path)?,
+        Place::Folder => fs::create_dir(rt, path),
+        Place::Link(target) => symlink(rt, target, path),
         Place::LinkTo(text) => {
             fs::write(rt, "kinds/file", text)?;
-            symlink(rt, "../file", path)?;
+            symlink(rt, "../file", path)
         }
-        Place::Sparse(length) => sparse(rt, path, length)?,
+        Place::Sparse(length) => sparse(rt, path, length),
     }
-    Ok(())
 }
 
-/// The length of the segment of the store in a folder, or why there is none, and the number of faults.
-fn segment_length<R: Files + Drop>(
+/// Whether this is the length of the segment of the store in a folder, or why there is none: one fault of its device.
+fn has_length<R: Files + Drop>(
     alloc: Global,
     rt: R,
     path: &str,
     limits: FileLimits,
-) -> Result<(Result<Option<usize>, StoreFault>, u64), StoreFault> {
-    let mut store = StoreFolder::new(alloc, rt, path, limits)?;
+    wanted: Result<Option<usize>, StoreFault>,
+) -> bool {
+    let Ok(mut store) = StoreFolder::new(alloc, rt, path, limits) else {
+        return false;
+    };
     let length = match store.read(SEGMENT) {
         Ok(Some(bytes)) => Ok(Some(bytes.len())),
         Ok(None) => Ok(None),
         Err(fault) => Err(fault),
     };
-    Ok((length, store.faults()))
+    length == wanted && store.faults() == u64::from(wanted.is_err())
 }
 
 #[test]
-fn reads_nothing_but_files(rt: HostRuntime) -> Result<(), Fail> {
-    fresh(&rt, "kinds")?;
-    for (folder, path, place, want) in PLACES {
-        fs::create_dir(&rt, folder)?;
-        put(&rt, path, place)?;
-        let got = segment_length(rt.alloc(), rt, folder, FileLimits::Fixed);
-        let faults = u64::from(want.is_err());
-        assert_eq!(rt; got, Ok((want, faults)), "{folder}");
+fn reads_nothing_but_files(rt: HostRuntime) {
+    fresh(&rt, "kinds").expect(&rt, "a folder");
+    for (folder, path, place, wanted) in PLACES {
+        fs::create_dir(&rt, folder).expect(&rt, "a store's folder");
+        put(&rt, path, place).expect(&rt, "a segment");
+        assert!(rt;
+            has_length(rt.alloc(), rt, folder, FileLimits::Fixed, wanted),
+            "{folder}"
+        );
     }
-    fs::remove_dir_all(&rt, "kinds")?;
-    Ok(())
+    fs::remove_dir_all(&rt, "kinds").expect(&rt, "no folder");
 }
 
 #[test]
-fn reads_no_file_above_its_limit(rt: HostRuntime) -> Result<(), Fail> {
-    fresh(&rt, "long")?;
-    sparse(&rt, "long/p0.s0.seg", 41_943_103)?;
-    let catalog = read_catalog(rt.alloc(), TWO_ORDERS.as_bytes())?;
-    let got = segment_length(rt.alloc(), rt, "long", FileLimits::of(&catalog));
-    assert_eq!(rt; got, Ok((Err(StoreFault::Device), 1)));
-    Ok(())
+fn reads_no_file_above_its_limit(rt: HostRuntime) {
+    fresh(&rt, "long").expect(&rt, "a folder");
+    sparse(&rt, "long/p0.s0.seg", 41_943_103).expect(&rt, "a segment");
+    let catalog = read_catalog(rt.alloc(), TWO_ORDERS.as_bytes()).expect(&rt, "a catalog");
+    let limits = FileLimits::of(&catalog);
+    assert!(rt; has_length(rt.alloc(), rt, "long", limits, Err(StoreFault::Device)));
 }

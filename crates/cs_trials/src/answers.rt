@@ -1,8 +1,10 @@
 //! What a store answers, asked with few and many workers, and with small and large cuts.
-use crate::stores::{Store, bytes_of, loss_of, sealed};
+use crate::files::{bytes_of, sealed};
+use crate::stores::{Store, loss_of};
 use cs_rebuild::{check, rebuild};
 use cs_schema::FileName;
 use cs_store::{Fault, FileSet};
+use std::alloc::Global;
 use std::marker::Sync;
 use std::process::Abort;
 use std::test::Fail;
@@ -10,6 +12,37 @@ use std::thread::Threads;
 
 /// A file: its name, its length, and what stands before its digest, in hexadecimal digits.
 pub type Written = (FileName, usize, &'static str);
+
+/// Why a store is refused: a `Fault` that holds no `Loss`, since no constant can lend one.
+#[derive(Clone, Copy)]
+pub enum Refusal<'a> {
+    Site,
+    BadK,
+    /// The loss of these sites is unsafe.
+    Unsafe(&'a [u8]),
+    Missing(FileName),
+    Damaged(FileName),
+    Astray { p: u16, s: u16, row: u32 },
+    Twice,
+    Misplaced { p: u16, s: u16 },
+    Misled { p: u16, s: u16, q: u16 },
+}
+
+impl Refusal<'_> {
+    fn fault(self) -> Fault {
+        match self {
+            Refusal::Site => Fault::Site,
+            Refusal::BadK => Fault::BadK,
+            Refusal::Unsafe(sites) => Fault::Unsafe(loss_of(sites)),
+            Refusal::Missing(name) => Fault::Missing(name),
+            Refusal::Damaged(name) => Fault::Damaged(name),
+            Refusal::Astray { p, s, row } => Fault::Astray { p, s, row },
+            Refusal::Twice => Fault::Twice,
+            Refusal::Misplaced { p, s } => Fault::Misplaced { p, s },
+            Refusal::Misled { p, s, q } => Fault::Misled { p, s, q },
+        }
+    }
+}
 
 /// What a rebuild or a check is asked, and answers.
 #[derive(Drop)]
@@ -19,19 +52,20 @@ pub enum Ask<'a> {
     /// The loss of these sites costs just these files, which come back as they stand in the store.
     Restored(&'a [u8], &'a [FileName]),
     /// A rebuild after the loss of these sites is refused.
-    Refused(&'a [u8], Fault),
+    Refused(&'a [u8], Refusal<'a>),
     /// A check for so many lost sites.
-    Checked(u8, Result<u64, Fault>),
+    Checked(u8, Result<u64, Refusal<'a>>),
 }
 
 /// Asks a store, and asks for the answers.
 pub fn expect(rt: &(impl Threads + Sync + Abort), store: &Store, asks: &[Ask]) -> Result<(), Fail> {
     for ask in asks {
         match ask {
-            Ask::Checked(k, wanted) => expect_checked(rt, store, *k, wanted),
-            Ask::Refused(sites, _) | Ask::Files(sites, _) | Ask::Restored(sites, _) => {
+            Ask::Files(sites, _) | Ask::Restored(sites, _) | Ask::Refused(sites, _) => {
                 expect_rebuilt(rt, store, sites, ask)?;
             }
+            Ask::Checked(k, Ok(rows)) => expect_checked(rt, store, *k, Ok(*rows)),
+            Ask::Checked(k, Err(refusal)) => expect_checked(rt, store, *k, Err(refusal.fault())),
         }
     }
     Ok(())
@@ -43,6 +77,7 @@ fn expect_rebuilt(
     sites: &[u8],
     wanted: &Ask,
 ) -> Result<(), Fail> {
+    let loss = loss_of(sites);
     for workers in [1u32, 2, 64] {
         for cut in [1u32, 2, 1_048_576] {
             let out = rebuild(
@@ -50,53 +85,54 @@ fn expect_rebuilt(
                 store.alloc,
                 &store.catalog,
                 &store.files,
-                loss_of(sites),
+                loss,
                 workers,
                 cut,
             );
-            expect_answer(rt, store, out, wanted)?;
+            match out {
+                Ok(files) => expect_files(rt, store, &files, wanted)?,
+                Err(fault) => expect_refused(rt, fault, wanted)?,
+            }
         }
     }
     Ok(())
 }
 
-fn expect_answer(
-    rt: &impl Abort,
-    store: &Store,
-    out: Result<FileSet, Fault>,
-    wanted: &Ask,
-) -> Result<(), Fail> {
-    match (out, wanted) {
-        (Ok(files), Ask::Files(_, wanted)) => expect_written(rt, store, &files, wanted),
-        (Ok(files), Ask::Restored(_, names)) => expect_same(rt, store, &files, names),
-        (Err(fault), Ask::Refused(_, wanted)) => {
-            assert_eq!(rt; fault, *wanted);
-            Ok(())
-        }
-        (Ok(_), _) => Err(Fail::from("not refused")),
-        (Err(_), _) => Err(Fail::from("refused")),
+fn expect_files(rt: &impl Abort, store: &Store, files: &FileSet, wanted: &Ask) -> Result<(), Fail> {
+    match wanted {
+        Ask::Files(_, wanted) => expect_written(rt, store.alloc, files, wanted),
+        Ask::Restored(_, names) => expect_restored(rt, store, files, names),
+        _ => Err(Fail::from("not refused")),
     }
+}
+
+fn expect_refused(rt: &impl Abort, fault: Fault, wanted: &Ask) -> Result<(), Fail> {
+    let Ask::Refused(_, refusal) = wanted else {
+        return Err(Fail::from("refused"));
+    };
+    assert_eq!(rt; fault, refusal.fault());
+    Ok(())
 }
 
 /// Asks that these are just these files.
 pub fn expect_written(
     rt: &impl Abort,
-    store: &Store,
+    alloc: Global,
     files: &FileSet,
     wanted: &[Written],
 ) -> Result<(), Fail> {
     assert_eq!(rt; files.len(), wanted.len());
     for (name, length, digits) in wanted {
-        let body = bytes_of(store.alloc, digits)?;
-        let bytes = sealed(store.alloc, body.as_slice())?;
-        let file = files.get(*name).ok_or("a file is not there")?;
-        assert_eq!(rt; file, bytes.as_slice(), "{name}");
-        assert_eq!(rt; file.len(), *length, "{name}");
+        let body = bytes_of(alloc, digits)?;
+        let bytes = sealed(alloc, &[body.as_slice()])?;
+        let (found, there) = (files.get(*name), Some(bytes.as_slice()));
+        assert_eq!(rt; (found, bytes.len()), (there, *length), "{name}");
     }
     Ok(())
 }
 
-fn expect_same(
+/// Asks that these are just the files of these names, as they stand in the store.
+fn expect_restored(
     rt: &impl Abort,
     store: &Store,
     files: &FileSet,
@@ -104,9 +140,10 @@ fn expect_same(
 ) -> Result<(), Fail> {
     assert_eq!(rt; files.len(), names.len());
     for name in names {
-        let file = files.get(*name).ok_or("a file is not there")?;
-        let there = store.files.get(*name).ok_or("no such file")?;
-        assert_eq!(rt; file, there, "{name}");
+        let Some(file) = files.get(*name) else {
+            return Err(Fail::from("a file is not there"));
+        };
+        assert_eq!(rt; Some(file), store.files.get(*name), "{name}");
     }
     Ok(())
 }
@@ -115,7 +152,7 @@ fn expect_checked(
     rt: &(impl Threads + Sync + Abort),
     store: &Store,
     k: u8,
-    wanted: &Result<u64, Fault>,
+    wanted: Result<u64, Fault>,
 ) {
     for workers in [1u32, 2, 64] {
         for cut in [1u32, 2, 1_048_576] {
@@ -128,7 +165,7 @@ fn expect_checked(
                 workers,
                 cut,
             );
-            assert_eq!(rt; rows, *wanted);
+            assert_eq!(rt; rows, wanted);
         }
     }
 }

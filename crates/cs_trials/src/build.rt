@@ -1,10 +1,13 @@
 //! New stores from rows, and tables that are handed out.
-use crate::catalogs::by_rows;
-use crate::stores::{Column, Parts, Store, loss_of};
+ghost use Rattle.std.specs.Prelude.{◌≤◌};
+
+use crate::catalogs::{AS_IT_IS, BY_ROWS, Edit, edited};
+use crate::files::Column;
+use crate::stores::{Parts, Store, loss_of};
 use crate::{cities, three_orders};
 use cs_rebuild::{OpenGate, Run, are_columns, build, rebuild, table};
 use cs_schema::samples::{CITIES, THREE_PROJECTIONS};
-use cs_schema::{Cells, Kind, Value, Word};
+use cs_schema::{Cells, Loss, Text};
 use cs_store::{Fault, FileSet};
 use std::alloc::Global;
 use std::marker::Sync;
@@ -46,145 +49,176 @@ const IN_THREE_ORDERS: Case = Case {
     losses: &[(&[], 0), (&[1], 2), (&[2, 3], 4), (&[4, 6], 4)],
 };
 
-fn push_cell(cells: &mut Cells, column: Column, at: usize) -> Result<(), Fail> {
+fn cells_of(alloc: Global, column: Column) -> Result<Cells, Fail> {
     match column {
-        Column::Ints(ints) => {
-            let int = ints.get(at).ok_or("no such int")?;
-            if cells.kind() == Kind::Int {
-                cells.push(Value::Int(*int))?;
-            }
-        }
-        Column::Texts(texts) => {
-            let text = texts.get(at).ok_or("no such text")?;
-            let word = Word::new(text).ok().ok_or("a long text")?;
-            if cells.kind() == Kind::Text {
-                cells.push(Value::Text(word))?;
-            }
-        }
+        Column::Ints(ints) => Ok(Cells::Ints(Vec::from_slice(alloc, ints)?)),
+        Column::Texts(texts) => texts_of(alloc, texts),
     }
-    Ok(())
 }
 
-fn cells_of(alloc: Global, columns: &[Column]) -> Result<Vec<Cells>, Fail> {
+fn texts_of(alloc: Global, texts: &[&str]) -> Result<Cells, Fail> {
+    let mut cells = Vec::new(alloc);
+    for text in texts {
+        match Text::new(alloc, text)? {
+            Some(text) => cells.push(text)?,
+            None => return Err(Fail::from("a long text")),
+        }
+    }
+    Ok(Cells::Texts(cells))
+}
+
+fn all_cells_of(alloc: Global, columns: &[Column]) -> Result<Vec<Cells>, Fail> {
     let mut out = Vec::new(alloc);
     for column in columns {
-        let (kind, count) = match column {
-            Column::Ints(ints) => (Kind::Int, ints.len()),
-            Column::Texts(texts) => (Kind::Text, texts.len()),
-        };
-        let mut cells = Cells::new(alloc, kind);
-        for at in 0..count {
-            push_cell(&mut cells, *column, at)?;
-        }
-        out.push(cells)?;
+        out.push(cells_of(alloc, *column)?)?;
     }
     Ok(out)
 }
 
-fn built(
-    rt: &(impl Threads + Sync),
-    store: &Store,
-    cut: u32,
-    columns: &[Column],
-) -> Result<Result<FileSet, Fault>, Fail> {
-    let rows = cells_of(store.alloc, columns)?;
-    if !are_columns(&store.catalog, rows.as_slice()) || cut < 1 || cut > 4 {
-        return Err(Fail::from("no columns of the catalog"));
+/// Whether these are the cells of a column.
+fn are_cells_of(cells: &Cells, column: Column) -> bool {
+    match (cells, column) {
+        (Cells::Ints(found), Column::Ints(ints)) => found.as_slice() == ints,
+        (Cells::Texts(found), Column::Texts(texts)) => are_texts(found.as_slice(), texts),
+        _ => false,
     }
-    let run = Run {
+}
+
+fn are_texts(found: &[Text], texts: &[&str]) -> bool {
+    for (one, other) in found.iter().zip(texts.iter()) {
+        if one.as_str() != *other {
+            return false;
+        }
+    }
+    found.len() == texts.len()
+}
+
+/// How a store is built, and its table handed out.
+fn run_of<R: Threads + Sync>(rt: &R, alloc: Global, cut: u32) -> Run<'_, R, OpenGate>
+    requires { (1 ≤ cut) × (cut ≤ 1048576) }
+{
+    Run {
         rt,
-        alloc: store.alloc,
+        alloc,
         workers: 2,
         cut,
         gate: &OpenGate,
-    };
+    }
+}
+
+fn built<R: Threads + Sync>(
+    rt: &R,
+    store: &Store,
+    cut: u32,
+    columns: &[Column],
+) -> Result<Result<FileSet, Fault>, Fail>
+    requires { (1 ≤ cut) × (cut ≤ 1048576) }
+{
+    let rows = all_cells_of(store.alloc, columns)?;
+    if !are_columns(&store.catalog, rows.as_slice()) {
+        return Err(Fail::from("no columns of the catalog"));
+    }
+    let run = run_of(rt, store.alloc, cut);
     Ok(build(&run, &store.catalog, rows.as_slice()))
 }
 
 /// Asks that each file stands among others with the same bytes.
-fn expect_among(rt: &impl Abort, files: &FileSet, others: &FileSet) -> Result<(), Fail> {
+fn expect_among(rt: &impl Abort, files: &FileSet, others: &FileSet) {
     for i in 0..files.len() {
         let (name, bytes) = files.at(i);
-        let other = others.get(name).ok_or("a file is not there")?;
-        assert_eq!(rt; bytes, other, "{name}");
+        assert_eq!(rt; Some(bytes), others.get(name), "{name}");
+    }
+}
+
+/// Asks that the table of these files is handed out after a loss, by primary key.
+fn expect_table<R: Threads + Sync + Abort>(
+    rt: &R,
+    store: &Store,
+    files: &FileSet,
+    loss: Loss,
+    by_key: &[Column],
+) -> Result<(), Fail> {
+    let run = run_of(rt, store.alloc, 2);
+    let Ok(rows) = table(&run, &store.catalog, files, loss) else {
+        return Err(Fail::from("no table"));
+    };
+    assert_eq!(rt; rows.len(), by_key.len());
+    for (cells, column) in rows.iter().zip(by_key.iter()) {
+        assert!(rt; are_cells_of(cells, *column));
     }
     Ok(())
 }
 
-/// Asks that columns have these cells.
-fn expect_cells(rt: &impl Abort, columns: &[Cells], wanted: &[Cells]) {
-    assert_eq!(rt; columns.len(), wanted.len());
-    for c in 0..columns.len() {
-        assert_eq!(rt; columns[c].len(), wanted[c].len());
-        for at in 0..columns[c].len() {
-            assert!(rt; columns[c].same(at, &wanted[c], at));
-        }
-    }
-}
-
-/// Asks that a loss of a store costs so many files, which come back, and that its table is handed out whatever is lost.
-fn expect_recovered(
+/// Asks that a loss costs so many of these files, which come back.
+fn expect_rebuilt(
     rt: &(impl Threads + Sync + Abort),
     store: &Store,
     files: &FileSet,
-    case: &Case,
+    loss: Loss,
+    count: usize,
 ) -> Result<(), Fail> {
-    let wanted = cells_of(store.alloc, case.by_key)?;
-    for (sites, count) in case.losses {
-        let loss = loss_of(sites);
-        let run = Run {
-            rt,
-            alloc: store.alloc,
-            workers: 2,
-            cut: 2,
-            gate: &OpenGate,
-        };
-        let rows = table(&run, &store.catalog, files, loss);
-        expect_cells(
-            rt,
-            rows.ok().ok_or("no table")?.as_slice(),
-            wanted.as_slice(),
-        );
-        let out = rebuild(rt, store.alloc, &store.catalog, files, loss, 2, 2);
-        let out = out.ok().ok_or("refused")?;
-        assert_eq!(rt; out.len(), *count);
-        expect_among(rt, &out, files)?;
-    }
+    let Ok(out) = rebuild(rt, store.alloc, &store.catalog, files, loss, 2, 2) else {
+        return Err(Fail::from("refused"));
+    };
+    assert_eq!(rt; out.len(), count);
+    expect_among(rt, &out, files);
     Ok(())
 }
 
+/// Asks that a store is built of rows, and of what is lost of it each file comes back, and the table whatever is lost.
 fn expect_built(
     rt: &(impl Threads + Sync + Abort),
-    alloc: Global,
+    store: &Store,
+    cut: u32,
     case: &Case,
-    text: &str,
-) -> Result<(), Fail> {
-    let store = Store::made(alloc, text, case.parts)?;
-    for cut in [1u32, 4] {
-        let files = built(rt, &store, cut, case.rows)?;
-        let files = files.ok().ok_or("not built")?;
-        assert_eq!(rt; files.len(), store.files.len());
-        expect_among(rt, &files, &store.files)?;
-        expect_recovered(rt, &store, &files, case)?;
+) -> Result<(), Fail>
+    requires { (1 ≤ cut) × (cut ≤ 1048576) }
+{
+    let Ok(files) = built(rt, store, cut, case.rows)? else {
+        return Err(Fail::from("not built"));
+    };
+    assert_eq!(rt; files.len(), store.files.len());
+    expect_among(rt, &files, &store.files);
+    for (sites, count) in case.losses {
+        let loss = loss_of(sites);
+        expect_table(rt, store, &files, loss, case.by_key)?;
+        expect_rebuilt(rt, store, &files, loss, *count)?;
     }
     Ok(())
 }
 
-/// Asks it by both rules of safety.
-fn expect_by_both(
-    rt: &(impl Threads + Sync + Abort),
-    alloc: Global,
+/// Asks it by a rule of safety, of stores that are cut small and large.
+fn expect_case(
+    rt: &(impl Threads + Sync + AllocGlobal + Abort),
     case: &Case,
+    rule: &[Edit],
 ) -> Result<(), Fail> {
-    let rows = by_rows(alloc, case.text)?;
-    expect_built(rt, alloc, case, case.text)?;
-    expect_built(rt, alloc, case, rows.as_str())
+    let text = edited(rt.alloc(), case.text, rule)?;
+    let store = Store::made(rt.alloc(), text.as_str(), case.parts)?;
+    expect_built(rt, &store, 1, case)?;
+    expect_built(rt, &store, 4, case)
+}
+
+const CASES: [(&Case, &[Edit]); 4] = [
+    (&IN_CITIES, AS_IT_IS),
+    (&IN_CITIES, BY_ROWS),
+    (&IN_THREE_ORDERS, AS_IT_IS),
+    (&IN_THREE_ORDERS, BY_ROWS),
+];
+
+fn expect_cases(
+    rt: &(impl Threads + Sync + AllocGlobal + Abort),
+    cases: &[(&Case, &[Edit])],
+) -> Result<(), Fail> {
+    for (case, rule) in cases {
+        expect_case(rt, case, rule)?;
+    }
+    Ok(())
 }
 
 #[test]
 fn built_as_made_by_hand(rt: HostRuntime) -> Result<(), Fail> {
-    expect_by_both(&rt, rt.alloc(), &IN_CITIES)?;
-    expect_by_both(&rt, rt.alloc(), &IN_THREE_ORDERS)
+    expect_cases(&rt, &CASES)
 }
 
 #[test]

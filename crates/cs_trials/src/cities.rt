@@ -1,10 +1,11 @@
 //! Two projections on three sites, one of texts and cut in two, with a join each way.
-use crate::answers::{Ask, Written, expect};
-use crate::catalogs::by_rows;
-use crate::stores::{Column, Delta, Parts, Store, loss_of};
+use crate::answers::{Ask, Refusal, Written};
+use crate::catalogs::{AS_IT_IS, BY_ROWS};
+use crate::files::{Column, Delta};
+use crate::plays::{Play, Step, expect_plays};
+use crate::stores::Parts;
 use cs_schema::FileName;
 use cs_schema::samples::CITIES;
-use cs_store::Fault;
 use std::test::Fail;
 
 const LOWER: FileName = FileName::Seg { p: 1, s: 0 };
@@ -128,36 +129,50 @@ const ALL_BUT_THE_FIRST: [FileName; 7] = [
     UPPER_JOIN,
 ];
 
+const SOUND: [Step; 1] = [Step::Asked(&[
+    Ask::Checked(0, Ok(3)),
+    Ask::Checked(1, Err(Refusal::Unsafe(&[1]))),
+    Ask::Checked(4, Err(Refusal::BadK)),
+    Ask::Files(&[2], &LOST),
+    Ask::Restored(&[3], &UPPER_FILES),
+    Ask::Restored(&[2, 3], &ALL_BUT_THE_FIRST),
+])];
+
+const DEAD_KEY: [Step; 1] = [Step::Asked(&[Ask::Files(&[2], &LOST_WITH_A_DEAD_KEY)])];
+
+const SOUND_PLAYS: [Play; 4] = [
+    (AS_IT_IS, &WHOLE, &SOUND),
+    (BY_ROWS, &WHOLE, &SOUND),
+    (AS_IT_IS, &WITH_A_DEAD_KEY, &DEAD_KEY),
+    (BY_ROWS, &WITH_A_DEAD_KEY, &DEAD_KEY),
+];
+
 #[test]
 fn sound(rt: HostRuntime) -> Result<(), Fail> {
-    let rows = by_rows(rt.alloc(), CITIES)?;
-    let asks = [
-        Ask::Checked(0, Ok(3)),
-        Ask::Checked(1, Err(Fault::Unsafe(loss_of(&[1])))),
-        Ask::Checked(4, Err(Fault::BadK)),
-        Ask::Files(&[2], &LOST),
-        Ask::Restored(&[3], &UPPER_FILES),
-        Ask::Restored(&[2, 3], &ALL_BUT_THE_FIRST),
-    ];
-    for text in [CITIES, rows.as_str()] {
-        let store = Store::made(rt.alloc(), text, &WHOLE)?;
-        expect(&rt, &store, &asks)?;
-        let store = Store::made(rt.alloc(), text, &WITH_A_DEAD_KEY)?;
-        expect(&rt, &store, &[Ask::Files(&[2], &LOST_WITH_A_DEAD_KEY)])?;
-    }
-    Ok(())
+    expect_plays(&rt, CITIES, &SOUND_PLAYS)
 }
+
+/// The join index in which the second row has no key.
+const LED_NOWHERE: Step = Step::Join(0, 0, 1, &[(1, 1), (0, 0), (0, 2)]);
+
+const MISLED: Refusal = Refusal::Misled { p: 0, s: 0, q: 1 };
+
+const ASTRAY: Refusal = Refusal::Astray { p: 0, s: 0, row: 1 };
+
+const LED_NOWHERE_PLAYS: [Play; 2] = [
+    (
+        AS_IT_IS,
+        &WHOLE,
+        &[LED_NOWHERE, Step::Asked(&[Ask::Refused(&[2], MISLED)])],
+    ),
+    (
+        BY_ROWS,
+        &WHOLE,
+        &[LED_NOWHERE, Step::Asked(&[Ask::Refused(&[2], ASTRAY)])],
+    ),
+];
 
 #[test]
 fn live_row_led_nowhere(rt: HostRuntime) -> Result<(), Fail> {
-    let rows = by_rows(rt.alloc(), CITIES)?;
-    for (text, fault) in [
-        (CITIES, Fault::Misled { p: 0, s: 0, q: 1 }),
-        (rows.as_str(), Fault::Astray { p: 0, s: 0, row: 1 }),
-    ] {
-        let mut store = Store::made(rt.alloc(), text, &WHOLE)?;
-        store.put_join(0, 0, 1, &[(1, 1), (0, 0), (0, 2)])?;
-        expect(&rt, &store, &[Ask::Refused(&[2], fault)])?;
-    }
-    Ok(())
+    expect_plays(&rt, CITIES, &LED_NOWHERE_PLAYS)
 }

@@ -1,7 +1,9 @@
-//! Gates that hold workers until so many are at work at once, also where rows are walked along joins and joins are verified.
+//! Gates that hold workers until so many are at work at once, also where rows are walked along joins and joins are verified,
+//! and count the pieces.
 ghost use Rattle.std.specs.Prelude.{◌≤◌};
 
-use crate::catalogs::by_rows;
+use crate::answers::{Written, expect_written};
+use crate::catalogs::{AS_IT_IS, BY_ROWS, Edit, edited};
 use crate::stores::{Parts, Store, loss_of};
 use crate::{joined, three_orders};
 use cs_board::Gate;
@@ -69,93 +71,134 @@ impl Gate for Crowd {
     }
 }
 
-/// A store, the sites that it loses, how many workers there are, and in how many pieces of one row it is rebuilt and checked.
+/// A store, the sites that it loses, what that costs, and its rows.
 #[derive(Drop)]
-struct Trial<'a> {
-    text: &'a str,
+struct Lost<'a> {
+    catalog: &'a str,
     parts: &'a Parts<'a>,
-    lost: &'a [u8],
-    workers: u32,
-    rebuilt: u64,
-    checked: u64,
-    ghost some: { 1 ≤ workers },
-    ghost few: { workers ≤ 64 },
+    sites: &'a [u8],
+    files: &'a [Written],
+    rows: u64,
 }
+
+const JOINED: Lost = Lost {
+    catalog: SPLIT_COLUMNS,
+    parts: &joined::WHOLE,
+    sites: &[3],
+    files: &joined::LOST,
+    rows: 2,
+};
+
+const THREE_ORDERS: Lost = Lost {
+    catalog: THREE_PROJECTIONS,
+    parts: &three_orders::WHOLE,
+    sites: &[2, 3],
+    files: &three_orders::LOST,
+    rows: 4,
+};
+
+/// Edits of the catalog, for how many lost sites the store is checked, how many workers there are, how many rows a piece of
+/// work has, and in how many pieces the store is rebuilt, and checked.
+type Trial<'a> = (&'a [Edit<'a>], u8, u32, u32, u64, u64);
+
+// The pieces are those of the files, the walk, the images, the joins, and the columns that are written.
+const OF_JOINED: [Trial; 2] = [
+    (AS_IT_IS, 1, 2, 1, 2 + 2 + 2 + 2 + 6, 3 + 2 + 3 + 2),
+    (BY_ROWS, 1, 2, 1, 2 + 4 + 2 + 2 + 6, 3 + 6 + 3 + 2),
+];
+
+const OF_THREE_ORDERS: [Trial; 5] = [
+    (AS_IT_IS, 1, 4, 1, 4 + 4 + 4 + 8, 6 + 4 + 6),
+    (BY_ROWS, 1, 4, 1, 4 + 8 + 4 + 8, 6 + 12 + 6),
+    (AS_IT_IS, 2, 2, 1, 20, 16),
+    (BY_ROWS, 2, 2, 1, 24, 24),
+    (AS_IT_IS, 2, 2, 2, 14, 14),
+];
 
 /// Asks that so many workers rebuild the store, and check it, at once in each round.
 fn expect_at_once(
     rt: &(impl Threads + Sync + AllocGlobal + Abort),
-    trial: &Trial,
+    lost: &Lost,
+    trials: &[Trial],
 ) -> Result<(), Fail> {
-    let store = Store::made(rt.alloc(), trial.text, trial.parts)?;
-    let loss = loss_of(trial.lost);
-    let gate = Crowd::of(trial.workers - 1);
+    for (edits, k, workers, cut, rebuilt, checked) in trials {
+        let text = edited(rt.alloc(), lost.catalog, edits)?;
+        let store = Store::made(rt.alloc(), text.as_str(), lost.parts)?;
+        let (workers, cut) = (*workers, *cut);
+        if workers < 1 || workers > 64 || cut < 1 || cut > 1_048_576 {
+            return Err(Fail::from("no such work"));
+        }
+        expect_rebuilt(rt, &store, lost, workers, cut, *rebuilt)?;
+        expect_checked(rt, &store, *k, lost.rows, workers, cut, *checked);
+    }
+    Ok(())
+}
+
+fn expect_rebuilt(
+    rt: &(impl Threads + Sync + Abort),
+    store: &Store,
+    lost: &Lost,
+    workers: u32,
+    cut: u32,
+    pieces: u64,
+) -> Result<(), Fail>
+    requires workers { (1 ≤ workers) × (workers ≤ 64) }
+    requires cut { (1 ≤ cut) × (cut ≤ 1048576) }
+{
+    let gate = Crowd::of(workers - 1);
     let out = rebuild_gated(
         rt,
         store.alloc,
         &store.catalog,
         &store.files,
-        loss,
-        trial.workers,
-        1,
+        loss_of(lost.sites),
+        workers,
+        cut,
         &gate,
     );
-    assert!(rt; out.is_ok());
-    assert_eq!(rt; gate.gave_up.load(Ordering::SeqCst), 0);
-    assert_eq!(rt; gate.entered.load(Ordering::SeqCst), trial.rebuilt);
-    let gate = Crowd::of(trial.workers - 1);
-    let rows = check_gated(
+    expect_entered(rt, &gate, pieces);
+    match out {
+        Ok(files) => expect_written(rt, store.alloc, &files, lost.files),
+        Err(_) => Err(Fail::from("refused")),
+    }
+}
+
+fn expect_checked(
+    rt: &(impl Threads + Sync + Abort),
+    store: &Store,
+    k: u8,
+    rows: u64,
+    workers: u32,
+    cut: u32,
+    pieces: u64,
+)
+    requires workers { (1 ≤ workers) × (workers ≤ 64) }
+    requires cut { (1 ≤ cut) × (cut ≤ 1048576) }
+{
+    let gate = Crowd::of(workers - 1);
+    let answer = check_gated(
         rt,
         store.alloc,
         &store.catalog,
         &store.files,
-        1,
-        trial.workers,
-        1,
+        k,
+        workers,
+        cut,
         &gate,
     );
-    assert!(rt; rows.is_ok());
-    assert_eq!(rt; gate.gave_up.load(Ordering::SeqCst), 0);
-    assert_eq!(rt; gate.entered.load(Ordering::SeqCst), trial.checked);
-    Ok(())
+    expect_entered(rt, &gate, pieces);
+    assert_eq!(rt; answer, Ok(rows));
 }
 
-// The pieces are those of the files, the walk, the images, the joins, and the columns that are written.
+/// Asks that so many pieces were entered, and none held in vain.
+fn expect_entered(rt: &impl Abort, gate: &Crowd, pieces: u64) {
+    let entered = gate.entered.load(Ordering::SeqCst);
+    let gave_up = gate.gave_up.load(Ordering::SeqCst);
+    assert_eq!(rt; (entered, gave_up), (pieces, 0));
+}
+
 #[test]
 fn workers_are_at_work_at_once(rt: HostRuntime) -> Result<(), Fail> {
-    let split = by_rows(rt.alloc(), SPLIT_COLUMNS)?;
-    let three = by_rows(rt.alloc(), THREE_PROJECTIONS)?;
-    for (text, rebuilt, checked) in [
-        (SPLIT_COLUMNS, 2 + 2 + 2 + 2 + 6, 3 + 2 + 3 + 2),
-        (split.as_str(), 2 + 4 + 2 + 2 + 6, 3 + 6 + 3 + 2),
-    ] {
-        expect_at_once(
-            &rt,
-            &Trial {
-                text,
-                parts: &joined::WHOLE,
-                lost: &[3],
-                workers: 2,
-                rebuilt,
-                checked,
-            },
-        )?;
-    }
-    for (text, rebuilt, checked) in [
-        (THREE_PROJECTIONS, 4 + 4 + 4 + 8, 6 + 4 + 6),
-        (three.as_str(), 4 + 8 + 4 + 8, 6 + 12 + 6),
-    ] {
-        expect_at_once(
-            &rt,
-            &Trial {
-                text,
-                parts: &three_orders::WHOLE,
-                lost: &[2, 3],
-                workers: 4,
-                rebuilt,
-                checked,
-            },
-        )?;
-    }
-    Ok(())
+    expect_at_once(&rt, &JOINED, &OF_JOINED)?;
+    expect_at_once(&rt, &THREE_ORDERS, &OF_THREE_ORDERS)
 }

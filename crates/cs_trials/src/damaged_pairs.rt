@@ -1,10 +1,9 @@
 //! Of two damaged files the lesser is named, by each number of workers and each cut.
-use crate::answers::{Ask, expect};
+use crate::answers::{Ask, Refusal, expect};
 use crate::stores::Store;
 use crate::three_orders::WHOLE;
 use cs_schema::FileName;
 use cs_schema::samples::THREE_PROJECTIONS;
-use cs_store::Fault;
 use std::marker::Sync;
 use std::process::Abort;
 use std::test::Fail;
@@ -31,7 +30,7 @@ fn expect_lesser(
 ) -> Result<(), Fail> {
     store.change_last_byte(lesser)?;
     store.change_last_byte(greater)?;
-    let asks = [Ask::Refused(&[2, 3], Fault::Damaged(lesser))];
+    let asks = [Ask::Refused(&[2, 3], Refusal::Damaged(lesser))];
     expect(rt, store, &asks)?;
     store.change_last_byte(lesser)?;
     store.change_last_byte(greater)

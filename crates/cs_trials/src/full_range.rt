@@ -1,12 +1,9 @@
 //! One row more than a range may have.
-ghost use Rattle.std.specs.Prelude.{◌≤◌};
-
-use cs_catalog::read_catalog;
-use cs_delta::write_empty_delta;
+use crate::files::Column;
+use crate::stores::Store;
 use cs_rebuild::rebuild;
-use cs_schema::{FileName, Loss};
-use cs_segment::seal::seal;
-use cs_store::{Fault, FileSet};
+use cs_schema::Loss;
+use cs_store::Fault;
 use std::alloc::Global;
 use std::test::Fail;
 
@@ -37,48 +34,35 @@ joins = []
 /// The most rows of a range.
 const MOST: u32 = 1_048_576;
 
-/// So many ints from `first` on, each 1 more than the one before it, in blocks of 128: the first of a block in full, and
-/// the others by their differences.
-fn push_rising(out: &mut Vec<u8>, first: u32, rows: u32) -> Result<(), Fail> {
-    for block in 0..rows.div_ceil(128) {
-        let at = block.saturating_mul(128);
-        out.extend_from_slice(&at.saturating_add(1).to_be_bytes())?;
-        let value = i64::from(first).wrapping_add(i64::from(at));
-        out.extend_from_slice(&value.to_be_bytes())?;
-        let others = rows.saturating_sub(at).saturating_sub(1).min(127);
-        out.extend_from_slice(&[1; 127][..others as usize])?;
+/// Puts a segment of the first projection with so many ints, each 1 more than the one before it.
+fn put_rising(store: &mut Store, s: u16, first: i64, rows: u32) -> Result<(), Fail> {
+    let mut ints = Vec::new(store.alloc);
+    for row in 0..rows {
+        ints.push(first.saturating_add(i64::from(row)))?;
     }
-    Ok(())
+    store.put_segment(0, s, &[Column::Ints(&ints)])
 }
 
-/// Puts a segment of the first projection with these ints, and its delta without items.
-fn put_rising(alloc: Global, files: &mut FileSet, s: u16, first: u32, rows: u32) -> Result<(), Fail>
-    requires { rows ≤ 1048576 }
-{
-    let mut text = Vec::new(alloc);
-    push_rising(&mut text, first, rows)?;
-    let size = u32::try_from(text.len()).ok().ok_or("too long a column")?;
-    let mut out = Vec::from_slice(alloc, b"CSSEG001\0\0")?;
-    out.extend_from_slice(&s.to_be_bytes())?;
-    out.extend_from_slice(&rows.to_be_bytes())?;
-    out.extend_from_slice(&[0, 1, 3, 1])?;
-    out.extend_from_slice(&size.to_be_bytes())?;
-    out.extend_from_slice(&text)?;
-    seal(&mut out)?;
-    files.put(FileName::Seg { p: 0, s }, out)?;
-    let delta = write_empty_delta(alloc, 0, s, rows)?;
-    files.put(FileName::Del { p: 0, s }, delta)?;
-    Ok(())
+/// The first segment has as many rows as fit into a range, and the second one more.
+fn with_one_too_many(alloc: Global) -> Result<Store, Fail> {
+    let mut store = Store::of(alloc, CUT_WHERE_FULL)?;
+    put_rising(&mut store, 0, 0, MOST)?;
+    put_rising(&mut store, 1, i64::from(MOST), 1)?;
+    Ok(store)
 }
 
 #[test]
 fn a_range_with_one_row_too_many_is_full(rt: HostRuntime) -> Result<(), Fail> {
-    let alloc = rt.alloc();
-    let catalog = read_catalog(alloc, CUT_WHERE_FULL.as_bytes())?;
-    let mut files = FileSet::new(alloc)?;
-    put_rising(alloc, &mut files, 0, 0, MOST)?;
-    put_rising(alloc, &mut files, 1, MOST, 1)?;
-    let lost = rebuild(&rt, alloc, &catalog, &files, Loss::none().with(2), 2, MOST);
-    assert_eq!(rt; lost.err(), Some(Fault::Full { p: 1, s: 0 }));
+    let store = with_one_too_many(rt.alloc())?;
+    let out = rebuild(
+        &rt,
+        store.alloc,
+        &store.catalog,
+        &store.files,
+        Loss::none().with(2),
+        2,
+        MOST,
+    );
+    assert_eq!(rt; out.err(), Some(Fault::Full { p: 1, s: 0 }));
     Ok(())
 }

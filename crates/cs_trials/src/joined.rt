@@ -1,17 +1,15 @@
 //! Two projections that hold the table between them, along joins, and a third that holds it alone.
-use crate::answers::{Ask, Written, expect};
-use crate::catalogs::by_rows;
-use crate::stores::{Column, Delta, Parts, Store, loss_of};
+use crate::answers::{Ask, Refusal, Written};
+use crate::catalogs::{AS_IT_IS, BY_ROWS};
+use crate::files::{Column, Delta};
+use crate::plays::{Play, Step, expect_plays};
+use crate::stores::Parts;
 use cs_schema::FileName;
 use cs_schema::samples::SPLIT_COLUMNS;
-use cs_store::Fault;
-use std::marker::Sync;
-use std::process::Abort;
 use std::test::Fail;
-use std::thread::Threads;
 
 /// The rows (2, 6, 8), (1, 5, 9), and no changes of two rows.
-const LOST: [Written; 2] = [
+pub const LOST: [Written; 2] = [
     (
         FileName::Seg { p: 2, s: 0 },
         113,
@@ -67,70 +65,81 @@ const FIRST_FILES: [FileName; 4] = [
     FileName::Jix { p: 1, s: 0, q: 0 },
 ];
 
+const SOUND: [Step; 1] = [Step::Asked(&[
+    Ask::Checked(1, Ok(2)),
+    Ask::Checked(2, Err(Refusal::Unsafe(&[1, 3]))),
+    Ask::Files(&[3], &LOST),
+    Ask::Restored(&[1], &FIRST_FILES),
+    Ask::Refused(&[9], Refusal::Site),
+])];
+
+const SOUND_PLAYS: [Play; 2] = [(AS_IT_IS, &WHOLE, &SOUND), (BY_ROWS, &WHOLE, &SOUND)];
+
 #[test]
 fn sound(rt: HostRuntime) -> Result<(), Fail> {
-    let rows = by_rows(rt.alloc(), SPLIT_COLUMNS)?;
-    let asks = [
-        Ask::Checked(1, Ok(2)),
-        Ask::Checked(2, Err(Fault::Unsafe(loss_of(&[1, 3])))),
-        Ask::Files(&[3], &LOST),
-        Ask::Restored(&[1], &FIRST_FILES),
-        Ask::Refused(&[9], Fault::Site),
-    ];
-    for text in [SPLIT_COLUMNS, rows.as_str()] {
-        let store = Store::made(rt.alloc(), text, &WHOLE)?;
-        expect(&rt, &store, &asks)?;
-    }
-    Ok(())
+    expect_plays(&rt, SPLIT_COLUMNS, &SOUND_PLAYS)
 }
 
-const SECOND_ASTRAY: Fault = Fault::Astray { p: 0, s: 0, row: 1 };
+const SECOND_ASTRAY: Refusal = Refusal::Astray { p: 0, s: 0, row: 1 };
 
-const FIRST_ASTRAY: Fault = Fault::Astray { p: 0, s: 0, row: 0 };
+const FIRST_ASTRAY: Refusal = Refusal::Astray { p: 0, s: 0, row: 0 };
 
-const BACK_ASTRAY: Fault = Fault::Astray { p: 1, s: 0, row: 0 };
+const BACK_ASTRAY: Refusal = Refusal::Astray { p: 1, s: 0, row: 0 };
 
-const MISPLACED: Fault = Fault::Misplaced { p: 2, s: 0 };
+const MISPLACED: Refusal = Refusal::Misplaced { p: 2, s: 0 };
 
-const MISLED: Fault = Fault::Misled { p: 1, s: 0, q: 0 };
+const MISLED: Refusal = Refusal::Misled { p: 1, s: 0, q: 0 };
+
+/// Join indexes to the second projection, each in the place of the one before it, and what they come to.
+const ASTRAY_TO_SECOND: [Step; 6] = [
+    Step::Join(0, 0, 1, &[(0, 3), (0, 1)]),
+    Step::Asked(&[
+        Ask::Checked(1, Err(SECOND_ASTRAY)),
+        Ask::Refused(&[3], SECOND_ASTRAY),
+    ]),
+    Step::Join(0, 0, 1, &[(0, 1), (0, 1)]),
+    Step::Asked(&[
+        Ask::Checked(1, Err(FIRST_ASTRAY)),
+        Ask::Refused(&[3], FIRST_ASTRAY),
+    ]),
+    Step::Join(0, 0, 1, &[(0, 2), (0, 3)]),
+    Step::Asked(&[Ask::Checked(1, Err(MISPLACED)), Ask::Refused(&[3], MISLED)]),
+];
+
+const ASTRAY_TO_SECOND_PLAYS: [Play; 2] = [
+    (AS_IT_IS, &WHOLE, &ASTRAY_TO_SECOND),
+    (BY_ROWS, &WHOLE, &ASTRAY_TO_SECOND),
+];
 
 #[test]
 fn join_to_the_second_leads_astray(rt: HostRuntime) -> Result<(), Fail> {
-    let rows = by_rows(rt.alloc(), SPLIT_COLUMNS)?;
-    for text in [SPLIT_COLUMNS, rows.as_str()] {
-        for (to_second, checked, rebuilt) in [
-            ([(0, 3), (0, 1)], SECOND_ASTRAY, SECOND_ASTRAY),
-            ([(0, 1), (0, 1)], FIRST_ASTRAY, FIRST_ASTRAY),
-            ([(0, 2), (0, 3)], MISPLACED, MISLED),
-        ] {
-            let mut store = Store::made(rt.alloc(), text, &WHOLE)?;
-            store.put_join(0, 0, 1, &to_second)?;
-            let asks = [Ask::Checked(1, Err(checked)), Ask::Refused(&[3], rebuilt)];
-            expect(&rt, &store, &asks)?;
-        }
-    }
-    Ok(())
+    expect_plays(&rt, SPLIT_COLUMNS, &ASTRAY_TO_SECOND_PLAYS)
 }
 
+const ALL_MISLED: Step = Step::Asked(&[Ask::Checked(1, Err(MISLED)), Ask::Refused(&[3], MISLED)]);
+
+const BACK_ALL_ASTRAY: Step = Step::Asked(&[
+    Ask::Checked(1, Err(BACK_ASTRAY)),
+    Ask::Refused(&[3], BACK_ASTRAY),
+]);
+
+/// Leads two rows to each other's.
+const CROSSED: Step = Step::Join(1, 0, 0, &[(0, 0), (0, 1), (0, 2)]);
+
+/// Leads a row to none.
+const BEYOND: Step = Step::Join(1, 0, 0, &[(0, 0), (0, 3), (0, 1)]);
+
 // The rows of an anchor don't follow the join back, but by rows each row is walked.
+const ASTRAY_TO_FIRST_PLAYS: [Play; 2] = [
+    (AS_IT_IS, &WHOLE, &[CROSSED, ALL_MISLED, BEYOND, ALL_MISLED]),
+    (
+        BY_ROWS,
+        &WHOLE,
+        &[CROSSED, ALL_MISLED, BEYOND, BACK_ALL_ASTRAY],
+    ),
+];
+
 #[test]
 fn join_to_the_first_leads_astray(rt: HostRuntime) -> Result<(), Fail> {
-    let rows = by_rows(rt.alloc(), SPLIT_COLUMNS)?;
-    for (text, to_first, checked, rebuilt) in [
-        (SPLIT_COLUMNS, [(0, 0), (0, 1), (0, 2)], MISLED, MISLED),
-        (rows.as_str(), [(0, 0), (0, 1), (0, 2)], MISLED, MISLED),
-        (SPLIT_COLUMNS, [(0, 0), (0, 3), (0, 1)], MISLED, MISLED),
-        (
-            rows.as_str(),
-            [(0, 0), (0, 3), (0, 1)],
-            BACK_ASTRAY,
-            BACK_ASTRAY,
-        ),
-    ] {
-        let mut store = Store::made(rt.alloc(), text, &WHOLE)?;
-        store.put_join(1, 0, 0, &to_first)?;
-        let asks = [Ask::Checked(1, Err(checked)), Ask::Refused(&[3], rebuilt)];
-        expect(&rt, &store, &asks)?;
-    }
-    Ok(())
+    expect_plays(&rt, SPLIT_COLUMNS, &ASTRAY_TO_FIRST_PLAYS)
 }

@@ -16,9 +16,9 @@ mod damaged_pairs;
 #[cfg(test)]
 mod file_sweeps;
 #[cfg(test)]
-mod full_range;
+mod files;
 #[cfg(test)]
-mod gates;
+mod full_range;
 #[cfg(test)]
 mod joined;
 #[cfg(test)]
@@ -29,6 +29,8 @@ mod laws;
 mod one_segment;
 #[cfg(test)]
 mod orders_by_ties;
+#[cfg(test)]
+mod plays;
 #[cfg(test)]
 mod stores;
 #[cfg(test)]

@@ -1,10 +1,11 @@
 //! Two projections of one segment each, on two sites. Each site alone holds the table.
-use crate::answers::{Ask, Written, expect};
-use crate::catalogs::{by_rows, changed};
-use crate::stores::{Column, Delta, Parts, Store, loss_of};
+use crate::answers::{Ask, Refusal, Written};
+use crate::catalogs::{AS_IT_IS, BY_ROWS};
+use crate::files::{Column, Delta};
+use crate::plays::{Play, Step, expect_plays};
+use crate::stores::Parts;
 use cs_schema::FileName;
 use cs_schema::samples::TWO_ORDERS;
-use cs_store::Fault;
 use std::test::Fail;
 
 const SEG: FileName = FileName::Seg { p: 0, s: 0 };
@@ -78,74 +79,123 @@ const THEN_CHANGED: Delta = Delta {
     items: b"\x02\0\0\0\x01\x02\0\0\0\0\0\0\0\x01\x03\0\0\0\0\x01\0\0\0\0\0\0\0\x0f",
 };
 
+const DEL_UNCHANGED: Written = (DEL, 56, UNCHANGED);
+
+const DEL_THREE_UNCHANGED: Written = (DEL, 56, THREE_UNCHANGED);
+
+const AS_PLAIN: [Written; 2] = [(SEG, 126, PLAIN), DEL_UNCHANGED];
+
+const AS_RUNS: [Written; 2] = [(SEG, 158, RUNS), DEL_UNCHANGED];
+
+const AS_BITMAPS: [Written; 2] = [(SEG, 145, BITMAPS), DEL_UNCHANGED];
+
+/// The codes of the lost segment, and its files.
+const CODES: [Play; 3] = [
+    (
+        AS_IT_IS,
+        &SURVIVOR,
+        &[Step::Asked(&[Ask::Files(&[1], &AS_PLAIN)])],
+    ),
+    (
+        &[("codes = [4, 4]", "codes = [4, 1]")],
+        &SURVIVOR,
+        &[Step::Asked(&[Ask::Files(&[1], &AS_RUNS)])],
+    ),
+    (
+        &[("codes = [4, 4]", "codes = [3, 2]")],
+        &SURVIVOR,
+        &[Step::Asked(&[Ask::Files(&[1], &AS_BITMAPS)])],
+    ),
+];
+
 #[test]
 fn is_rebuilt_in_the_codes_of_the_catalog_with_ample_memory(rt: HostRuntime) -> Result<(), Fail> {
-    let cases: [(&str, Written); 3] = [
-        ("codes = [4, 4]", (SEG, 126, PLAIN)),
-        ("codes = [4, 1]", (SEG, 158, RUNS)),
-        ("codes = [3, 2]", (SEG, 145, BITMAPS)),
-    ];
-    for (codes, segment) in cases {
-        let text = changed(rt.alloc(), TWO_ORDERS, "codes = [4, 4]", codes)?;
-        let store = Store::made(rt.alloc(), text.as_str(), &SURVIVOR)?;
-        let files = [segment, (DEL, 56, UNCHANGED)];
-        expect(&rt, &store, &[Ask::Files(&[1], &files)])?;
-    }
-    Ok(())
+    expect_plays(&rt, TWO_ORDERS, &CODES)
 }
+
+const ONE_LESS: [Written; 2] = [(SEG, 110, WITHOUT_THE_SECOND), DEL_THREE_UNCHANGED];
+
+const ONE_LESS_AND_CHANGED: [Written; 2] = [(SEG, 110, WITH_A_NEW_CELL), DEL_THREE_UNCHANGED];
+
+const CHANGED_IMAGES: [Step; 4] = [
+    Step::Delta(1, 0, FIRST_DELETED),
+    Step::Asked(&[Ask::Files(&[1], &ONE_LESS)]),
+    Step::Delta(1, 0, THEN_CHANGED),
+    Step::Asked(&[Ask::Files(&[1], &ONE_LESS_AND_CHANGED)]),
+];
+
+const CHANGED_IMAGES_PLAY: [Play; 1] = [(AS_IT_IS, &SURVIVOR, &CHANGED_IMAGES)];
 
 #[test]
 fn is_rebuilt_from_a_changed_image(rt: HostRuntime) -> Result<(), Fail> {
-    let cases: [(Delta, Written); 2] = [
-        (FIRST_DELETED, (SEG, 110, WITHOUT_THE_SECOND)),
-        (THEN_CHANGED, (SEG, 110, WITH_A_NEW_CELL)),
-    ];
-    for (delta, segment) in cases {
-        let mut store = Store::made(rt.alloc(), TWO_ORDERS, &SURVIVOR)?;
-        store.put_delta(1, 0, delta)?;
-        let files = [segment, (DEL, 56, THREE_UNCHANGED)];
-        expect(&rt, &store, &[Ask::Files(&[1], &files)])?;
-    }
-    Ok(())
+    expect_plays(&rt, TWO_ORDERS, &CHANGED_IMAGES_PLAY)
 }
+
+/// The segment that the first site has.
+const FIRST_SEGMENT: Step = Step::Segment(
+    0,
+    0,
+    &[Column::Ints(&[1, 2, 3, 4]), Column::Ints(&[30, 10, 20, 10])],
+);
+
+const WHOLE_ANSWERS: [Step; 2] = [
+    FIRST_SEGMENT,
+    Step::Asked(&[
+        Ask::Checked(1, Ok(4)),
+        Ask::Checked(2, Err(Refusal::Unsafe(&[1, 2]))),
+        Ask::Files(&[], &[]),
+        Ask::Restored(&[1], &[SEG, DEL]),
+        Ask::Refused(&[3], Refusal::Site),
+        Ask::Refused(&[1, 2], Refusal::Unsafe(&[1, 2])),
+    ]),
+];
+
+const WHOLE_ANSWERS_PLAY: [Play; 1] = [(AS_IT_IS, &SURVIVOR, &WHOLE_ANSWERS)];
 
 #[test]
 fn loses_sites_of_the_catalog(rt: HostRuntime) -> Result<(), Fail> {
-    let mut store = Store::made(rt.alloc(), TWO_ORDERS, &SURVIVOR)?;
-    let columns = [Column::Ints(&[1, 2, 3, 4]), Column::Ints(&[30, 10, 20, 10])];
-    store.put_segment(0, 0, &columns)?;
-    let asks = [
-        Ask::Checked(1, Ok(4)),
-        Ask::Checked(2, Err(Fault::Unsafe(loss_of(&[1, 2])))),
-        Ask::Files(&[], &[]),
-        Ask::Restored(&[1], &[SEG, DEL]),
-        Ask::Refused(&[3], Fault::Site),
-        Ask::Refused(&[1, 2], Fault::Unsafe(loss_of(&[1, 2]))),
-    ];
-    expect(&rt, &store, &asks)
+    expect_plays(&rt, TWO_ORDERS, &WHOLE_ANSWERS_PLAY)
 }
+
+const IN_PART: [Step; 4] = [
+    Step::Asked(&[Ask::Refused(&[2], Refusal::Missing(SEG))]),
+    FIRST_SEGMENT,
+    Step::LastByteCut(SEG),
+    Step::Asked(&[Ask::Refused(&[2], Refusal::Damaged(SEG))]),
+];
+
+const IN_PART_PLAY: [Play; 1] = [(AS_IT_IS, &NO_PARTS, &IN_PART)];
 
 #[test]
 fn survives_in_part(rt: HostRuntime) -> Result<(), Fail> {
-    let mut store = Store::made(rt.alloc(), TWO_ORDERS, &NO_PARTS)?;
-    expect(&rt, &store, &[Ask::Refused(&[2], Fault::Missing(SEG))])?;
-    let columns = [Column::Ints(&[1, 2, 3, 4]), Column::Ints(&[30, 10, 20, 10])];
-    store.put_segment(0, 0, &columns)?;
-    store.cut_last_byte(SEG)?;
-    expect(&rt, &store, &[Ask::Refused(&[2], Fault::Damaged(SEG))])
+    expect_plays(&rt, TWO_ORDERS, &IN_PART_PLAY)
 }
+
+const ONE_KEY_TWICE: Step = Step::Segment(
+    1,
+    0,
+    &[Column::Ints(&[2, 4, 3, 2]), Column::Ints(&[10, 10, 20, 30])],
+);
+
+const MISPLACED: Refusal = Refusal::Misplaced { p: 1, s: 0 };
+
+const KEYS_TWICE: [Play; 2] = [
+    (
+        AS_IT_IS,
+        &NO_PARTS,
+        &[
+            ONE_KEY_TWICE,
+            Step::Asked(&[Ask::Refused(&[1], Refusal::Twice)]),
+        ],
+    ),
+    (
+        BY_ROWS,
+        &NO_PARTS,
+        &[ONE_KEY_TWICE, Step::Asked(&[Ask::Refused(&[1], MISPLACED)])],
+    ),
+];
 
 #[test]
 fn has_a_primary_key_twice(rt: HostRuntime) -> Result<(), Fail> {
-    let rows = by_rows(rt.alloc(), TWO_ORDERS)?;
-    let columns = [Column::Ints(&[2, 4, 3, 2]), Column::Ints(&[10, 10, 20, 30])];
-    for (text, fault) in [
-        (TWO_ORDERS, Fault::Twice),
-        (rows.as_str(), Fault::Misplaced { p: 1, s: 0 }),
-    ] {
-        let mut store = Store::made(rt.alloc(), text, &NO_PARTS)?;
-        store.put_segment(1, 0, &columns)?;
-        expect(&rt, &store, &[Ask::Refused(&[1], fault)])?;
-    }
-    Ok(())
+    expect_plays(&rt, TWO_ORDERS, &KEYS_TWICE)
 }

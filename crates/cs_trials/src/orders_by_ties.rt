@@ -1,13 +1,15 @@
 //! Rows of one sort value stand by primary key.
 ghost use Rattle.std.specs.Prelude.{◌≤◌};
 
-use crate::stores::{Column, Store, loss_of};
+use crate::files::Column;
+use crate::stores::{Store, loss_of};
 use cs_rebuild::rebuild;
 use cs_schema::samples::TWO_ORDERS;
 use cs_schema::{Cells, FileName};
 use cs_segment::segment::{Segment, read_segment};
 use std::alloc::Global;
 use std::marker::Sync;
+use std::process::Abort;
 use std::test::Fail;
 use std::thread::Threads;
 
@@ -51,16 +53,28 @@ fn id_at(segment: &Segment, position: usize) -> Option<i64> {
     }
 }
 
+/// Positions in the second order, and the ids there.
+const IDS: [(usize, i64); 4] = [(0, 0), (714, 4998), (715, 1), (1_430, 2)];
+
+fn expect_ids(rt: &impl Abort, store: &Store, bytes: &[u8]) -> Result<(), Fail> {
+    if store.catalog.projection_count() <= 1 {
+        return Err(Fail::from("there is no second order"));
+    }
+    let Ok(segment) = read_segment(store.alloc, &store.catalog, 1, 0, bytes) else {
+        return Err(Fail::from("the segment is not read"));
+    };
+    for (position, id) in IDS.iter() {
+        assert_eq!(rt; id_at(&segment, *position), Some(*id), "at {position}");
+    }
+    Ok(())
+}
+
 #[test]
 fn ties_stand_by_primary_key(rt: HostRuntime) -> Result<(), Fail> {
     let store = remainders(rt.alloc())?;
     let bytes = second_order(&rt, &store, 1)?;
     assert_eq!(rt; bytes.len(), 80_062);
-    assert!(rt; 1 < store.catalog.projection_count());
-    let segment = read_segment(rt.alloc(), &store.catalog, 1, 0, &bytes)?;
-    for (position, id) in [(0, 0), (714, 4998), (715, 1), (1_430, 2)] {
-        assert_eq!(rt; id_at(&segment, position), Some(id), "at {position}");
-    }
+    expect_ids(&rt, &store, &bytes)?;
     for workers in [2, 64] {
         let others = second_order(&rt, &store, workers)?;
         assert_eq!(rt; others.as_slice(), bytes.as_slice(), "{workers} workers");

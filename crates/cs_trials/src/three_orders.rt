@@ -1,10 +1,11 @@
 //! Three projections of two segments each, on six sites, without joins.
-use crate::answers::{Ask, Written, expect};
-use crate::catalogs::by_rows;
-use crate::stores::{Column, Parts, Store, loss_of};
+use crate::answers::{Ask, Refusal, Written};
+use crate::catalogs::{AS_IT_IS, BY_ROWS};
+use crate::files::Column;
+use crate::plays::{Play, Step, expect_plays};
+use crate::stores::Parts;
 use cs_schema::FileName;
 use cs_schema::samples::THREE_PROJECTIONS;
-use cs_store::Fault;
 use std::test::Fail;
 
 /// The rows (3, 20), (4, 10) of the first projection.
@@ -93,30 +94,36 @@ pub const WHOLE: Parts = Parts {
     joins: &[],
 };
 
+const SOUND: [Step; 1] = [Step::Asked(&[
+    Ask::Checked(2, Ok(4)),
+    Ask::Checked(3, Err(Refusal::Unsafe(&[1, 3, 5]))),
+    Ask::Files(&[2, 3], &LOST),
+])];
+
+const SOUND_PLAYS: [Play; 2] = [(AS_IT_IS, &WHOLE, &SOUND), (BY_ROWS, &WHOLE, &SOUND)];
+
 #[test]
 fn sound_with_ample_memory(rt: HostRuntime) -> Result<(), Fail> {
-    let rows = by_rows(rt.alloc(), THREE_PROJECTIONS)?;
-    let asks = [
-        Ask::Checked(2, Ok(4)),
-        Ask::Checked(3, Err(Fault::Unsafe(loss_of(&[1, 3, 5])))),
-        Ask::Files(&[2, 3], &LOST),
-    ];
-    for text in [THREE_PROJECTIONS, rows.as_str()] {
-        let store = Store::made(rt.alloc(), text, &WHOLE)?;
-        expect(&rt, &store, &asks)?;
-    }
-    Ok(())
+    expect_plays(&rt, THREE_PROJECTIONS, &SOUND_PLAYS)
 }
 
 // No projection is left whole, but no row stands in lost segments alone.
+const SEGMENT_OF_EACH_PLAYS: [Play; 2] = [
+    (
+        BY_ROWS,
+        &WHOLE,
+        &[Step::Asked(&[Ask::Files(&[1, 3, 6], &LOST_OF_EACH)])],
+    ),
+    (
+        AS_IT_IS,
+        &WHOLE,
+        &[Step::Asked(&[Ask::Refused(&[1, 3, 6], Refusal::Unsafe(&[1, 3, 6]))])],
+    ),
+];
+
 #[test]
 fn segment_of_each_lost(rt: HostRuntime) -> Result<(), Fail> {
-    let rows = by_rows(rt.alloc(), THREE_PROJECTIONS)?;
-    let store = Store::made(rt.alloc(), rows.as_str(), &WHOLE)?;
-    expect(&rt, &store, &[Ask::Files(&[1, 3, 6], &LOST_OF_EACH)])?;
-    let store = Store::made(rt.alloc(), THREE_PROJECTIONS, &WHOLE)?;
-    let fault = Fault::Unsafe(loss_of(&[1, 3, 6]));
-    expect(&rt, &store, &[Ask::Refused(&[1, 3, 6], fault)])
+    expect_plays(&rt, THREE_PROJECTIONS, &SEGMENT_OF_EACH_PLAYS)
 }
 
 const LOST_SEGMENT: FileName = FileName::Seg { p: 0, s: 1 };
@@ -125,22 +132,22 @@ const FIRST: FileName = FileName::Seg { p: 0, s: 0 };
 
 const LEAST_DAMAGED: FileName = FileName::Seg { p: 1, s: 1 };
 
+const LATER_DAMAGED: FileName = FileName::Del { p: 2, s: 0 };
+
 // What stands under a lost name is not looked at, and of the others the least name is told.
+const DAMAGED: [Step; 7] = [
+    Step::OneByte(LOST_SEGMENT),
+    Step::Asked(&[Ask::Files(&[2, 3], &LOST)]),
+    Step::LastByteChanged(LEAST_DAMAGED),
+    Step::LastByteChanged(LATER_DAMAGED),
+    Step::Asked(&[Ask::Refused(&[2, 3], Refusal::Damaged(LEAST_DAMAGED))]),
+    Step::TakenAway(FIRST),
+    Step::Asked(&[Ask::Refused(&[2, 3], Refusal::Missing(FIRST))]),
+];
+
+const DAMAGED_PLAYS: [Play; 2] = [(AS_IT_IS, &WHOLE, &DAMAGED), (BY_ROWS, &WHOLE, &DAMAGED)];
+
 #[test]
 fn files_damaged(rt: HostRuntime) -> Result<(), Fail> {
-    let rows = by_rows(rt.alloc(), THREE_PROJECTIONS)?;
-    for text in [THREE_PROJECTIONS, rows.as_str()] {
-        let mut store = Store::made(rt.alloc(), text, &WHOLE)?;
-        let byte = Vec::from_slice(rt.alloc(), &[0])?;
-        store.files.put(LOST_SEGMENT, byte)?;
-        expect(&rt, &store, &[Ask::Files(&[2, 3], &LOST)])?;
-        store.change_last_byte(LEAST_DAMAGED)?;
-        store.change_last_byte(FileName::Del { p: 2, s: 0 })?;
-        let damaged = Fault::Damaged(LEAST_DAMAGED);
-        expect(&rt, &store, &[Ask::Refused(&[2, 3], damaged)])?;
-        store.take_away(FIRST)?;
-        let missing = Fault::Missing(FIRST);
-        expect(&rt, &store, &[Ask::Refused(&[2, 3], missing)])?;
-    }
-    Ok(())
+    expect_plays(&rt, THREE_PROJECTIONS, &DAMAGED_PLAYS)
 }

@@ -1,9 +1,12 @@
 //! A gate is told of a piece before the piece is begun.
-ghost use Rattle.std.specs.Prelude.{◌≡◌, true, ⊤};
+ghost use Rattle.std.specs.Prelude.{◌≡◌, ◌≤◌, true, ⊤};
 
 use cs_board::{Gate, Work, run};
+use std::alloc::Global;
+use std::marker::Sync;
 use std::sync::atomic::{AtomicU64, Ordering};
 use std::test::Fail;
+use std::thread::Threads;
 
 /// How many pieces there are.
 const PIECES: u32 = 7;
@@ -76,19 +79,30 @@ impl Work for Noting<'_> {
     ghost one_fault = { λ work i f g below at here. at ∙ sym here };
 }
 
+/// The pieces that were begun, those that the gate was told of, and those that it was told of too late.
+fn notes_of<R: Threads + Sync>(rt: &R, alloc: Global, workers: u32) -> Result<[u64; 3], Fail>
+    requires { (1 ≤ workers) × (workers ≤ 64) }
+{
+    let notes = Notes {
+        told: AtomicU64::new(0),
+        begun: AtomicU64::new(0),
+        late: AtomicU64::new(0),
+    };
+    match run(rt, alloc, workers, &Noting { notes: &notes }, &notes) {
+        Ok(_) => Ok([
+            notes.begun.load(Ordering::SeqCst),
+            notes.told.load(Ordering::SeqCst),
+            notes.late.load(Ordering::SeqCst),
+        ]),
+        Err(_) => Err(Fail::from("the run did not end")),
+    }
+}
+
 #[test]
 fn gates_are_told_before_a_piece_is_begun(rt: HostRuntime) -> Result<(), Fail> {
     for workers in [1, 2, 4] {
-        let notes = Notes {
-            told: AtomicU64::new(0),
-            begun: AtomicU64::new(0),
-            late: AtomicU64::new(0),
-        };
-        let done = run(&rt, rt.alloc(), workers, &Noting { notes: &notes }, &notes);
-        assert!(rt; done.is_ok(), "{workers} workers");
-        assert_eq!(rt; notes.begun.load(Ordering::SeqCst), 127);
-        assert_eq!(rt; notes.told.load(Ordering::SeqCst), 127);
-        assert_eq!(rt; notes.late.load(Ordering::SeqCst), 0);
+        let notes = notes_of(&rt, rt.alloc(), workers)?;
+        assert_eq!(rt; notes, [127, 127, 0], "{workers} workers");
     }
     Ok(())
 }

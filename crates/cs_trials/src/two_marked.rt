@@ -1,9 +1,10 @@
 //! Rows that lead to lost segments of two projections on one walk.
-use crate::answers::{Ask, expect};
-use crate::catalogs::by_rows;
-use crate::stores::{Column, Parts, Store};
+use crate::answers::{Ask, Refusal};
+use crate::catalogs::{AS_IT_IS, BY_ROWS};
+use crate::files::Column;
+use crate::plays::{Play, Step, expect_plays};
+use crate::stores::Parts;
 use cs_schema::FileName;
-use cs_store::Fault;
 use std::test::Fail;
 
 /// The first projection has each column; the two others are cut in two, and each joins with the first both ways.
@@ -78,19 +79,29 @@ const LOST: [FileName; 8] = [
     FileName::Jix { p: 2, s: 0, q: 0 },
 ];
 
+const SOUND: Step = Step::Asked(&[Ask::Checked(0, Ok(4)), Ask::Restored(&[2, 4], &LOST)]);
+
+/// The second row has no key in the third projection.
+const NO_KEY: Step = Step::Join(0, 0, 2, &[(1, 1), (0, 0), (1, 2), (0, 1)]);
+
+const MISLED: Refusal = Refusal::Misled { p: 0, s: 0, q: 2 };
+
+const ASTRAY: Refusal = Refusal::Astray { p: 0, s: 0, row: 1 };
+
+const PLAYS: [Play; 2] = [
+    (
+        AS_IT_IS,
+        &WHOLE,
+        &[SOUND, NO_KEY, Step::Asked(&[Ask::Refused(&[2, 4], MISLED)])],
+    ),
+    (
+        BY_ROWS,
+        &WHOLE,
+        &[SOUND, NO_KEY, Step::Asked(&[Ask::Refused(&[2, 4], ASTRAY)])],
+    ),
+];
+
 #[test]
 fn rows_lead_to_two_lost_segments(rt: HostRuntime) -> Result<(), Fail> {
-    let rows = by_rows(rt.alloc(), STAR)?;
-    let asks = [Ask::Checked(0, Ok(4)), Ask::Restored(&[2, 4], &LOST)];
-    for (text, fault) in [
-        (STAR, Fault::Misled { p: 0, s: 0, q: 2 }),
-        (rows.as_str(), Fault::Astray { p: 0, s: 0, row: 1 }),
-    ] {
-        let mut store = Store::made(rt.alloc(), text, &WHOLE)?;
-        expect(&rt, &store, &asks)?;
-        // the second row has no key in the third projection
-        store.put_join(0, 0, 2, &[(1, 1), (0, 0), (1, 2), (0, 1)])?;
-        expect(&rt, &store, &[Ask::Refused(&[2, 4], fault)])?;
-    }
-    Ok(())
+    expect_plays(&rt, STAR, &PLAYS)
 }

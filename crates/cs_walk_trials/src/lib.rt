@@ -6,4 +6,6 @@ mod safety;
 #[cfg(test)]
 mod sort_orders;
 #[cfg(test)]
+mod stores;
+#[cfg(test)]
 mod walks;

@@ -2,13 +2,13 @@
 ghost use Rattle.std.specs.Prelude.{◌<◌, length};
 
 use super::{LOWER, NO_ITEMS, UPPER, one_column, sealed, single, stacked};
+use crate::made::are_made;
 use cs_codec::Cell;
 use cs_delta::{CellPlace, Delta, Item, ItemCell, read_delta, write_empty_delta};
 use cs_schema::Catalog;
 use cs_segment::fault::FileFault;
 use cs_segment::seal::seal;
 use std::alloc::{AllocError, Global};
-use std::test::Fail;
 
 /// No changes of four rows.
 const EMPTY: &[u8] = b"CSDEL001\0\0\0\0\0\0\0\x04\0\0\0\x04\0\0\0\0";
@@ -98,11 +98,24 @@ fn written(alloc: Global, delta: &Delta) -> Result<Vec<u8>, AllocError> {
     Ok(out)
 }
 
+/// Whether the bytes are the file of what is read of them.
+fn is_written_again(alloc: Global, catalog: &Catalog, bytes: &[u8]) -> bool
+    requires { 0 < length catalog.now.projections }
+{
+    match read_delta(alloc, catalog, 0, 0, bytes) {
+        Ok(delta) => are_made(written(alloc, &delta), bytes),
+        Err(_) => false,
+    }
+}
+
 /// Whether the bytes are the file of no delta.
 fn is_damaged(alloc: Global, catalog: &Catalog, bytes: &[u8]) -> bool
     requires { 0 < length catalog.now.projections }
 {
-    read_delta(alloc, catalog, 0, 0, bytes).err() == Some(FileFault::Damaged)
+    matches!(
+        read_delta(alloc, catalog, 0, 0, bytes),
+        Err(FileFault::Damaged)
+    )
 }
 
 /// Whether each proper prefix of the file, and the file with any byte changed, is damaged.
@@ -125,74 +138,84 @@ fn is_one_text(alloc: Global, catalog: &Catalog, body: &[u8]) -> Result<bool, Al
     for at in 0..body.len() {
         let mut bytes = changed(alloc, body, at)?;
         seal(&mut bytes)?;
-        let is_well = match read_delta(alloc, catalog, 0, 0, &bytes) {
-            Ok(delta) => written(alloc, &delta)?.as_slice() == bytes.as_slice(),
-            Err(fault) => fault == FileFault::Damaged,
-        };
-        if !is_well {
+        if !is_damaged(alloc, catalog, &bytes) && !is_written_again(alloc, catalog, &bytes) {
             return Ok(false);
         }
     }
     Ok(true)
 }
 
-/// What the file of a delta without its digest is not, or is: written again, and guarded against changes.
-fn is_read_exactly(alloc: Global, catalog: &Catalog, body: &[u8]) -> Result<bool, FileFault>
+/// Whether the file of a delta, given without its digest, is written again as it was, and guarded against changes.
+fn is_read_exactly(alloc: Global, catalog: &Catalog, body: &[u8]) -> Result<bool, AllocError>
     requires { 0 < length catalog.now.projections }
 {
     let bytes = sealed(alloc, body)?;
-    let delta = read_delta(alloc, catalog, 0, 0, &bytes)?;
-    if written(alloc, &delta)?.as_slice() != bytes.as_slice() {
-        return Ok(false);
+    Ok(
+        is_written_again(alloc, catalog, &bytes)
+            && is_guarded(alloc, catalog, &bytes)?
+            && is_one_text(alloc, catalog, body)?,
+    )
+}
+
+#[test]
+fn files_are_read_exactly_with_ample_memory(rt: HostRuntime) {
+    let catalog = one_column(&rt);
+    let one_layer = single(rt.alloc(), LOWER).expect(&rt, "one layer");
+    let two_layers = stacked(rt.alloc(), 2, &[LOWER, UPPER]).expect(&rt, "two layers");
+    for body in [EMPTY, one_layer.as_slice(), two_layers.as_slice()] {
+        assert!(rt;
+            is_read_exactly(rt.alloc(), &catalog, body) == Ok(true),
+            "{body:?}"
+        );
     }
-    Ok(is_guarded(alloc, catalog, &bytes)? && is_one_text(alloc, catalog, body)?)
 }
 
 #[test]
-fn files_are_read_exactly_with_ample_memory(rt: HostRuntime) -> Result<(), Fail> {
-    let catalog = one_column(rt.alloc())?;
-    assert!(rt; is_read_exactly(rt.alloc(), &catalog, EMPTY)?, "no items");
-    let body = single(rt.alloc(), LOWER)?;
-    assert!(rt; is_read_exactly(rt.alloc(), &catalog, &body)?, "one layer");
-    let body = stacked(rt.alloc(), 2, &[LOWER, UPPER])?;
-    assert!(rt; is_read_exactly(rt.alloc(), &catalog, &body)?, "two layers");
-    Ok(())
+fn empty_deltas_are_written_with_ample_memory(rt: HostRuntime) {
+    let wanted = sealed(rt.alloc(), EMPTY).expect(&rt, "a file");
+    assert!(rt; are_made(write_empty_delta(rt.alloc(), 0, 0, 4), &wanted));
+}
+
+/// How many layers a file says that it has, and those that it has. No delta has such a file.
+const NO_DELTAS: [(u8, &[&[u8]]); 7] = [
+    (0, &[]),
+    (4, &[NO_ITEMS, NO_ITEMS, NO_ITEMS, NO_ITEMS]),
+    (2, &[LOWER, SAME_KEY]),
+    (2, &[LOWER, FIFTH_ROW]),
+    (2, &[LOWER]),
+    (1, &[LOWER, UPPER]),
+    (1, &[HOSTILE]),
+];
+
+/// Whether layers make the file of no delta.
+fn are_damaged(
+    alloc: Global,
+    catalog: &Catalog,
+    count: u8,
+    layers: &[&[u8]],
+) -> Result<bool, AllocError>
+    requires { 0 < length catalog.now.projections }
+{
+    let mut bytes = stacked(alloc, count, layers)?;
+    seal(&mut bytes)?;
+    Ok(is_damaged(alloc, catalog, &bytes))
 }
 
 #[test]
-fn empty_deltas_are_written_with_ample_memory(rt: HostRuntime) -> Result<(), Fail> {
-    let none = write_empty_delta(rt.alloc(), 0, 0, 4)?;
-    assert_eq!(rt; none.as_slice(), sealed(rt.alloc(), EMPTY)?.as_slice());
-    Ok(())
-}
-
-#[test]
-fn bytes_that_are_no_delta(rt: HostRuntime) -> Result<(), Fail> {
-    let catalog = one_column(rt.alloc())?;
-    let cases: [(u8, &[&[u8]]); 7] = [
-        (0, &[]),
-        (4, &[NO_ITEMS, NO_ITEMS, NO_ITEMS, NO_ITEMS]),
-        (2, &[LOWER, SAME_KEY]),
-        (2, &[LOWER, FIFTH_ROW]),
-        (2, &[LOWER]),
-        (1, &[LOWER, UPPER]),
-        (1, &[HOSTILE]),
-    ];
-    for (i, (count, layers)) in cases.iter().enumerate() {
-        let body = stacked(rt.alloc(), *count, layers)?;
-        let bytes = sealed(rt.alloc(), &body)?;
-        assert!(rt; is_damaged(rt.alloc(), &catalog, &bytes), "case {i}");
+fn bytes_that_are_no_delta(rt: HostRuntime) {
+    let catalog = one_column(&rt);
+    for (i, (count, layers)) in NO_DELTAS.iter().enumerate() {
+        let damaged = are_damaged(rt.alloc(), &catalog, *count, layers);
+        assert!(rt; damaged == Ok(true), "case {i}");
     }
-    Ok(())
 }
 
 #[test]
-fn bytes_after_the_digest(rt: HostRuntime) -> Result<(), Fail> {
-    let catalog = one_column(rt.alloc())?;
-    let mut bytes = sealed(rt.alloc(), EMPTY)?;
-    bytes.push(0)?;
+fn bytes_after_the_digest(rt: HostRuntime) {
+    let catalog = one_column(&rt);
+    let mut bytes = sealed(rt.alloc(), EMPTY).expect(&rt, "a file");
+    bytes.push(0).expect(&rt, "a byte more");
     assert!(rt; is_damaged(rt.alloc(), &catalog, &bytes));
-    Ok(())
 }
 
 /// Why the delta of three rows with this highest key is refused.
@@ -207,10 +230,9 @@ fn fault_at(alloc: Global, catalog: &Catalog, top: u32) -> Result<Option<FileFau
 }
 
 #[test]
-fn highest_key_has_a_limit(rt: HostRuntime) -> Result<(), Fail> {
-    let catalog = one_column(rt.alloc())?;
+fn highest_key_has_a_limit(rt: HostRuntime) {
+    let catalog = one_column(&rt);
     for (top, fault) in [(4_194_304, None), (4_194_305, Some(FileFault::Damaged))] {
-        assert_eq!(rt; fault_at(rt.alloc(), &catalog, top)?, fault, "{top}");
+        assert!(rt; fault_at(rt.alloc(), &catalog, top) == Ok(fault), "{top}");
     }
-    Ok(())
 }

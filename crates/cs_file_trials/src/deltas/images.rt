@@ -7,7 +7,6 @@ use cs_schema::{Catalog, Cells};
 use cs_segment::fault::FileFault;
 use cs_segment::segment::read_segment;
 use std::alloc::Global;
-use std::test::Fail;
 
 /// The segment 10, 20, 30.
 const THREE_ROWS: &[u8] = b"CSSEG001\0\0\0\0\0\0\0\x03\0\x01\x04\x01\0\0\0\x18\
@@ -17,8 +16,8 @@ const THREE_ROWS: &[u8] = b"CSSEG001\0\0\0\0\0\0\0\x03\0\x01\x04\x01\0\0\0\x18\
 const TWO_ROWS: &[u8] = b"CSSEG001\0\0\0\0\0\0\0\x02\0\x01\x04\x01\0\0\0\x10\
 \0\0\0\0\0\0\0\x0a\0\0\0\0\0\0\0\x14";
 
-/// The image of a segment and a delta that stand in files without their digests.
-pub fn image_of(
+/// The image of a segment and a delta that stand in these files.
+fn image_of_files(
     alloc: Global,
     catalog: &Catalog,
     segment: &[u8],
@@ -28,9 +27,24 @@ pub fn image_of(
     ensures { IfOk result (λ image. 0 < length image.kinds) }
 {
     let _width = catalog.width(0);
-    let segment = read_segment(alloc, catalog, 0, 0, &sealed(alloc, segment)?)?;
-    let delta = read_delta(alloc, catalog, 0, 0, &sealed(alloc, delta)?)?;
+    let segment = read_segment(alloc, catalog, 0, 0, segment)?;
+    let delta = read_delta(alloc, catalog, 0, 0, delta)?;
     merge(alloc, &segment, &delta)
+}
+
+/// The image of a segment and a delta that stand in files, given without their digests.
+pub fn image_of(
+    alloc: Global,
+    catalog: &Catalog,
+    segment: &[u8],
+    delta: &[u8],
+) -> Result<Image, FileFault>
+    requires { 0 < length catalog.now.projections }
+    ensures { IfOk result (λ image. 0 < length image.kinds) }
+{
+    let segment = sealed(alloc, segment)?;
+    let delta = sealed(alloc, delta)?;
+    image_of_files(alloc, catalog, &segment, &delta)
 }
 
 /// Whether an image has these ints in its first column, and these keys.
@@ -96,31 +110,31 @@ fn is_merged(alloc: Global, catalog: &Catalog, wanted: &Layers) -> Result<bool, 
 }
 
 #[test]
-fn layers_are_merged_from_the_lowest_with_ample_memory(rt: HostRuntime) -> Result<(), Fail> {
-    let catalog = one_column(rt.alloc())?;
+fn layers_are_merged_from_the_lowest_with_ample_memory(rt: HostRuntime) {
+    let catalog = one_column(&rt);
     for (i, wanted) in MERGED.iter().enumerate() {
-        assert!(rt; is_merged(rt.alloc(), &catalog, wanted)?, "case {i}");
+        assert!(rt;
+            is_merged(rt.alloc(), &catalog, wanted) == Ok(true),
+            "case {i}"
+        );
     }
-    Ok(())
 }
 
 #[test]
-fn changes_are_merged_with_ample_memory(rt: HostRuntime) -> Result<(), Fail> {
-    let catalog = one_column(rt.alloc())?;
-    let delta = single(rt.alloc(), LOWER)?;
-    let image = image_of(rt.alloc(), &catalog, THREE_ROWS, &delta)?;
+fn changes_are_merged_with_ample_memory(rt: HostRuntime) {
+    let catalog = one_column(&rt);
+    let delta = single(rt.alloc(), LOWER).expect(&rt, "a delta");
+    let image = image_of(rt.alloc(), &catalog, THREE_ROWS, &delta).expect(&rt, "an image");
     assert!(rt; shows(&image, &[5, 10, 30, 40], &[4, 1, 3, 5]) && image.top() == 5);
     for (key, position) in [(5, Some(3)), (0, None), (2, None), (6, None)] {
-        assert_eq!(rt; image.position_of(key), position, "key {key}");
+        assert!(rt; image.position_of(key) == position, "key {key}");
     }
-    Ok(())
 }
 
 #[test]
-fn changes_of_another_number_of_rows(rt: HostRuntime) -> Result<(), Fail> {
-    let catalog = one_column(rt.alloc())?;
-    let delta = single(rt.alloc(), LOWER)?;
+fn changes_of_another_number_of_rows(rt: HostRuntime) {
+    let catalog = one_column(&rt);
+    let delta = single(rt.alloc(), LOWER).expect(&rt, "a delta");
     let image = image_of(rt.alloc(), &catalog, TWO_ROWS, &delta);
-    assert_eq!(rt; image.err(), Some(FileFault::Damaged));
-    Ok(())
+    assert!(rt; matches!(image, Err(FileFault::Damaged)));
 }

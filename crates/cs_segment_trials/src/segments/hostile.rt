@@ -1,10 +1,6 @@
 //! Bytes that are no segment.
-use super::{PLAIN, sealed};
-use cs_catalog::read_catalog;
-use cs_schema::samples::TWO_ORDERS;
-use cs_segment::{FileFault, read_segment};
+use super::{PLAIN, is_damaged, sealed, two_orders};
 use std::alloc::{AllocError, Global};
-use std::test::Fail;
 
 /// The bytes with four of them the highest.
 fn with_a_high_count(alloc: Global, bytes: &[u8], at: usize) -> Result<Vec<u8>, AllocError> {
@@ -16,29 +12,23 @@ fn with_a_high_count(alloc: Global, bytes: &[u8], at: usize) -> Result<Vec<u8>, 
 }
 
 #[test]
-fn hostile_bytes_are_damaged(rt: HostRuntime) -> Result<(), Fail> {
+fn hostile_bytes_are_damaged(rt: HostRuntime) {
     let alloc = rt.alloc();
-    let catalog = read_catalog(alloc, TWO_ORDERS.as_bytes())?;
-    assert_eq!(rt; catalog.projection_count(), 2);
-    let mut left_over = PLAIN.to_vec(alloc)?;
-    left_over.push(0)?;
-    let many_rows = with_a_high_count(alloc, PLAIN, 12)?;
-    let long_body = with_a_high_count(alloc, PLAIN, 20)?;
+    let catalog = two_orders(&rt);
+    let mut left_over = PLAIN.to_vec(alloc).expect(&rt, "a body");
+    left_over.push(0).expect(&rt, "a byte more");
+    let many_rows = with_a_high_count(alloc, PLAIN, 12).expect(&rt, "many rows");
+    let long_body = with_a_high_count(alloc, PLAIN, 20).expect(&rt, "a long body");
     for body in [&left_over, &many_rows, &long_body] {
-        let segment = read_segment(alloc, &catalog, 0, 0, &sealed(alloc, body)?);
-        assert_eq!(rt; segment.err(), Some(FileFault::Damaged));
+        let bytes = sealed(alloc, body).expect(&rt, "a file");
+        assert!(rt; is_damaged(alloc, &catalog, 0, 0, &bytes));
     }
-    Ok(())
 }
 
 #[test]
-fn bytes_after_the_digest_are_damaged(rt: HostRuntime) -> Result<(), Fail> {
-    let alloc = rt.alloc();
-    let catalog = read_catalog(alloc, TWO_ORDERS.as_bytes())?;
-    assert_eq!(rt; catalog.projection_count(), 2);
-    let mut bytes = sealed(alloc, PLAIN)?;
-    bytes.push(0)?;
-    let segment = read_segment(alloc, &catalog, 0, 0, &bytes);
-    assert_eq!(rt; segment.err(), Some(FileFault::Damaged));
-    Ok(())
+fn bytes_after_the_digest_are_damaged(rt: HostRuntime) {
+    let catalog = two_orders(&rt);
+    let mut bytes = sealed(rt.alloc(), PLAIN).expect(&rt, "a file");
+    bytes.push(0).expect(&rt, "a byte more");
+    assert!(rt; is_damaged(rt.alloc(), &catalog, 0, 0, &bytes));
 }

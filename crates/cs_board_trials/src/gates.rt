@@ -1,11 +1,9 @@
 //! Gates that hold workers, and count the pieces that are begun.
-ghost use Rattle.std.specs.Prelude.{◌≡◌, ◌≤◌, false};
+ghost use Rattle.std.specs.Prelude.{◌≡◌, ◌<◌, ◌≤◌, ◌^◌, false, length};
 
-use super::{SquareFault, Squares};
-use crate::{Gate, RunFault, Work, run, run_in_turn};
-use std::process::Abort;
+use crate::squares::{Squares, has_answers, is_refused_at_one};
+use cs_board::{Gate, Work, run, run_in_turn};
 use std::sync::atomic::{AtomicU64, Ordering};
-use std::test::Fail;
 use std::thread::Threads;
 
 // A gate that waits in vain gives up after so many turns.
@@ -35,41 +33,40 @@ impl Gate for Holding {
     }
 }
 
-// Asks for the squares of so many workers, at a gate that holds each piece below a number until all pieces are begun.
-fn expect_held(
-    rt: &(impl Threads + Sync + AllocGlobal + Abort),
+// Whether so many workers answer the squares, at a gate that holds each piece below a number until all pieces are begun.
+fn square_while_held(
+    rt: &(impl Threads + Sync + AllocGlobal),
     workers: u32,
     below: u32,
     wanted: &[u64],
-) -> Result<(), Fail>
-    requires { (1 ≤ workers) × (workers ≤ 64) }
+) -> bool
+    requires workers { (1 ≤ workers) × (workers ≤ 64) }
+    requires few { length wanted.now < 2 ^ 32 }
 {
-    let pieces = u32::try_from(wanted.len()).ok().ok_or("too many")?;
+    let pieces = wanted.len() as u32;
     let gate = Holding {
         below,
         until: u64::from(pieces),
         entered: AtomicU64::new(0),
         gave_up: AtomicU64::new(0),
     };
-    let answers = run(rt, rt.alloc(), workers, &Squares::of(pieces), &gate)?;
-    assert_eq!(rt; answers.as_slice(), wanted);
-    assert_eq!(rt; gate.gave_up.load(Ordering::SeqCst), 0);
-    Ok(())
+    let round = run(rt, rt.alloc(), workers, &Squares::of(pieces), &gate);
+    has_answers(round, wanted) && gate.gave_up.load(Ordering::SeqCst) == 0
 }
 
 #[test]
-fn two_workers_at_once(rt: HostRuntime) -> Result<(), Fail> {
-    expect_held(&rt, 2, 1, &[0, 1])
+fn two_workers_at_once(rt: HostRuntime) {
+    assert!(rt; square_while_held(&rt, 2, 1, &[0, 1]));
 }
 
 #[test]
-fn four_workers_at_once(rt: HostRuntime) -> Result<(), Fail> {
-    expect_held(&rt, 4, 4, &[0, 1, 4, 9])
+fn four_workers_at_once(rt: HostRuntime) {
+    assert!(rt; square_while_held(&rt, 4, 4, &[0, 1, 4, 9]));
 }
 
 #[test]
-fn shares_are_not_fixed(rt: HostRuntime) -> Result<(), Fail> {
-    expect_held(&rt, 2, 1, &[0, 1, 4, 9])
+fn shares_are_not_fixed(rt: HostRuntime) {
+    assert!(rt; square_while_held(&rt, 2, 1, &[0, 1, 4, 9]));
 }
 
 // Counts the pieces that are begun, and adds up their numbers.
@@ -98,8 +95,8 @@ impl Gate for Counting {
 #[test]
 fn skips_above_the_least_fault(rt: HostRuntime) {
     let gate = Counting::new();
-    let answer = run(&rt, rt.alloc(), 1, &Squares::refused_at(5, 1, 3), &gate);
-    assert!(rt; matches!(answer, Err(RunFault::At(1, SquareFault::Refused(1)))));
+    let round = run(&rt, rt.alloc(), 1, &Squares::refused_at(5, 1, 3), &gate);
+    assert!(rt; is_refused_at_one(round));
     assert_eq!(rt; gate.entered.load(Ordering::SeqCst), 2);
     assert_eq!(rt; gate.total.load(Ordering::SeqCst), 1);
 }
@@ -147,15 +144,14 @@ impl Work for Told<'_> {
 }
 
 #[test]
-fn gate_is_told_before_a_piece_is_begun(rt: HostRuntime) -> Result<(), Fail> {
+fn gate_is_told_before_a_piece_is_begun(rt: HostRuntime) {
     let gate = Counting::new();
     let told = Told {
         count: 3,
         gate: &gate,
     };
-    let answers = run(&rt, rt.alloc(), 1, &told, &gate)?;
-    assert_eq!(rt; answers.as_slice(), [1u64, 2, 3].as_slice());
-    let answers = run_in_turn(rt.alloc(), &told, &gate)?;
-    assert_eq!(rt; answers.as_slice(), [4u64, 5, 6].as_slice());
-    Ok(())
+    let round = run(&rt, rt.alloc(), 1, &told, &gate);
+    assert!(rt; has_answers(round, &[1, 2, 3]));
+    let round = run_in_turn(rt.alloc(), &told, &gate);
+    assert!(rt; has_answers(round, &[4, 5, 6]));
 }

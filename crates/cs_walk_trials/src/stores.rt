@@ -1,0 +1,129 @@
+//! Small stores, whose files are written by hand. A store that can't be made ends the trial.
+pub mod catalogs;
+mod files;
+
+ghost use Rattle.std.specs.Prelude.{◌≡◌, ◌<◌, length, map, IfOk};
+ghost use Rattle.cs_segment.specs.SegmentData.{kinds_at};
+ghost use Rattle.cs_rows.specs.Survivors.{HasRoom, HoldsImages};
+
+use cs_catalog::read_catalog;
+use cs_delta::{Image, merge, read_delta};
+use cs_jix::read_jix;
+use cs_rows::by_rows::walk_rows;
+use cs_rows::counts::{anchor_rows, surviving_row_count};
+use cs_rows::range::{WalkFault, walk_range};
+use cs_rows::{Survivors, Walked};
+use cs_safety::plan;
+use cs_schema::{Catalog, Loss};
+use cs_segment::segment::read_segment;
+use files::{row_count, write_delta, write_join, write_segment};
+use std::alloc::{AllocGlobal, Global};
+use std::process::Abort;
+
+fn image(
+    rt: &(impl Abort + AllocGlobal),
+    catalog: &Catalog,
+    p: u16,
+    s: u16,
+    columns: &[&[i64]],
+    deleted: &[u32],
+) -> Image
+    requires { p < length catalog.now.projections }
+    ensures { result.kinds ≡ kinds_at catalog.now p }
+{
+    let _projections = catalog.projection_count();
+    let mut file = Vec::new(rt.alloc());
+    write_segment(&mut file, p, s, columns).expect(rt, "a segment's file");
+    let Ok(segment) = read_segment(rt.alloc(), catalog, p, s, file.as_slice()) else {
+        panic!(rt; "the segment is not read");
+    };
+    let mut file = Vec::new(rt.alloc());
+    write_delta(&mut file, p, s, row_count(columns), deleted).expect(rt, "a delta's file");
+    let Ok(delta) = read_delta(rt.alloc(), catalog, p, s, file.as_slice()) else {
+        panic!(rt; "the delta is not read");
+    };
+    let Ok(image) = merge(rt.alloc(), &segment, &delta) else {
+        panic!(rt; "they are not merged");
+    };
+    image
+}
+
+#[derive(Drop)]
+pub struct Store {
+    pub catalog: Catalog,
+    pub survivors: Survivors,
+    pub ghost room: { HasRoom catalog survivors },
+    pub ghost made: { HoldsImages catalog survivors },
+}
+
+impl Store {
+    pub fn of(rt: &(impl Abort + AllocGlobal), text: &str) -> Store {
+        let Ok(catalog) = read_catalog(rt.alloc(), text.as_bytes()) else {
+            panic!(rt; "the catalog is not read");
+        };
+        let Ok(survivors) = Survivors::new(rt.alloc(), &catalog) else {
+            panic!(rt; "no memory");
+        };
+        Store { catalog, survivors }
+    }
+
+    pub fn put_segment(
+        &mut self,
+        rt: &(impl Abort + AllocGlobal),
+        p: u16,
+        s: u16,
+        columns: &[&[i64]],
+        deleted: &[u32],
+    ) {
+        assert!(rt; p < self.catalog.projection_count() && s < self.catalog.segments(p));
+        let image = image(rt, &self.catalog, p, s, columns, deleted);
+        self.survivors.put_image(p as usize, s as usize, image);
+    }
+
+    pub fn put_join(
+        &mut self,
+        rt: &(impl Abort + AllocGlobal),
+        p: u16,
+        s: u16,
+        q: u16,
+        entries: &[(u16, u32)],
+    ) {
+        let count = self.catalog.projection_count();
+        assert!(rt; p < count && q < count && s < self.catalog.segments(p));
+        let mut file = Vec::new(rt.alloc());
+        write_join(&mut file, p, s, q, entries).expect(rt, "a join index's file");
+        let Ok(join) = read_jix(rt.alloc(), p, s, q, file.as_slice()) else {
+            panic!(rt; "the join index is not read");
+        };
+        self.survivors
+            .put_join(p as usize, s as usize, q as usize, join);
+    }
+
+    /// Rows of the anchor of the loss's plan. Want of memory where there is no plan, or no such rows.
+    pub fn walk(
+        &self,
+        alloc: Global,
+        loss: Loss,
+        from: usize,
+        to: usize,
+    ) -> Result<Walked, WalkFault>
+        ensures { IfOk result (λ walked. walked.kinds ≡ map (λ c. c.kind) self.now.catalog.columns) }
+    {
+        let _projections = self.catalog.projection_count();
+        let Some(plan) = plan(&self.catalog, loss) else {
+            return Err(WalkFault::Memory);
+        };
+        if from > to || anchor_rows(&self.catalog, &plan, &self.survivors) < to {
+            return Err(WalkFault::Memory);
+        }
+        walk_range(alloc, &self.catalog, &plan, &self.survivors, from, to)
+    }
+
+    /// The rows of all surviving segments.
+    pub fn walk_by_rows(&self, alloc: Global, loss: Loss) -> Result<Walked, WalkFault>
+        ensures { IfOk result (λ walked. walked.kinds ≡ map (λ c. c.kind) self.now.catalog.columns) }
+    {
+        let count = surviving_row_count(&self.catalog, loss, &self.survivors);
+        walk_rows(alloc, &self.catalog, loss, &self.survivors, 0, count)
+    }
+}
