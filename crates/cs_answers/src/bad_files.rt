@@ -1,5 +1,6 @@
 //! Bad files in lines, one for each, or one for a site of which no file is left.
 use crate::badness::badness_word;
+use crate::changed::{ChangedFile, fault_word};
 use cs_inspection::Badness;
 use cs_reports::{SitedFile, site_of, with_site};
 use cs_schema::{Catalog, FileName, Loss};
@@ -33,6 +34,8 @@ impl fmt::Display for FileLines<'_> {
 pub struct BadLines<'a> {
     pub catalog: &'a Catalog,
     pub bad: &'a [(FileName, Badness)],
+    /// Those of which a manifest says another digest.
+    pub changed: &'a [ChangedFile],
 }
 
 /// How many files a catalog has on a site.
@@ -93,7 +96,7 @@ impl fmt::Display for BadLines<'_> {
                 let line = FileLine {
                     catalog: self.catalog,
                     name: *name,
-                    what: badness_word(badness),
+                    what: fault_word(self.changed, *name, badness),
                 };
                 write!(f, "{line}")?;
             } else if !has(said, site) {

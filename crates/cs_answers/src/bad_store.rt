@@ -1,7 +1,8 @@
 //! Why a verb refuses a store, and what to do next.
 use crate::bad_files::FileLines;
 use cs_inspection::Badness;
-use cs_places::RESTORING;
+use cs_overview::Unfinished;
+use cs_places::WorkKind;
 use cs_schema::{Catalog, FileName};
 use std::fmt;
 
@@ -21,35 +22,20 @@ impl fmt::Display for BadStore<'_> {
     }
 }
 
-/// That a restore of a store was left unfinished, and what to do next, as lines.
-#[derive(Clone, Copy)]
-pub struct Unfinished<'a> {
-    /// The folder of the store.
-    pub store: &'a str,
-}
-
-impl fmt::Display for Unfinished<'_> {
-    fn fmt<W: fmt::Write>(&self, f: &mut fmt::Formatter<W>) -> fmt::Result {
-        let store = self.store;
-        writeln!(f, "unfinished restore: {RESTORING} is there")?;
-        writeln!(f, "next: pinepolo restore --resume {store}")
-    }
-}
-
 /// What to do next about a store whose files hold no table, as lines.
 #[derive(Clone, Copy)]
 pub struct NextStep<'a> {
     /// The folder of the store.
     pub store: &'a str,
-    /// Whether a restore was left unfinished.
-    pub is_restoring: bool,
+    /// Which kind of work on it was left unfinished.
+    pub unfinished: Option<WorkKind>,
 }
 
 impl fmt::Display for NextStep<'_> {
     fn fmt<W: fmt::Write>(&self, f: &mut fmt::Formatter<W>) -> fmt::Result {
         let store = self.store;
-        if self.is_restoring {
-            let unfinished = Unfinished { store };
+        if let Some(kind) = self.unfinished {
+            let unfinished = Unfinished { kind, store };
             return write!(f, "{unfinished}");
         }
         writeln!(f, "next: pinepolo diagnose {store}")

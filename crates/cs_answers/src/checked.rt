@@ -3,9 +3,9 @@ ghost use Rattle.std.specs.Prelude.{◌≡◌};
 ghost use Rattle.cs_answers.specs.Statuses.{checked_status};
 
 use crate::bad_files::FileLines;
-use crate::bad_store::Unfinished;
 use cs_inspection::Badness;
-use cs_places::{DEVICE, DONE, REFUSED};
+use cs_overview::Unfinished;
+use cs_places::{DEVICE, DONE, REFUSED, WorkKind};
 use cs_reports::{FaultWords, Next, SiteWords, site_of, with_site};
 use cs_safety::safe;
 use cs_schema::{Catalog, FileName, Loss};
@@ -36,8 +36,8 @@ pub struct Checked {
     pub is_unreadable: bool,
     /// What it came to.
     pub verdict: Verdict,
-    /// Whether a restore was left unfinished.
-    pub is_restoring: bool,
+    /// Which kind of work on it was left unfinished.
+    pub unfinished: Option<WorkKind>,
 }
 
 impl Checked {
@@ -107,8 +107,11 @@ impl Checked {
 
     /// What to do next.
     fn write_next<W: fmt::Write>(&self, f: &mut fmt::Formatter<W>) -> fmt::Result {
-        if self.is_restoring {
-            let unfinished = Unfinished { store: "STORE" };
+        if let Some(kind) = self.unfinished {
+            let unfinished = Unfinished {
+                kind,
+                store: "STORE",
+            };
             return write!(f, "{unfinished}");
         }
         match &self.verdict {

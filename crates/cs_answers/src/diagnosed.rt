@@ -3,12 +3,14 @@ ghost use Rattle.std.specs.Prelude.{◌≡◌, IfOk};
 ghost use Rattle.cs_answers.specs.Statuses.{diagnosed_status};
 
 use crate::bad_files::BadLines;
+use crate::changed::{ChangedFile, reads_well};
 use crate::disputed::DisputeLines;
 use crate::explained::{ExplanationLines, VerdictLine};
 use crate::unrecoverable::BringBack;
 use cs_design::fatal_losses;
 use cs_file_diagnosis::{Diagnosis, TableDisputes, Verdict};
-use cs_places::{DONE, REFUSED, RESTORING};
+use cs_overview::Unfinished;
+use cs_places::{DONE, REFUSED, WorkKind};
 use cs_reports::SiteWords;
 use cs_schema::{Catalog, Loss};
 use std::alloc::{AllocError, Global};
@@ -31,8 +33,10 @@ pub struct Diagnosed {
     pub fatal: Vec<Loss>,
     /// Where each two tables differ, where they were compared.
     pub disputes: Vec<TableDisputes>,
-    /// Whether a restore was left unfinished.
-    pub is_restoring: bool,
+    /// The bad files of which a manifest says another digest.
+    pub changed: Vec<ChangedFile>,
+    /// Which kind of work on it was left unfinished.
+    pub unfinished: Option<WorkKind>,
 }
 
 /// The losses that must not come beside the first explanation, where one table explains a store.
@@ -48,23 +52,18 @@ fn fatal_beside(
 }
 
 impl Diagnosed {
-    /// What a diagnosis of a store with this catalog found.
-    pub fn new(alloc: Global, catalog: Catalog, diagnosis: Diagnosis) -> Result<Self, AllocError>
-        ensures { IfOk result (λ found. (found.catalog ≡ catalog) × (found.diagnosis ≡ diagnosis)) }
-    {
-        Diagnosed::compared(alloc, catalog, diagnosis, Vec::new(alloc), false)
-    }
-
-    /// What a diagnosis found, where its tables differ, and whether a restore was left unfinished.
-    pub fn compared(
+    /// What a diagnosis found, where its tables differ, which files a manifest says are others, and which work was left
+    /// unfinished.
+    pub fn new(
         alloc: Global,
         catalog: Catalog,
         diagnosis: Diagnosis,
         disputes: Vec<TableDisputes>,
-        is_restoring: bool,
+        changed: Vec<ChangedFile>,
+        unfinished: Option<WorkKind>,
     ) -> Result<Self, AllocError>
         ensures found { IfOk result (λ found. (found.catalog ≡ catalog) × (found.diagnosis ≡ diagnosis)) }
-        ensures compared { IfOk result (λ found. (found.disputes ≡ disputes) × (found.is_restoring ≡ is_restoring)) }
+        ensures compared { IfOk result (λ found. (found.disputes ≡ disputes) × (found.unfinished ≡ unfinished)) }
     {
         match fatal_beside(alloc, &catalog, &diagnosis) {
             Ok(fatal) => Ok(Self {
@@ -72,7 +71,8 @@ impl Diagnosed {
                 diagnosis,
                 fatal,
                 disputes,
-                is_restoring,
+                changed,
+                unfinished,
             }),
             Err(refused) => Err(refused),
         }
@@ -91,13 +91,16 @@ impl Diagnosed {
         }
     }
 
-    /// That a restore was left unfinished, and how it is finished.
+    /// That work was left unfinished, and how it is finished.
     fn write_unfinished<W: fmt::Write>(&self, f: &mut fmt::Formatter<W>) -> fmt::Result {
-        if !self.is_restoring {
+        let Some(kind) = self.unfinished else {
             return Ok(());
-        }
-        writeln!(f, "unfinished restore: {RESTORING} is there")?;
-        writeln!(f, "next: pinepolo restore --resume STORE")
+        };
+        let unfinished = Unfinished {
+            kind,
+            store: "STORE",
+        };
+        write!(f, "{unfinished}")
     }
 
     /// The sites whose files are not to be kept.
@@ -115,7 +118,13 @@ impl Diagnosed {
             return Ok(());
         };
         let sites = SiteWords(first.loss);
-        writeln!(f, "next: pinepolo restore STORE{sites}")?;
+        // (a restore finds nothing wrong with what a manifest alone says is changed)
+        let option = if reads_well(self.changed.as_slice()) {
+            " --accept-loss"
+        } else {
+            ""
+        };
+        writeln!(f, "next: pinepolo restore{option} STORE{sites}")?;
         if self.fatal.is_empty() {
             return Ok(());
         }
@@ -138,7 +147,7 @@ impl Diagnosed {
             write!(f, "{lines}")?;
         }
         f.write_str(
-            "which of the tables is the store's, its files don't say: compare them with a manifest (pinepolo verify --manifest FILE STORE) or a backup, or look at the files (pinepolo show STORE FILE)\n",
+            "which of the tables is the store's, its files don't say: compare them with a manifest (pinepolo diagnose --manifest FILE STORE) or a backup, or look at the files (pinepolo show STORE FILE)\n",
         )
     }
 
@@ -170,12 +179,13 @@ impl fmt::Display for Diagnosed {
         let bad = BadLines {
             catalog: &self.catalog,
             bad: diagnosis.bad.as_slice(),
+            changed: self.changed.as_slice(),
         };
         write!(f, "{bad}")?;
         self.write_forced(f)?;
         let explanations = ExplanationLines(diagnosis);
         write!(f, "{explanations}{verdict}")?;
-        if self.is_restoring {
+        if self.unfinished.is_some() {
             return self.write_unfinished(f);
         }
         self.write_next(f)

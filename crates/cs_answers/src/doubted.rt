@@ -2,6 +2,7 @@
 ghost use Rattle.std.specs.Prelude.{◌≤◌};
 
 use crate::diagnosed::Diagnosed;
+use cs_design::within::is_within;
 use cs_file_diagnosis::Diagnosis;
 use cs_reports::SiteWords;
 use cs_schema::Loss;
@@ -15,23 +16,13 @@ pub struct Doubted {
     pub lost: Loss,
 }
 
-/// Whether a loss has all sites of another one.
-pub fn holds(loss: Loss, part: Loss) -> bool {
-    for site in 1..17u8 {
-        if part.has(site) && !loss.has(site) {
-            return false;
-        }
-    }
-    true
-}
-
 /// Whether a loss, without this site of it, holds an explanation.
 fn is_spare(diagnosis: &Diagnosis, loss: Loss, site: u8) -> bool
     requires { (1 ≤ site) × (site ≤ 16) }
 {
     for explanation in &diagnosis.explanations {
         let explained = explanation.loss;
-        if holds(loss, explained) && !explained.has(site) {
+        if is_within(explained, loss) && !explained.has(site) {
             return true;
         }
     }

@@ -1,4 +1,5 @@
 //! What a dump answers.
+use cs_places::WorkKind;
 use std::fmt;
 
 /// A table that was written as CSV.
@@ -8,8 +9,8 @@ pub struct Dumped {
     pub text: Option<Vec<u8>>,
     /// How many bytes the text has.
     pub bytes: usize,
-    /// Whether a restore of the store was left unfinished.
-    pub is_restoring: bool,
+    /// Which kind of work on the store was left unfinished.
+    pub unfinished: Option<WorkKind>,
 }
 
 impl fmt::Display for Dumped {

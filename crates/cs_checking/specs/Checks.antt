@@ -13,6 +13,7 @@ use Rattle.cs_places.specs.Finding.{FindsStore}
 use Rattle.cs_answers.specs.declared.checked.Checked.{Checked}
 use Rattle.cs_answers.specs.declared.checked.Verdict.{Verdict}
 use Rattle.cs_answers.specs.declared.checked.Verdict.TheVariants.{Sound, Fatal, BadFiles, Unsound}
+use Rattle.cs_taking.specs.declared.record.WorkKind.{WorkKind}
 
 -- What a verdict says of files. Of a sound store: no file is bad, it has so many rows, and any k sites may fail.
 abbrev pub Judges : CatalogData → FileContents → Bool → Verdict → Type 0
@@ -23,7 +24,7 @@ Judges C F is_bad (Unsound fault) = (is_bad ≡ false) × IsCheckAnswer C F 0 (E
 
 module _ {P S : Type 0} (reads : P → List ℕ → List ℕ → P → Type 0) (opens : P → List ℕ → CatalogData → S → Type 0) (gives : S → FileName → Option (List ℕ) → S → Type 0) where
   -- the store at this path was found and each of its files read; these are its bad files, and the verdict was given on what could be read
-  pub record ChecksStore (refuses : S → FileName → StoreFault → S → Type 0) (restores : P → List ℕ → Bool → Type 0) (s : P) (path : List ℕ) (checked : Checked) (t : P) : Type 0 where
+  pub record ChecksStore (refuses : S → FileName → StoreFault → S → Type 0) (leaves : P → List ℕ → Option WorkKind → Type 0) (s : P) (path : List ℕ) (checked : Checked) (t : P) : Type 0 where
     pub catalog : CatalogData
     pub files : Files
     pub unreadable : List FileName
@@ -35,4 +36,4 @@ module _ {P S : Type 0} (reads : P → List ℕ → List ℕ → P → Type 0) (
     pub inspected : AreBadFiles catalog (contents_of files) unreadable checked.bad.items
     pub none_bad : is_bad ≡ false → (checked.bad.items ≡ []) × (unreadable ≡ [])
     pub judged : Judges catalog (contents_of files) is_bad checked.verdict
-    pub restoring : restores t path checked.is_restoring
+    pub unfinished : leaves t path checked.unfinished

@@ -29,7 +29,7 @@ pub fn check<R: Threads + Sync, G: Progress + Sync, P: Listings>(
     places: &mut P,
     request: &Checking<'_>,
 ) -> Result<Checked, Stop>
-    ensures ok { IfOk result (λ checked. ChecksStore P.reads P.opens (standing P.Store.answers) (standing P.Store.fails) P.restores
+    ensures ok { IfOk result (λ checked. ChecksStore P.reads P.opens (standing P.Store.answers) (standing P.Store.fails) P.leaves
         places.old request.now.store.now checked places.new) }
     ensures err { OnErr result (LooksUp P.reads P.misses places.old request.now.store.now places.new) }
 {
@@ -46,7 +46,7 @@ pub fn check<R: Threads + Sync, G: Progress + Sync, P: Listings>(
     let Ok(bad) = bad_files(rt, alloc, &catalog, &found.files, unreadable) else {
         return Err(Stop::Memory);
     };
-    let Ok(is_restoring) = places.is_restoring(request.store) else {
+    let Ok(unfinished) = places.unfinished(request.store) else {
         return Err(Stop::Memory);
     };
     let is_unreadable = !unreadable.is_empty();
@@ -57,7 +57,7 @@ pub fn check<R: Threads + Sync, G: Progress + Sync, P: Listings>(
             bad,
             is_unreadable,
             verdict,
-            is_restoring,
+            unfinished,
         }),
         Err(stop) => Err(stop),
     }

@@ -19,6 +19,10 @@ IsTableAt {X} rows tables n T = (t : X) × (slice_get tables n ≡ Some t) × (r
 abbrev pub IsExplained : List Explanation → Sites → Type 0
 IsExplained found L = (e : Explanation) × IsIn e found × IsWithin e.loss L
 
+-- the loss is one of the explanations
+abbrev pub IsFound : List Explanation → Sites → Type 0
+IsFound found L = (e : Explanation) × IsIn e found × IsWithin e.loss L × IsWithin L e.loss
+
 -- Of at most so many sites, these are all explanations, in the order of losses, each with the place of its table; no table stands at two places.
 pub record AreExplanations {X : Type 0} (C : CatalogData) (held : Sites → List Row → Type 0) (at_most : ℕ) (rows : X → List Row) (found : List Explanation) (tables : List X) : Type 0 where
   pub each : (e : Explanation) → IsIn e found → (length e.loss ≤ at_most) × ((T : List Row) × IsTableAt rows tables e.table T × IsLeastAccepted C held e.loss T)

@@ -5,7 +5,7 @@
 //! accepted explains the store. Where files were changed under valid digests, it is the sites that lie that explain it.
 #![tactic(auto)]
 
-mod explained;
+pub mod explained;
 pub mod findings;
 pub mod laws;
 pub mod search;

@@ -77,7 +77,8 @@ pub fn tell<R: Threads + Sync + AllocGlobal + Print>(rt: &R, case: &Case<'_>) ->
         diagnosis,
         fatal: Vec::new(alloc),
         disputes,
-        is_restoring: false,
+        changed: Vec::new(alloc),
+        unfinished: None,
     };
     print!(rt; "{diagnosed}")?;
     Ok(())

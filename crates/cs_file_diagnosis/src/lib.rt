@@ -21,5 +21,6 @@ pub use cs_disputes::{Dispute, Disputes};
 pub use cs_inspection::Badness;
 pub use diagnosing::{Diagnosis, diagnose};
 pub use disputing::{TableDisputes, disputed_rows};
+pub use forcing::bad_sites;
 pub use reaching::Reach;
 pub use tables::FoundTable;

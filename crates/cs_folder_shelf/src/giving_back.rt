@@ -20,7 +20,7 @@ impl<R: Files + Clock + Copy + Drop> FolderShelf<R> {
         };
         let store = self.path.as_str();
         let ended = if is_finished {
-            finish(self.alloc, &self.rt, store, taken)
+            finish(self.alloc, &self.rt, store, taken, &self.digests)
         } else if self.has_changed {
             Ok(())
         } else {

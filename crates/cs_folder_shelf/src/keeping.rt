@@ -106,6 +106,7 @@ impl<R: Files<File = File> + Copy + Drop> FolderShelf<R> {
         }
         self.make_kept_folder()?;
         let noted = self.noted();
+        self.digests.keep(names, noted.as_ref())?;
         let changes = self.kept_with(noted, names)?;
         self.sync_kept()?;
         self.note(changes)

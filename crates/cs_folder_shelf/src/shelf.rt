@@ -7,7 +7,7 @@ use cs_folders::{FileLimits, StoreFolder};
 use cs_schema::FileName;
 use cs_shelf::Shelf;
 use cs_store::{Source, StoreFault};
-use cs_taking::{Taken, remove_if_there, sync_folder};
+use cs_taking::{Digests, Taken, remove_if_there, sync_folder};
 use std::alloc::{AllocError, Global};
 use std::fs::{File, OpenFile, OpenOptions};
 use std::io::{ErrorKind, Write};
@@ -27,6 +27,8 @@ pub struct FolderShelf<R> {
     pub(crate) has_kept: bool,
     /// Whether a name may have been given new bytes.
     pub(crate) has_changed: bool,
+    /// The digests of files that change, for the journal.
+    pub(crate) digests: Digests,
     pub(crate) faults: u64,
 }
 
@@ -43,18 +45,21 @@ impl<R: Files + Copy + Drop> FolderShelf<R> {
             source,
             has_kept: false,
             has_changed: false,
+            digests: Digests::new(alloc, Vec::new(alloc)),
             faults: 0,
         })
     }
 
-    /// The same store, whose folder was taken so. What is known to change may have been given new bytes already.
-    pub fn taken_by(self, taken: Taken) -> Self {
+    /// The same store, whose folder was taken so. What is known to change may have been given new bytes already. Of these
+    /// names, which ascend, the digests of what is read are kept for the journal.
+    pub fn taken_by(self, taken: Taken, noted: Vec<FileName>) -> Self {
         let has_kept = taken.record.keeps_any();
         let has_changed = taken.record.changes.is_some();
         Self {
             taken: Some(taken),
             has_kept,
             has_changed,
+            digests: Digests::new(self.alloc, noted),
             ..self
         }
     }
@@ -133,8 +138,14 @@ impl<R: Files + Copy + Drop> Source for FolderShelf<R> {
 
     fn read(&mut self, name: FileName) -> Result<Option<Vec<u8>>, StoreFault> {
         let read = self.source.read(name);
-        if let Err(StoreFault::Device) = read {
-            self.faults = self.faults.saturating_add(1);
+        match &read {
+            Ok(Some(bytes)) => {
+                if self.digests.note(name, bytes.as_slice()).is_err() {
+                    return Err(StoreFault::Memory);
+                }
+            }
+            Err(StoreFault::Device) => self.faults = self.faults.saturating_add(1),
+            _ => {}
         }
         read
     }

@@ -1,12 +1,13 @@
 -- The bad files among the first names of a list, and one name more.
-use Rattle.std.proofs.Common.{◌≡◌, ◌⊎◌, inl, inr, ℕ, ◌+◌, ◌<◌, ◌≤◌, suc, List, [], ◌∷◌, ◌++◌, map, length, take, drop, get_or, refl, sym, ap, subst, ◌∙◌, arith}
-use Rattle.std.proofs.Math.Seq.{drop-cons, take-length}
+use Rattle.std.proofs.Common.{◌≡◌, ◌⊎◌, inl, inr, ℕ, ◌+◌, ◌<◌, suc, List, [], ◌∷◌, ◌++◌, map, length, take, drop, get_or, refl, sym, ap, subst, ◌∙◌}
+use Rattle.std.proofs.Math.Seq.{drop-cons}
 use Rattle.std.proofs.lemmas.List.{take_more, take-append-drop}
 use Rattle.std.specs.List.{AllByRecursion}
 use Rattle.std.specs.List.Sorted.{IsStrictlySortedBy}
 use Rattle.std.specs.declared.cmp.Ordering.TheVariants.{Less}
 use Rattle.cs_schema.specs.declared.file_name.FileName.{FileName}
 use Rattle.cs_schema.specs.Lists.{IsIn}
+use Rattle.cs_schema.specs.Losses.{Sites}
 use Rattle.cs_schema.specs.CatalogData.{CatalogData}
 use Rattle.cs_schema.specs.CatalogRules.{IsCatalog}
 use Rattle.cs_schema.specs.FileNames.{FileContents, HasName, name_cmp, surviving}
@@ -15,7 +16,7 @@ use Rattle.std.proofs.lemmas.Option.{slice_get-get_or}
 use Rattle.cs_schema.proofs.Lists.{append_left, append_right, in_append, in_at}
 use Rattle.cs_schema.proofs.Surviving.{append_sorted, surviving_names}
 use Rattle.cs_inspection.specs.declared.badness.Badness.{Badness}
-use Rattle.cs_inspection.specs.BadFiles.{IsBad, IsGood, IsListed, AreBadFiles}
+use Rattle.cs_inspection.specs.BadFiles.{IsBad, IsGood, IsListed, AreBadAmong, AreBadFiles}
 
 -- what holds of all of a list holds of one in its midst
 in_midst : (P : FileName → Type 0) (xs : List FileName) (n : FileName) (rest : List FileName) → AllByRecursion P (xs ++ n ∷ rest) → P n
@@ -27,12 +28,6 @@ below_before : (xs : List FileName) (n : FileName) (rest : List FileName) → Is
 unfolding IsStrictlySortedBy
 below_before [] n rest h = tt
 below_before (x ∷ xs) n rest h = (in_midst _ xs n rest h.0, below_before xs n rest h.1)
-
--- these are the bad files among some names
-pub record AreBadAmong (C : CatalogData) (F : FileContents) (unreadable names : List FileName) (bad : List (FileName × Badness)) : Type 0 where
-  pub each : (n : FileName) (why : Badness) → IsIn (n, why) bad → IsIn n names × IsBad C F unreadable n why
-  pub others : (n : FileName) → IsIn n names → IsListed n bad ⊎ IsGood C F unreadable n
-  pub in_order : IsStrictlySortedBy name_cmp (map (λ b. b.0) bad)
 
 map-push : (bad : List (FileName × Badness)) (b : FileName × Badness) → map (λ x. x.0) (bad ++ b ∷ []) ≡ map (λ x. x.0) bad ++ b.0 ∷ []
 map-push [] b = refl
@@ -119,17 +114,18 @@ none_bad C F unreadable bad e = subst (AreBadAmong C F unreadable []) (sym e) no
     none : AreBadAmong C F unreadable [] []
     none = record { each = λ n why h. absurd h; others = λ n h. absurd h; in_order = tt }
 
-pub has_name : (C : CatalogData) → IsCatalog C → (names : List FileName) → names ≡ surviving C [] → (i : ℕ) (d : FileName) → i < length names → HasName C (get_or names i d)
-has_name C cat names e i d within =
+pub has_name : (C : CatalogData) → IsCatalog C → (L : Sites) (names : List FileName) → names ≡ surviving C L → (i : ℕ) (d : FileName) → i < length names → HasName C (get_or names i d)
+has_name C cat L names e i d within =
     let there : IsIn (get_or names i d) names = in_at names i (get_or names i d) (slice_get-get_or names i d within) in
-    ((surviving_names C [] cat (get_or names i d)).0 (subst (IsIn (get_or names i d)) e there)).0
+    ((surviving_names C L cat (get_or names i d)).0 (subst (IsIn (get_or names i d)) e there)).0
 
--- at the end these are the bad files of the store
-pub all_bad : (C : CatalogData) → IsCatalog C → (F : FileContents) (unreadable names : List FileName) (bad : List (FileName × Badness)) → names ≡ surviving C [] → AreBadAmong C F unreadable names bad → AreBadFiles C F unreadable bad
-all_bad C cat F unreadable names bad e a =
+-- where nothing is lost these are the bad files of the store
+pub all_bad : (C : CatalogData) → IsCatalog C → (F : FileContents) (unreadable : List FileName) (L : Sites) (bad : List (FileName × Badness)) → L ≡ [] → AreBadAmong C F unreadable (surviving C L) bad → AreBadFiles C F unreadable bad
+all_bad C cat F unreadable L bad e among =
+    let a : AreBadAmong C F unreadable (surviving C []) bad = subst (λ l. AreBadAmong C F unreadable (surviving C l) bad) e among in
     let named : (n : FileName) → _ = surviving_names C [] cat in
     record {
-      each = λ n why i. let it = a.each n why i in (((named n).0 (subst (IsIn n) e it.0)).0, it.1);
-      others = λ n h. a.others n (subst (IsIn n) (sym e) ((named n).1 (h, refl)));
+      each = λ n why i. let it = a.each n why i in (((named n).0 it.0).0, it.1);
+      others = λ n h. a.others n ((named n).1 (h, refl));
       in_order = a.in_order;
     }

@@ -1,13 +1,11 @@
 -- A file is good, or bad for one reason.
-use Rattle.std.proofs.Common.{◌≡◌, ◌⊎◌, ℕ, ◌<◌, List, Some, None, length, refl, sym, subst, ◌∙◌}
+use Rattle.std.proofs.Common.{◌≡◌, ℕ, List, Some, None, sym, subst, ◌∙◌}
 use Rattle.std.proofs.lemmas.Option.{same_Some}
 use Rattle.cs_schema.specs.declared.file_name.FileName.{FileName}
-use Rattle.cs_schema.specs.Lists.{IsIn}
 use Rattle.cs_schema.specs.CatalogData.{CatalogData}
-use Rattle.cs_schema.specs.CatalogRules.{IsCatalog}
-use Rattle.cs_schema.specs.FileNames.{FileContents, HasName}
+use Rattle.cs_schema.specs.FileNames.{FileContents}
 use Rattle.cs_inspection.specs.declared.badness.Badness.{Badness}
-use Rattle.cs_inspection.specs.BadFiles.{IsBad, IsGood, IsDamaged, IsUndamaged, IsFileOf}
+use Rattle.cs_inspection.specs.BadFiles.{IsBad, IsGood, IsDamaged, IsUndamaged}
 use Rattle.cs_inspection.specs.Laws.{FilesHaveOneState}
 
 pub none_there : {x : List ℕ} → None ≡ Some x → ⊥

@@ -1,24 +1,22 @@
 -- Bad files are unsound, and what survives an accepted loss is sound.
-use Rattle.std.proofs.Common.{◌≡◌, ◌⊎◌, inl, inr, ℕ, ◌<◌, List, Some, None, length, Bool, true, false, refl, sym, subst, ◌∙◌}
+use Rattle.std.proofs.Common.{◌≡◌, ◌⊎◌, inl, inr, ℕ, ◌<◌, List, Some, length, Bool, true, false, refl, sym, subst, ◌∙◌}
 use Rattle.std.proofs.lemmas.Option.{same_Some}
 use Rattle.cs_schema.specs.declared.file_name.FileName.{FileName}
-use Rattle.cs_schema.specs.Lists.{IsIn, member}
+use Rattle.cs_schema.specs.Lists.{member}
 use Rattle.cs_schema.specs.CatalogData.{CatalogData}
 use Rattle.cs_schema.specs.CatalogRules.{IsCatalog}
 use Rattle.cs_schema.specs.Losses.{Sites}
-use Rattle.cs_schema.specs.Rows.{Row}
 use Rattle.cs_schema.specs.FileNames.{FileContents, HasName, Survives}
 use Rattle.cs_segment.specs.SegmentFile.{Base, IsSegmentFile}
 use Rattle.cs_segment.proofs.OneText.{one_segment}
 use Rattle.cs_delta.specs.DeltaFile.{DeltaData, IsDeltaFile, CanMerge, merged}
 use Rattle.cs_delta.specs.Image.{ImageData}
 use Rattle.cs_delta.proofs.HeadTexts.{one_delta}
-use Rattle.cs_recovery.specs.AcceptedLosses.{IsAcceptedLoss}
-use Rattle.cs_recovery.specs.Conflicts.{site_of, AreRead}
+use Rattle.cs_recovery.specs.Conflicts.{site_of}
 use Rattle.cs_recovery.specs.Contents.{IsImageOf, Reads}
 use Rattle.cs_recovery.specs.Verdicts.{IsSound}
 use Rattle.cs_inspection.specs.declared.badness.Badness.{Badness}
-use Rattle.cs_inspection.specs.BadFiles.{IsBad, IsGood, IsDamaged, IsUndamaged, IsFileOf, IsPair, IsListed, AreBadFiles}
+use Rattle.cs_inspection.specs.BadFiles.{IsBad, IsGood, IsDamaged, IsFileOf, IsPair, IsListed, AreBadFiles}
 use Rattle.cs_inspection.specs.Laws.{AreAbsent, BadFilesAreUnsound, BadFilesTellSoundOnes, BadSitesAreForced}
 use Rattle.cs_inspection.proofs.OneState.{none_there}
 

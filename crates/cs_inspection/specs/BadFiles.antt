@@ -52,6 +52,12 @@ pub record IsGood (C : CatalogData) (F : FileContents) (unreadable : List FileNa
 abbrev pub IsListed : FileName → List (FileName × Badness) → Type 0
 IsListed n bad = (why : Badness) × IsIn (n, why) bad
 
+-- these are the bad files among some names, each with why it is, in the order of their names; each other one is good
+pub record AreBadAmong (C : CatalogData) (F : FileContents) (unreadable names : List FileName) (bad : List (FileName × Badness)) : Type 0 where
+  pub each : (n : FileName) (why : Badness) → IsIn (n, why) bad → IsIn n names × IsBad C F unreadable n why
+  pub others : (n : FileName) → IsIn n names → IsListed n bad ⊎ IsGood C F unreadable n
+  pub in_order : IsStrictlySortedBy name_cmp (map (λ b. b.0) bad)
+
 -- These are the bad files of a store, each with why it is, in the order of their names; each other file of the catalog's is good.
 pub record AreBadFiles (C : CatalogData) (F : FileContents) (unreadable : List FileName) (bad : List (FileName × Badness)) : Type 0 where
   pub each : (n : FileName) (why : Badness) → IsIn (n, why) bad → HasName C n × IsBad C F unreadable n why

@@ -1,5 +1,5 @@
 -- Laws over bad files, each the contract of a function of src/laws.rt.
-use Rattle.std.specs.Prelude.{◌≡◌, ◌⊎◌, ℕ, List, IsTrue, None}
+use Rattle.std.specs.Prelude.{◌≡◌, List, IsTrue, None}
 use Rattle.cs_schema.specs.declared.file_name.FileName.{FileName}
 use Rattle.cs_schema.specs.Lists.{member, IsIn}
 use Rattle.cs_schema.specs.CatalogData.{CatalogData}

@@ -1,9 +1,9 @@
 //! All bad files of a store.
 ghost use Rattle.std.specs.Prelude.{◌≡◌, None, IfOk, MatchOption};
 ghost use Rattle.std.specs.List.{AllByRecursion};
-ghost use Rattle.cs_schema.specs.FileNames.{HasName};
+ghost use Rattle.cs_schema.specs.FileNames.{HasName, surviving};
 ghost use Rattle.cs_store.specs.FileSet.{contents_of};
-ghost use Rattle.cs_inspection.specs.BadFiles.{IsBad, IsGood, AreBadFiles};
+ghost use Rattle.cs_inspection.specs.BadFiles.{IsBad, IsGood, AreBadAmong, AreBadFiles};
 
 use crate::badness::Badness;
 use crate::damage::Inspector;
@@ -48,7 +48,22 @@ pub fn bad_files<R: Threads>(
     ensures { IfOk result (λ bad. AreBadFiles catalog.now (contents_of files.now) unreadable.now bad.items) }
 {
     let _rules = catalog.projection_count();
-    let names = catalog.surviving(alloc, Loss::none())?;
+    bad_survivors(rt, alloc, catalog, files, unreadable, Loss::none())
+}
+
+/// As `bad_files`, of the files that survive a loss alone. No file of a lost site is looked at.
+pub fn bad_survivors<R: Threads>(
+    rt: &R,
+    alloc: Global,
+    catalog: &Catalog,
+    files: &FileSet,
+    unreadable: &[FileName],
+    loss: Loss,
+) -> Result<Vec<(FileName, Badness)>, AllocError>
+    ensures { IfOk result (λ bad. AreBadAmong catalog.now (contents_of files.now) unreadable.now (surviving catalog.now loss) bad.items) }
+{
+    let _rules = catalog.projection_count();
+    let names = catalog.surviving(alloc, loss)?;
     let inspector = Inspector {
         rt,
         alloc,

@@ -10,4 +10,4 @@ mod inspect;
 pub mod laws;
 
 pub use badness::Badness;
-pub use inspect::bad_files;
+pub use inspect::{bad_files, bad_survivors};

@@ -14,7 +14,7 @@ pub struct Manifest {
 
 impl Manifest {
     /// A manifest that says nothing.
-    pub(crate) fn new(alloc: Global) -> Self
+    pub fn new(alloc: Global) -> Self
         ensures { (path : List ℕ) → digest_in result path ≡ None }
     {
         Self {

@@ -13,7 +13,9 @@ use Rattle.cs_store.specs.FileSet.{Files}
 use Rattle.cs_store.specs.declared.fault.StoreFault.{StoreFault}
 use Rattle.cs_store.specs.declared.fault.StoreFault.TheVariants.{Device}
 use Rattle.cs_shelf.specs.declared.memory.MemoryShelf.{MemoryShelf}
-use Rattle.cs_taking.specs.declared.record.Work.TheVariants.{Restore}
+use Rattle.cs_taking.specs.declared.record.Work.{Work}
+use Rattle.cs_taking.specs.declared.record.Work.TheVariants.{Restore, Undo}
+use Rattle.cs_taking.specs.declared.record.WorkKind.{WorkKind}
 use Rattle.cs_memory_trials.specs.declared.places.MemoryPlaces.{MemoryPlaces}
 use Rattle.cs_memory_trials.specs.declared.standing.Standing.{Standing}
 use Rattle.cs_memory_trials.specs.declared.outputs.MemoryOutput.{MemoryOutput}
@@ -29,6 +31,15 @@ catalog_at s path = option_and_then (λ store. option_map (λ bytes. bytes.items
 -- the files of the store at this path; none where no store is
 abbrev pub files_at : MemoryPlaces → List ℕ → Files
 files_at s path = option_map_or (λ store. store.files) (get_by_text s.stores path) empty
+
+-- the kind of work
+abbrev pub kind_of : Work → WorkKind
+kind_of (Restore _) = WorkKind.Restore
+kind_of (Undo _) = WorkKind.Undo
+
+-- which kind of work is not finished of the store at this path
+abbrev pub unfinished_at : MemoryPlaces → List ℕ → Option WorkKind
+unfinished_at s path = option_and_then (λ store. option_map kind_of store.restoring) (get_by_text s.stores path)
 
 -- the stores and the texts are the same
 abbrev pub IsSame : MemoryPlaces → MemoryPlaces → Type 0

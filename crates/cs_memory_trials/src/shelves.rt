@@ -3,21 +3,19 @@ use crate::names::sorted_names;
 use crate::places::MemoryPlaces;
 use crate::standing::copy_files;
 use crate::undos::{number_of, put_shelf, undoable_of};
-use cs_places::{GivenBack, Listings, Shelves, UndoOf, Undoable, Untaken, Work};
+use cs_places::{GivenBack, Listings, Shelves, UndoOf, Undoable, Untaken, Work, WorkKind};
 use cs_schema::{Catalog, Loss};
 use cs_shelf::MemoryShelf;
 use cs_store::StoreFault;
 use std::alloc::AllocError;
 
 impl Listings for MemoryPlaces {
-    ghost use Rattle.std.specs.Prelude.{◌≡◌, false};
-    ghost use Rattle.std.specs.BTreeMap.{get_by_text};
-    ghost use Rattle.std.specs.Option.{is_some, option_map_or};
-    ghost use Rattle.cs_memory_trials.specs.Standing.{ListsNames};
+    ghost use Rattle.std.specs.Prelude.{◌≡◌};
+    ghost use Rattle.cs_memory_trials.specs.Standing.{ListsNames, unfinished_at};
 
     ghost lists = { ListsNames };
 
-    ghost restores = { λ s path is. is ≡ option_map_or (λ store. is_some store.restoring) (get_by_text s.stores path) false };
+    ghost leaves = { λ s path kind. kind ≡ unfinished_at s path };
 
     fn names(&mut self, path: &str) -> Result<Vec<String>, StoreFault> {
         let names = match self.stores.get(path) {
@@ -30,11 +28,15 @@ impl Listings for MemoryPlaces {
         }
     }
 
-    fn is_restoring(&self, path: &str) -> Result<bool, AllocError> {
-        match self.stores.get(path) {
-            Some(store) => Ok(store.restoring.is_some()),
-            None => Ok(false),
-        }
+    fn unfinished(&self, path: &str) -> Result<Option<WorkKind>, AllocError> {
+        let Some(store) = self.stores.get(path) else {
+            return Ok(None);
+        };
+        Ok(match store.restoring {
+            Some(Work::Restore(_)) => Some(WorkKind::Restore),
+            Some(Work::Undo(_)) => Some(WorkKind::Undo),
+            None => None,
+        })
     }
 }
 

@@ -1,5 +1,5 @@
 -- What the verb `show` does, by what the places and the store say of one call.
-use Rattle.std.specs.Prelude.{◌≡◌, ℕ, Bool, List, [], Option, Some}
+use Rattle.std.specs.Prelude.{◌≡◌, ℕ, List, [], Option, Some}
 use Rattle.cs_schema.specs.CatalogData.{CatalogData}
 use Rattle.cs_schema.specs.FileNames.{surviving, HasName, file_path}
 use Rattle.cs_schema.specs.declared.file_name.FileName.{FileName}
@@ -13,6 +13,7 @@ use Rattle.cs_headers.specs.Reports.{IsReportOf}
 use Rattle.cs_overview.specs.declared.store_view.StoreView.{StoreView}
 use Rattle.cs_overview.specs.declared.file_view.FileView.{FileView}
 use Rattle.cs_places.specs.Finding.{FindsStore}
+use Rattle.cs_taking.specs.declared.record.WorkKind.{WorkKind}
 
 -- each file of the store was read, and these are the bad ones
 pub record LooksOver {S : Type 0} (gives : S → FileName → Option (List ℕ) → S → Type 0) (refuses : S → FileName → StoreFault → S → Type 0) (C : CatalogData) (store : S) (bad : List (FileName × Badness)) (left : S) : Type 0 where
@@ -23,7 +24,7 @@ pub record LooksOver {S : Type 0} (gives : S → FileName → Option (List ℕ) 
 
 module _ {P S : Type 0} (reads : P → List ℕ → List ℕ → P → Type 0) (opens : P → List ℕ → CatalogData → S → Type 0) (gives : S → FileName → Option (List ℕ) → S → Type 0) where
   -- The store at this path was found and its folder listed, and each of its files was read; these are the bad ones, and this is what its catalog says of losses.
-  pub record ShowsStore (refuses : S → FileName → StoreFault → S → Type 0) (lists : P → List ℕ → List (List ℕ) → P → Type 0) (restores : P → List ℕ → Bool → Type 0) (s : P) (path : List ℕ) (view : StoreView) (t : P) : Type 0 where
+  pub record ShowsStore (refuses : S → FileName → StoreFault → S → Type 0) (lists : P → List ℕ → List (List ℕ) → P → Type 0) (leaves : P → List ℕ → Option WorkKind → Type 0) (s : P) (path : List ℕ) (view : StoreView) (t : P) : Type 0 where
     pub reached : P
     pub store : S
     pub left : S
@@ -32,7 +33,7 @@ module _ {P S : Type 0} (reads : P → List ℕ → List ℕ → P → Type 0) (
     pub listed : lists reached path names t
     pub looks : LooksOver gives refuses view.catalog store view.bad.items left
     pub design : IsDesign view.catalog [] view.design
-    pub restoring : restores t path view.is_restoring
+    pub unfinished : leaves t path view.unfinished
 
   -- The store at this path was found, and its file of this name read, whose bytes say this.
   pub record ShowsFile (s : P) (path text : List ℕ) (view : FileView) (t : P) : Type 0 where

@@ -18,6 +18,7 @@ use Rattle.cs_relayout.specs.declared.laying.Relaid.{Relaid}
 use Rattle.cs_places.specs.Finding.{FindsStore}
 use Rattle.cs_answers.specs.declared.dumped.Dumped.{Dumped}
 use Rattle.cs_answers.specs.declared.new_store.NewStore.{NewStore}
+use Rattle.cs_taking.specs.declared.record.WorkKind.{WorkKind}
 
 module _ {P I : Type 0} (opens_table : P → List ℕ → I → P → Type 0) (remaining : I → Option (List ℕ)) where
   -- the CSV at this path was opened, and its rows make these files
@@ -71,13 +72,13 @@ module _ {S : Type 0} (gives : S → FileName → Option (List ℕ) → S → Ty
 
 module _ {P S : Type 0} (reads : P → List ℕ → List ℕ → P → Type 0) (opens : P → List ℕ → CatalogData → S → Type 0) (gives : S → FileName → Option (List ℕ) → S → Type 0) where
   -- the store at this path was loaded without the lost sites, this is the text of the table that it holds, and whether a restore was left unfinished
-  pub record ReadsText (restores : P → List ℕ → Bool → Type 0) (s : P) (path : List ℕ) (L : Sites) (text : List ℕ) (is_restoring : Bool) (t : P) : Type 0 where
+  pub record ReadsText (leaves : P → List ℕ → Option WorkKind → Type 0) (s : P) (path : List ℕ) (L : Sites) (text : List ℕ) (kind : Option WorkKind) (t : P) : Type 0 where
     pub catalog : CatalogData
     pub store : S
     pub left : S
     pub finds : FindsStore reads opens s path catalog store t
     pub text_given : GivesText gives catalog L store text left
-    pub restoring : restores t path is_restoring
+    pub unfinished : leaves t path kind
 
   -- The store at this path was found, and then the new catalog read. The store was loaded without the lost sites, and these files hold its table under the new catalog.
   pub record LaysOutStore (s : P) (path : List ℕ) (L : Sites) (catalog_path : List ℕ) (new : CatalogData) (bytes : List ℕ) (relaid : Relaid) (t : P) : Type 0 where
@@ -96,12 +97,12 @@ module _ {P : Type 0} (writes_table : P → List ℕ → List ℕ → P → Type
   WritesText s text dumped t =
       ((option_map (λ v. v.items) dumped.text ≡ Some text) × (t ≡ s)) ⊎ ((dumped.text ≡ None) × ((path : List ℕ) × writes_table s path text t))
 
-module _ {P S : Type 0} (reads : P → List ℕ → List ℕ → P → Type 0) (opens : P → List ℕ → CatalogData → S → Type 0) (gives : S → FileName → Option (List ℕ) → S → Type 0) (restores : P → List ℕ → Bool → Type 0) (writes_table : P → List ℕ → List ℕ → P → Type 0) where
+module _ {P S : Type 0} (reads : P → List ℕ → List ℕ → P → Type 0) (opens : P → List ℕ → CatalogData → S → Type 0) (gives : S → FileName → Option (List ℕ) → S → Type 0) (leaves : P → List ℕ → Option WorkKind → Type 0) (writes_table : P → List ℕ → List ℕ → P → Type 0) where
   -- The text of the table that the store holds without the lost sites was read; then it was written, or is the answer.
   pub record DumpsStore (s : P) (path : List ℕ) (L : Sites) (dumped : Dumped) (t : P) : Type 0 where
     pub text : List ℕ
     pub reached : P
-    pub reads_text : ReadsText reads opens gives restores s path L text dumped.is_restoring reached
+    pub reads_text : ReadsText reads opens gives leaves s path L text dumped.unfinished reached
     pub writes : WritesText writes_table reached text dumped t
 
 module _ {P S K : Type 0} (reads : P → List ℕ → List ℕ → P → Type 0) (opens : P → List ℕ → CatalogData → S → Type 0) (gives : S → FileName → Option (List ℕ) → S → Type 0) (begins : P → List ℕ → List ℕ → K → P → Type 0) (takes : K → FileName → List ℕ → K → Type 0) (marks : K → ℕ → K → Type 0) where

@@ -9,7 +9,7 @@ use crate::ways::{see_way, unmade};
 use cs_answers::Dumped;
 use cs_loading::DumpFault;
 use cs_operator_words::Dumping;
-use cs_places::{Stop, Tables, find_store};
+use cs_places::{Stop, Tables, WorkKind, find_store};
 use cs_progress::{Progress, Stage};
 use cs_reading::SharedSource;
 use cs_rebuild::Run;
@@ -17,11 +17,11 @@ use std::alloc::Global;
 use std::marker::Sync;
 use std::thread::Threads;
 
-/// The text of a store's table, and whether a restore of the store was left unfinished.
+/// The text of a store's table, and which kind of work on the store was left unfinished.
 #[derive(Drop)]
 struct TableText {
     text: Vec<u8>,
-    is_restoring: bool,
+    unfinished: Option<WorkKind>,
 }
 
 /// Writes the table of a store as CSV, to a new file or as the answer.
@@ -30,7 +30,7 @@ pub fn dump<R: Threads + Sync, G: Progress + Sync, P: World>(
     places: &mut P,
     request: &Dumping<'_>,
 ) -> Result<Dumped, Stop>
-    ensures { IfOk result (λ dumped. DumpsStore P.reads P.opens (standing P.Store.answers) P.restores P.writes_table
+    ensures { IfOk result (λ dumped. DumpsStore P.reads P.opens (standing P.Store.answers) P.leaves P.writes_table
         places.old request.now.store.now request.now.lost dumped places.new) }
 {
     let alloc = host.alloc;
@@ -54,25 +54,25 @@ fn read_text<R: Threads + Sync, G: Progress + Sync, P: World>(
     places: &mut P,
     request: &Dumping<'_>,
 ) -> Result<TableText, Stop>
-    ensures { IfOk result (λ found. ReadsText P.reads P.opens (standing P.Store.answers) P.restores
-        places.old request.now.store.now request.now.lost found.text.items found.is_restoring places.new) }
+    ensures { IfOk result (λ found. ReadsText P.reads P.opens (standing P.Store.answers) P.leaves
+        places.old request.now.store.now request.now.lost found.text.items found.unfinished places.new) }
 {
     let (catalog, source) = match find_store(host.alloc, places, request.store) {
         Ok(found) => found,
         Err(stop) => return Err(stop),
     };
-    let Ok(is_restoring) = places.is_restoring(request.store) else {
+    let Ok(unfinished) = places.unfinished(request.store) else {
         return Err(Stop::Memory);
     };
     let store = Surviving {
         catalog: &catalog,
         lost: request.lost,
         path: request.store,
-        is_restoring,
+        unfinished,
     };
     let run = host.run_by(request.workers);
     match text_of(host, &run, &store, &source) {
-        Ok(text) => Ok(TableText { text, is_restoring }),
+        Ok(text) => Ok(TableText { text, unfinished }),
         Err(stop) => Err(stop),
     }
 }
@@ -105,22 +105,22 @@ fn write_text<P: Tables>(
     found: TableText,
 ) -> Result<Dumped, Stop>
     ensures { IfOk result (λ dumped. WritesText P.writes_table places.old found.text.items dumped places.new
-        × (dumped.is_restoring ≡ found.is_restoring)) }
+        × (dumped.unfinished ≡ found.unfinished)) }
 {
-    let TableText { text, is_restoring } = found;
+    let TableText { text, unfinished } = found;
     let bytes = text.len();
     let Some(path) = path else {
         return Ok(Dumped {
             text: Some(text),
             bytes,
-            is_restoring,
+            unfinished,
         });
     };
     match places.write_table(path, text.as_slice()) {
         Ok(()) => Ok(Dumped {
             text: None,
             bytes,
-            is_restoring,
+            unfinished,
         }),
         Err(fault) => Err(unmade(alloc, fault, path)),
     }

@@ -15,6 +15,7 @@ mod recovering;
 mod relaying;
 mod showing;
 mod surviving;
+mod trusted;
 mod ways;
 
 pub use cs_answers::{

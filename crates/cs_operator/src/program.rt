@@ -38,7 +38,7 @@ pub fn run<R: Threads + Sync, G: Progress + Sync, P: World, W: Write, E: Write>(
     ensures status { result ≤ 6 }
     ensures done { result ≡ DONE → (answer : Answer) × (answer_status answer ≡ 0) × Performs P.reads P.opens P.draws P.makes
         (standing P.Store.answers) (standing P.Store.fails) P.Output.takes P.Output.marks
-        P.opens_table P.Input.remaining P.begins P.NewStore.takes P.NewStore.marks P.writes_table P.lists P.restores P.takes_store P.takes_undo P.looks_at P.gives_back P.Shelf.holds P.Shelf.may_leave places.old places.new answer }
+        P.opens_table P.Input.remaining P.begins P.NewStore.takes P.NewStore.marks P.writes_table P.lists P.leaves P.takes_store P.takes_undo P.looks_at P.gives_back P.Shelf.holds P.Shelf.may_leave places.old places.new answer }
 {
     let alloc = host.alloc;
     match parse(alloc, words, host.processors) {
@@ -95,7 +95,7 @@ fn run_request<R: Threads + Sync, G: Progress + Sync, P: World, W: Write, E: Wri
     ensures status { result ≤ 6 }
     ensures done { result ≡ DONE → (answer : Answer) × (answer_status answer ≡ 0) × Performs P.reads P.opens P.draws P.makes
         (standing P.Store.answers) (standing P.Store.fails) P.Output.takes P.Output.marks
-        P.opens_table P.Input.remaining P.begins P.NewStore.takes P.NewStore.marks P.writes_table P.lists P.restores P.takes_store P.takes_undo P.looks_at P.gives_back P.Shelf.holds P.Shelf.may_leave places.old places.new answer }
+        P.opens_table P.Input.remaining P.begins P.NewStore.takes P.NewStore.marks P.writes_table P.lists P.leaves P.takes_store P.takes_undo P.looks_at P.gives_back P.Shelf.holds P.Shelf.may_leave places.old places.new answer }
 {
     let json = wants_json(request);
     if is_quiet(request) {
@@ -156,7 +156,7 @@ fn perform_show<R: Threads + Sync, G: Progress + Sync, P: World>(
     request: &Showing<'_>,
 ) -> Result<Answer, Stop>
     ensures { IfOk result (Performs P.reads P.opens P.draws P.makes (standing P.Store.answers) (standing P.Store.fails)
-        P.Output.takes P.Output.marks P.opens_table P.Input.remaining P.begins P.NewStore.takes P.NewStore.marks P.writes_table P.lists P.restores
+        P.Output.takes P.Output.marks P.opens_table P.Input.remaining P.begins P.NewStore.takes P.NewStore.marks P.writes_table P.lists P.leaves
         P.takes_store P.takes_undo P.looks_at P.gives_back P.Shelf.holds P.Shelf.may_leave places.old places.new) }
 {
     let (store, file) = (request.store, request.file);
@@ -179,7 +179,7 @@ fn perform_restore<R: Threads + Sync, G: Progress + Sync, P: World>(
     request: &Restoring<'_>,
 ) -> Result<Answer, Stop>
     ensures { IfOk result (Performs P.reads P.opens P.draws P.makes (standing P.Store.answers) (standing P.Store.fails)
-        P.Output.takes P.Output.marks P.opens_table P.Input.remaining P.begins P.NewStore.takes P.NewStore.marks P.writes_table P.lists P.restores
+        P.Output.takes P.Output.marks P.opens_table P.Input.remaining P.begins P.NewStore.takes P.NewStore.marks P.writes_table P.lists P.leaves
         P.takes_store P.takes_undo P.looks_at P.gives_back P.Shelf.holds P.Shelf.may_leave places.old places.new) }
 {
     let run = host.run_by(request.workers);
@@ -196,7 +196,7 @@ fn perform<R: Threads + Sync, G: Progress + Sync, P: World>(
     places: &mut P,
 ) -> Result<Answer, Stop>
     ensures { IfOk result (Performs P.reads P.opens P.draws P.makes (standing P.Store.answers) (standing P.Store.fails)
-        P.Output.takes P.Output.marks P.opens_table P.Input.remaining P.begins P.NewStore.takes P.NewStore.marks P.writes_table P.lists P.restores
+        P.Output.takes P.Output.marks P.opens_table P.Input.remaining P.begins P.NewStore.takes P.NewStore.marks P.writes_table P.lists P.leaves
         P.takes_store P.takes_undo P.looks_at P.gives_back P.Shelf.holds P.Shelf.may_leave places.old places.new) }
 {
     match request {

@@ -61,7 +61,7 @@ fn lay_out_store<R: Threads + Sync, G: Progress + Sync, P: World>(
         Ok(found) => found,
         Err(stop) => return Err(stop),
     };
-    let Ok(is_restoring) = places.is_restoring(request.store) else {
+    let Ok(unfinished) = places.unfinished(request.store) else {
         return Err(Stop::Memory);
     };
     let found = match look_up_text(host.alloc, places, request.catalog) {
@@ -72,7 +72,7 @@ fn lay_out_store<R: Threads + Sync, G: Progress + Sync, P: World>(
         catalog: &old,
         lost: request.lost,
         path: request.store,
-        is_restoring,
+        unfinished,
     };
     match lay_out(host, request, &store, &source, &found.0) {
         Ok(relaid) => Ok(LaidOut { found, relaid }),

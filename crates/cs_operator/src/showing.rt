@@ -68,7 +68,7 @@ pub fn show<R: Threads + Sync, G: Progress + Sync, P: Listings>(
     places: &mut P,
     path: &str,
 ) -> Result<StoreView, Stop>
-    ensures { IfOk result (λ view. ShowsStore P.reads P.opens (standing P.Store.answers) (standing P.Store.fails) P.lists P.restores
+    ensures { IfOk result (λ view. ShowsStore P.reads P.opens (standing P.Store.answers) (standing P.Store.fails) P.lists P.leaves
         places.old path.now view places.new) }
 {
     let alloc = host.alloc;
@@ -87,7 +87,7 @@ pub fn show<R: Threads + Sync, G: Progress + Sync, P: Listings>(
     let Ok(design) = design_of(alloc, &catalog, Loss::none()) else {
         return Err(Stop::Memory);
     };
-    let Ok(is_restoring) = places.is_restoring(path) else {
+    let Ok(unfinished) = places.unfinished(path) else {
         return Err(Stop::Memory);
     };
     match strays_of(alloc, lines.as_slice(), names) {
@@ -97,7 +97,7 @@ pub fn show<R: Threads + Sync, G: Progress + Sync, P: Listings>(
             bad,
             lines,
             strays,
-            is_restoring,
+            unfinished,
         }),
         Err(_) => Err(Stop::Memory),
     }

@@ -5,15 +5,15 @@ ghost use Rattle.cs_store.specs.Load.{Loads};
 ghost use Rattle.cs_reading.specs.Standing.{standing};
 
 use crate::host::Host;
-use cs_answers::{BadStore, NextStep, holds};
-use cs_inspection::{Badness, bad_files};
-use cs_places::{Stop, refused, stop_of};
+use cs_answers::{BadStore, NextStep};
+use cs_inspection::{Badness, bad_survivors};
+use cs_places::{Stop, WorkKind, refused, stop_of};
 use cs_progress::Progress;
 use cs_reading::{SharedSource, load_readable_side_by_side};
-use cs_reports::{FaultWords, site_of, with_site};
+use cs_reports::FaultWords;
 use cs_schema::{Catalog, FileName, Loss};
 use cs_store::{Fault, FileSet, Readable};
-use std::alloc::{AllocError, Global};
+use std::alloc::Global;
 use std::marker::Sync;
 use std::thread::Threads;
 
@@ -24,8 +24,8 @@ pub struct Surviving<'a> {
     pub lost: Loss,
     /// The folder of the store.
     pub path: &'a str,
-    /// Whether a restore was left unfinished.
-    pub is_restoring: bool,
+    /// Which kind of work on it was left unfinished.
+    pub unfinished: Option<WorkKind>,
 }
 
 impl<'a> Surviving<'a> {
@@ -33,7 +33,7 @@ impl<'a> Surviving<'a> {
     fn next(&self) -> NextStep<'a> {
         NextStep {
             store: self.path,
-            is_restoring: self.is_restoring,
+            unfinished: self.unfinished,
         }
     }
 }
@@ -80,7 +80,7 @@ pub fn refuse<R: Threads + Sync, G: Progress + Sync>(
     if let Fault::Memory | Fault::Site | Fault::Unsafe(_) = fault {
         return stop_of(alloc, store.catalog, store.lost, fault);
     }
-    let Ok(bad) = bad_survivors(host, store, files, unreadable) else {
+    let Ok(bad) = bad_survivors(host.rt, alloc, store.catalog, files, unreadable, store.lost) else {
         return Stop::Memory;
     };
     let Some(lines) = lines_of(alloc, store, bad.as_slice(), fault) else {
@@ -91,24 +91,6 @@ pub fn refuse<R: Threads + Sync, G: Progress + Sync>(
     } else {
         Stop::Device(lines)
     }
-}
-
-/// The bad files that do not stand on lost sites.
-fn bad_survivors<R: Threads + Sync, G: Progress + Sync>(
-    host: &Host<'_, R, G>,
-    store: &Surviving<'_>,
-    files: &FileSet,
-    unreadable: &[FileName],
-) -> Result<Vec<(FileName, Badness)>, AllocError> {
-    let alloc = host.alloc;
-    let mut bad = Vec::new(alloc);
-    for (name, badness) in bad_files(host.rt, alloc, store.catalog, files, unreadable)? {
-        let site = site_of(store.catalog, name.projection(), name.segment());
-        if !holds(store.lost, with_site(Loss::none(), site)) {
-            bad.push((name, badness))?;
-        }
-    }
-    Ok(bad)
 }
 
 /// The lines of a refusal by a fault, with the bad files.

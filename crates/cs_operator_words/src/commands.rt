@@ -102,7 +102,7 @@ fn show<'a>(alloc: Global) -> Made<'a> {
     with(command, arguments::file(alloc))
 }
 
-/// `diagnose [--at-most N] [--disputes N] [--workers N] [--quiet] [--json] STORE`.
+/// `diagnose [--at-most N] [--disputes N] [--manifest FILE] [--workers N] [--quiet] [--json] STORE`.
 fn diagnose<'a>(alloc: Global) -> Made<'a> {
     let command = Command::new(alloc, "diagnose")
         .about(help::DIAGNOSE)
@@ -112,6 +112,7 @@ fn diagnose<'a>(alloc: Global) -> Made<'a> {
         arguments::at_most(alloc),
     );
     let command = with(command, arguments::disputes(alloc));
+    let command = with(command, arguments::manifest(alloc));
     let command = with(command, arguments::workers(alloc));
     let command = with(command, arguments::quiet(alloc));
     let command = with(command, arguments::json(alloc));

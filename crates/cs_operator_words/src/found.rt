@@ -77,6 +77,7 @@ pub fn diagnosing<'a>(found: &ArgMatches<'a>, processors: u32) -> Option<Request
     Some(Request::Diagnose(Diagnosing {
         at_most,
         disputes: found.get_one::<u32>("disputes").unwrap_or(DISPUTES),
+        manifest: found.get_str("manifest"),
         workers,
         quiet: found.get_flag("quiet"),
         json: found.get_flag("json"),

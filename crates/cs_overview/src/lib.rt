@@ -16,6 +16,7 @@ mod store_json;
 mod store_text;
 mod store_view;
 mod strays;
+mod unfinished;
 
 pub use cell_words::CellWords;
 pub use counted::Counted;
@@ -26,3 +27,4 @@ pub use memory::recovery_memory;
 pub use store_json::store_object;
 pub use store_view::StoreView;
 pub use strays::strays_of;
+pub use unfinished::Unfinished;

@@ -20,7 +20,7 @@ pub fn store_object(alloc: Global, view: &StoreView) -> Result<Value, AllocError
         .member("fatal", losses(alloc, view.design.fatal.as_slice()))
         .member("files", line_objects(alloc, view))
         .member("strays", texts(alloc, view.strays.as_slice()))
-        .truth("restoring", view.is_restoring)
+        .truth("restoring", view.unfinished.is_some())
         .number("memory", memory)
         .finish()
 }

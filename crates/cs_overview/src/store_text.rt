@@ -4,8 +4,8 @@ use crate::counted::Counted;
 use crate::lines::FileLine;
 use crate::memory::recovery_memory;
 use crate::store_view::StoreView;
+use crate::unfinished::Unfinished;
 use cs_inspection::Badness;
-use cs_places::RESTORING;
 use cs_reports::{DesignHead, site_of};
 use cs_schema::FileName;
 use std::fmt;
@@ -115,14 +115,16 @@ impl StoreView {
         Ok(())
     }
 
-    /// That a restore was left unfinished, and what to do next.
-    fn write_restore<W: fmt::Write>(&self, f: &mut fmt::Formatter<W>) -> fmt::Result {
-        if self.is_restoring {
-            writeln!(f, "unfinished restore: {RESTORING} is there")?;
-            writeln!(f, "next: pinepolo restore --resume STORE")
-        } else {
-            Ok(())
-        }
+    /// That work was left unfinished, and what to do next.
+    fn write_unfinished<W: fmt::Write>(&self, f: &mut fmt::Formatter<W>) -> fmt::Result {
+        let Some(kind) = self.unfinished else {
+            return Ok(());
+        };
+        let unfinished = Unfinished {
+            kind,
+            store: "STORE",
+        };
+        write!(f, "{unfinished}")
     }
 }
 
@@ -137,6 +139,6 @@ impl fmt::Display for StoreView {
         self.write_table(f)?;
         self.write_sums(f)?;
         self.write_strays(f)?;
-        self.write_restore(f)
+        self.write_unfinished(f)
     }
 }

@@ -1,6 +1,7 @@
 //! A store as a whole.
 use crate::lines::FileLine;
 use cs_inspection::Badness;
+use cs_places::WorkKind;
 use cs_reports::Design;
 use cs_schema::{Catalog, FileName};
 
@@ -17,6 +18,6 @@ pub struct StoreView {
     pub lines: Vec<FileLine>,
     /// What else stands in its folder.
     pub strays: Vec<String>,
-    /// Whether a restore was left unfinished.
-    pub is_restoring: bool,
+    /// Which kind of work on it was left unfinished.
+    pub unfinished: Option<WorkKind>,
 }

@@ -5,6 +5,7 @@ ghost use Rattle.cs_store.specs.Fault.{CountsFault};
 use crate::listing::names_in;
 use crate::listings::Listings;
 use crate::places::Places;
+use crate::rebuilt::rebuilt_names;
 use crate::shelves::{GivenBack, Shelves};
 use crate::store_files::StoreFiles;
 use crate::tables::Tables;
@@ -15,7 +16,9 @@ use cs_folders::{
 };
 use cs_schema::{Catalog, Loss};
 use cs_store::StoreFault;
-use cs_taking::{Taken, UndoOf, Undoable, Untaken, Work, is_unfinished, resume, take, take_undo};
+use cs_taking::{
+    Taken, UndoOf, Undoable, Untaken, Work, WorkKind, resume, take, take_undo, unfinished_kind,
+};
 use std::alloc::{AllocError, Global};
 use std::fs::File;
 use std::marker::Sync;
@@ -126,15 +129,15 @@ impl<R: Files + Copy + Sync> Places for Folders<R> {
 impl<R: Files + Alloc + Copy + Drop + Sync> Listings for Folders<R> {
     ghost lists = { λ s path names t. ⊤ };
 
-    ghost restores = { λ s path is. ⊤ };
+    ghost leaves = { λ s path kind. ⊤ };
 
     fn names(&mut self, path: &str) -> Result<Vec<String>, StoreFault> {
         let names = names_in(self.alloc, &self.rt, path);
         self.told(names)
     }
 
-    fn is_restoring(&self, path: &str) -> Result<bool, AllocError> {
-        is_unfinished(self.alloc, &self.rt, path)
+    fn unfinished(&self, path: &str) -> Result<Option<WorkKind>, AllocError> {
+        unfinished_kind(self.alloc, &self.rt, path)
     }
 }
 
@@ -176,17 +179,6 @@ impl<R: Files + Copy + Drop> Folders<R> {
     }
 }
 
-/// A store that was taken to go on with its restore, and the sites that are lost.
-fn resumed<R: Files + Copy + Drop>(
-    shelf: FolderShelf<R>,
-    taken: Taken,
-) -> Result<(FolderShelf<R>, Loss), Untaken> {
-    match lost_of(&taken) {
-        Some(lost) => Ok((shelf.taken_by(taken), lost)),
-        None => Err(Untaken::UnfinishedUndo),
-    }
-}
-
 /// The sites whose loss a store was taken to restore, if it was.
 fn lost_of(taken: &Taken) -> Option<Loss> {
     match taken.record.work {
@@ -216,8 +208,11 @@ impl<R: Files<File = File> + Alloc + Clock + Copy + Drop + Sync> Shelves for Fol
             Ok(shelf) => shelf,
             Err(_) => return Err(Untaken::Memory),
         };
+        let Ok(names) = rebuilt_names(self.alloc, catalog, lost) else {
+            return Err(Untaken::Memory);
+        };
         match take(self.alloc, &self.rt, path, Work::Restore(lost)) {
-            Ok(taken) => Ok(shelf.taken_by(taken)),
+            Ok(taken) => Ok(shelf.taken_by(taken, names)),
             Err(untaken) => Err(untaken),
         }
     }
@@ -227,8 +222,14 @@ impl<R: Files<File = File> + Alloc + Clock + Copy + Drop + Sync> Shelves for Fol
             Ok(taken) => taken,
             Err(untaken) => return Err(untaken),
         };
+        let Some(lost) = lost_of(&taken) else {
+            return Err(Untaken::UnfinishedUndo);
+        };
+        let Ok(names) = rebuilt_names(self.alloc, catalog, lost) else {
+            return Err(Untaken::Memory);
+        };
         match self.shelf(path, catalog) {
-            Ok(shelf) => resumed(shelf, taken),
+            Ok(shelf) => Ok((shelf.taken_by(taken, names), lost)),
             Err(_) => Err(Untaken::Memory),
         }
     }
@@ -244,7 +245,7 @@ impl<R: Files<File = File> + Alloc + Clock + Copy + Drop + Sync> Shelves for Fol
             Err(_) => return Err(Untaken::Memory),
         };
         match take_undo(self.alloc, &self.rt, path, asked) {
-            Ok((taken, undoable)) => Ok((shelf.taken_by(taken), undoable)),
+            Ok((taken, undoable)) => Ok((shelf.taken_by(taken, Vec::new(self.alloc)), undoable)),
             Err(untaken) => Err(untaken),
         }
     }

@@ -9,13 +9,14 @@ mod folders;
 mod listing;
 mod listings;
 mod places;
+mod rebuilt;
 mod shelves;
 mod stop;
 mod store_files;
 mod tables;
 
 pub use cs_folders::Way;
-pub use cs_taking::{JOURNAL, RECORD as RESTORING, UndoOf, Undoable, Untaken, Work};
+pub use cs_taking::{JOURNAL, RECORD as RESTORING, UndoOf, Undoable, Untaken, Work, WorkKind};
 pub use finding::{find_store, find_store_text, look_up, look_up_text};
 pub use folders::Folders;
 pub use listings::Listings;

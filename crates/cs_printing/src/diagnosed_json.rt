@@ -1,7 +1,7 @@
 //! A diagnosis as JSON.
 use crate::disputed_json::dispute_objects;
 use crate::json::bad_object;
-use cs_answers::{Diagnosed, number_of, rows_of, verdict_word};
+use cs_answers::{Diagnosed, fault_word, number_of, rows_of, verdict_word};
 use cs_file_diagnosis::{Diagnosis, Explanation};
 use cs_reports::object::{Object, number_or_null, sites};
 use serde_json::Value;
@@ -19,15 +19,17 @@ pub fn diagnosed_object(alloc: Global, diagnosed: &Diagnosed) -> Result<Value, A
         .member("explanations", explanation_objects(alloc, diagnosis))
         .text("verdict", verdict_word(diagnosis.verdict))
         .member("disputes", dispute_objects(alloc, diagnosed))
-        .truth("restoring", diagnosed.is_restoring)
+        .truth("restoring", diagnosed.unfinished.is_some())
         .finish()
 }
 
 /// The bad files.
 fn bad_objects(alloc: Global, diagnosed: &Diagnosed) -> Result<Value, AllocError> {
+    let changed = diagnosed.changed.as_slice();
     let mut list = Vec::new(alloc);
     for (name, badness) in &diagnosed.diagnosis.bad {
-        list.push(bad_object(alloc, &diagnosed.catalog, *name, badness)?)?;
+        let word = fault_word(changed, *name, badness);
+        list.push(bad_object(alloc, &diagnosed.catalog, *name, word)?)?;
     }
     Ok(Value::Array(list))
 }

@@ -4,7 +4,6 @@ use crate::restored_json::restoration_object;
 use crate::tables_json::{dumped_object, new_store_object};
 use crate::undone_json::undone_object;
 use cs_answers::{Answer, Checked, Recovered, Verdict, Wrong, badness_word};
-use cs_inspection::Badness;
 use cs_overview::{file_object as shown_file_object, store_object};
 use cs_reports::object::{Object, number_or_null, sites};
 use cs_reports::{design_object, site_of};
@@ -38,7 +37,7 @@ pub fn answer_object(alloc: Global, answer: &Answer) -> Result<Value, AllocError
 /// What a check came to.
 fn checked_object(alloc: Global, checked: &Checked) -> Result<Value, AllocError> {
     let object = Object::of_verb(alloc, "check")
-        .truth("restoring", checked.is_restoring)
+        .truth("restoring", checked.unfinished.is_some())
         .member("files", bad_objects(alloc, checked));
     match &checked.verdict {
         Verdict::Sound { rows, k } => object
@@ -73,7 +72,8 @@ fn wrong(alloc: Global, checked: &Checked) -> Result<Value, AllocError> {
 fn bad_objects(alloc: Global, checked: &Checked) -> Result<Value, AllocError> {
     let mut list = Vec::new(alloc);
     for (name, badness) in &checked.bad {
-        list.push(bad_object(alloc, &checked.catalog, *name, badness)?)?;
+        let word = badness_word(badness);
+        list.push(bad_object(alloc, &checked.catalog, *name, word)?)?;
     }
     Ok(Value::Array(list))
 }
@@ -87,15 +87,15 @@ pub fn file_object(alloc: Global, catalog: &Catalog, name: FileName) -> Object {
         .member("site", Ok(number_or_null(site)))
 }
 
-/// A bad file.
+/// A bad file, and what is wrong with it in a word.
 pub fn bad_object(
     alloc: Global,
     catalog: &Catalog,
     name: FileName,
-    badness: &Badness,
+    fault: &str,
 ) -> Result<Value, AllocError> {
     file_object(alloc, catalog, name)
-        .text("fault", badness_word(badness))
+        .text("fault", fault)
         .finish()
 }
 

@@ -4,8 +4,9 @@ ghost use Rattle.cs_answers.specs.Statuses.{answer_status};
 ghost use Rattle.cs_verifying.specs.Statuses.{listed_status};
 
 use crate::json::{answer_object, refusal_object};
-use cs_answers::{Answer, Dumped, Unfinished};
-use cs_places::{DEVICE, DONE, MEMORY, REFUSED};
+use cs_answers::{Answer, Dumped};
+use cs_overview::Unfinished;
+use cs_places::{DEVICE, DONE, MEMORY, REFUSED, WorkKind};
 use cs_verifying::Listed;
 use serde_json::Value;
 use std::alloc::{AllocError, Global};
@@ -69,8 +70,10 @@ pub fn say<W: Write, E: Write>(
 ) -> u8
     ensures { (result ≡ answer_status answer.now) ⊎ ((result ≡ MEMORY) ⊎ (result ≡ DEVICE)) }
 {
-    if is_unfinished(answer) && warn(err) != DONE {
-        return DEVICE;
+    if let Some(kind) = unfinished(answer) {
+        if warn(kind, err) != DONE {
+            return DEVICE;
+        }
     }
     match answer {
         Answer::Dumped(
@@ -84,17 +87,20 @@ pub fn say<W: Write, E: Write>(
     }
 }
 
-/// Whether a table was written of a store whose restore was left unfinished.
-fn is_unfinished(answer: &Answer) -> bool {
+/// Which kind of work was left unfinished on a store of which a table was written.
+fn unfinished(answer: &Answer) -> Option<WorkKind> {
     match answer {
-        Answer::Dumped(dumped) => dumped.is_restoring,
-        _ => false,
+        Answer::Dumped(dumped) => dumped.unfinished,
+        _ => None,
     }
 }
 
-/// Says that a restore was left unfinished, and gives the status.
-fn warn<E: Write>(err: &mut E) -> u8 {
-    let unfinished = Unfinished { store: "STORE" };
+/// Says that work was left unfinished, and gives the status.
+fn warn<E: Write>(kind: WorkKind, err: &mut E) -> u8 {
+    let unfinished = Unfinished {
+        kind,
+        store: "STORE",
+    };
     match write!(err, "{unfinished}") {
         Ok(()) => DONE,
         Err(_) => DEVICE,

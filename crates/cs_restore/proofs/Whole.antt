@@ -7,9 +7,13 @@ use Rattle.cs_schema.specs.declared.file_name.FileName.{FileName}
 use Rattle.cs_store.specs.FileSet.{Files}
 use Rattle.cs_shelf.specs.Shelf.{AddsCopies, ChangesNothing, Follows, KeepsOld, LeavesOnly}
 use Rattle.cs_restore.specs.Placing.{IsOldOrPartOver, IsPartOf, IsPutOver}
-use Rattle.cs_restore.specs.Restoring.{IsFinished, IsOldOrPart, MayBeLeft, PlansRestore}
+use Rattle.cs_restore.specs.Restoring.{IsFinished, IsOldOrPart, MayBeLeft, PlansFor, PlansRestore}
 use Rattle.cs_restore.proofs.Finished.{finished}
 use Rattle.cs_shelf.proofs.Moments.{nothing_changed, runs_weaker, then_run}
+
+-- a plan for each of the contents that may be held
+pub plans_held : (C : CatalogData) (L : Sites) (out : Files) (changes : List FileName) (held : Files → Type 0) → ((d : Files) → held d → PlansFor C L out changes d) → PlansRestore C L held out changes
+plans_held C L out changes held each = record { answers = λ d now. (each d now).answers; others = λ d now n. (each d now).others n }
 
 module _ {S : Type 0} (holds may_leave kept : S → Files → Type 0) (moment : S → ℕ) (left_since : S → ℕ → Files → Type 0) (C : CatalogData) (L : Sites)
     (s t : S) (only_now : (c : Files) → left_since s (moment s) c → may_leave s c) (still : ChangesNothing holds may_leave kept moment left_since s t) where

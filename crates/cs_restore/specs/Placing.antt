@@ -1,19 +1,11 @@
 -- Files of a set that are put in place, in part or whole.
-use Rattle.std.specs.Prelude.{◌≡◌, ◌⊎◌, ℕ, List, ◌∷◌, [], ◌++◌, Some, slice_get, IsSome}
+use Rattle.std.specs.Prelude.{◌≡◌, ◌⊎◌, ℕ, List, ◌∷◌, [], ◌++◌, Some}
 use Rattle.cs_schema.specs.declared.file_name.FileName.{FileName}
 use Rattle.cs_store.specs.FileSet.{Files, contents_of}
 use Rattle.cs_shelf.specs.Shelf.{IsAmong}
 use Rattle.cs_recovery.specs.Claims.{put_over}
 use Rattle.cs_restore.specs.declared.step.Step.{Step}
 use Rattle.cs_restore.specs.declared.step.What.TheVariants.{Same}
-
--- what the set has under each name stands there, whichever of the contents is held
-abbrev pub HasAtLeast : Files → (Files → Type 0) → Type 0
-HasAtLeast files held = (c : Files) → held c → (n : FileName) (bytes : List ℕ) → contents_of files n ≡ Some bytes → contents_of c n ≡ Some bytes
-
--- these bytes stand under the name
-abbrev pub HasUnder : FileName → List ℕ → (Files → Type 0) → Type 0
-HasUnder name bytes held = (c : Files) → held c → contents_of c name ≡ Some bytes
 
 -- what is to stand under a name stands there: the set's bytes, or what stood there
 abbrev pub IsThere : Files → Files → FileName → Type 0
@@ -22,6 +14,14 @@ IsThere out d n = put_over (contents_of out) (contents_of d) n ≡ contents_of d
 -- under all names but these the set's bytes stand already
 abbrev pub OthersAreThere : Files → List FileName → (Files → Type 0) → Type 0
 OthersAreThere out names held = (d : Files) → held d → (n : FileName) → IsAmong names n ⊎ IsThere out d n
+
+-- what the set has under a name is what was read there
+abbrev pub WasRead : Files → Files → FileName → Type 0
+WasRead out read n = (bytes : List ℕ) → contents_of out n ≡ Some bytes → contents_of read n ≡ Some bytes
+
+-- under all names but these the set's bytes were read
+abbrev pub OthersWereRead : Files → List FileName → Files → Type 0
+OthersWereRead out names read = (n : FileName) → IsAmong names n ⊎ WasRead out read n
 
 -- a name joined the changes, or its bytes stand there
 abbrev pub AddsStep : Step → List FileName → List FileName → Type 0

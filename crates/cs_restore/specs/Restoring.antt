@@ -2,17 +2,27 @@
 use Rattle.std.specs.Prelude.{◌≡◌, ◌⊎◌, ℕ, List, Ok, Result, []}
 use Rattle.cs_schema.specs.CatalogData.{CatalogData}
 use Rattle.cs_schema.specs.CatalogRules.{IsCatalog}
-use Rattle.cs_schema.specs.FileNames.{surviving}
+use Rattle.cs_schema.specs.FileNames.{surviving, Survives}
+use Rattle.cs_schema.specs.Lists.{IsIn}
 use Rattle.cs_schema.specs.Losses.{Sites}
 use Rattle.cs_schema.specs.Rows.{Row}
 use Rattle.cs_schema.specs.declared.file_name.FileName.{FileName}
 use Rattle.cs_store.specs.FileSet.{Files, contents_of}
 use Rattle.cs_store.specs.declared.fault.Fault.{Fault}
-use Rattle.cs_shelf.specs.Shelf.{IsFoundIn}
+use Rattle.cs_shelf.specs.Shelf.{IsAmong, IsFoundIn}
 use Rattle.cs_recovery.specs.AnswerLaws.{IsOrMemory}
 use Rattle.cs_recovery.specs.Claims.{IsCheckAnswer, IsOnlyTable, IsRebuildAnswer, put_over}
 use Rattle.cs_recovery.specs.Holding.{Holds, HoldsSurvivors}
-use Rattle.cs_restore.specs.Placing.{IsPartOf, OthersAreThere}
+use Rattle.cs_restore.specs.Placing.{IsPartOf, IsThere, OthersAreThere}
+
+-- no surviving file was unreadable
+abbrev pub AreSurvivorsRead : CatalogData → Sites → List FileName → Type 0
+AreSurvivorsRead C L unreadable = (n : FileName) → Survives C L n → ¬ IsIn n unreadable
+
+-- of these contents `rebuild` answers these files, and all but those of the changes stand in place
+pub record PlansFor (C : CatalogData) (L : Sites) (out : Files) (changes : List FileName) (d : Files) : Type 0 where
+  pub answers : IsRebuildAnswer C (contents_of d) L (Ok out)
+  pub others : (n : FileName) → IsAmong changes n ⊎ IsThere out d n
 
 -- `rebuild` answers these files, whichever of the contents is held, and all but those of the changes stand in place
 pub record PlansRestore (C : CatalogData) (L : Sites) (held : Files → Type 0) (out : Files) (changes : List FileName) : Type 0 where

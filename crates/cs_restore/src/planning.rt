@@ -1,18 +1,19 @@
 //! What a restore is to do, found without changing anything.
-ghost use Rattle.std.specs.Prelude.{◌≤◌, [], Ok, IfOk};
+ghost use Rattle.std.specs.Prelude.{◌≡◌, ◌<◌, ◌≤◌, ℕ, [], ⊤, Ok, Some, IfOk, MatchOption};
+ghost use Rattle.std.specs.List.{slice_get};
 ghost use Rattle.cs_schema.specs.FileNames.{surviving};
+ghost use Rattle.cs_schema.specs.Lists.{IsIn};
 ghost use Rattle.cs_store.specs.FileSet.{Files, contents_of};
-ghost use Rattle.cs_shelf.specs.Shelf.{ChangesNothing};
-ghost use Rattle.cs_recovery.specs.Claims.{IsRebuildAnswer};
-ghost use Rattle.cs_restore.specs.Placing.{HasAtLeast};
-ghost use Rattle.cs_restore.specs.Restoring.{PlansRestore, ReadsBack};
+ghost use Rattle.cs_shelf.specs.Shelf.{ChangesNothing, IsReadOf};
+ghost use Rattle.cs_restore.specs.Restoring.{AreSurvivorsRead, PlansFor, ReadsBack};
 
 use crate::comparing::compare;
 use crate::step::Step;
 use cs_rebuild::{Gate, Run, check_gated, rebuild_gated};
 use cs_schema::{Catalog, FileName, Loss};
 use cs_shelf::{Shelf, load_held};
-use cs_store::{Fault, FileSet};
+use cs_store::{Fault, FileSet, Readable};
+use std::alloc::{AllocError, Global};
 use std::marker::Sync;
 use std::thread::Threads;
 
@@ -26,63 +27,64 @@ pub struct Plan {
     pub changes: Vec<FileName>,
 }
 
-/// What was read, and the files that recover what the loss took.
-#[derive(Drop)]
-struct Answered {
-    loaded: FileSet,
-    answer: FileSet,
+/// The first surviving name that was unreadable.
+fn unread(
+    alloc: Global,
+    catalog: &Catalog,
+    loss: Loss,
+    unreadable: &[FileName],
+) -> Result<Option<FileName>, AllocError>
+    ensures { IfOk result (λ found. MatchOption found (AreSurvivorsRead catalog.now loss unreadable.now) (λ name. ⊤)) }
+{
+    let _rules = catalog.projection_count();
+    let names = catalog.surviving(alloc, loss)?;
+    for name in &names {
+        if unreadable.contains(name) {
+            return Ok(Some(*name));
+        }
+    }
+    Ok(None)
 }
 
-/// Reads what survives the loss, and rebuilds what it took. No file changes.
-fn answer_of<S: Shelf, R: Threads + Sync, G: Gate + Sync>(
+/// What a restore of a store that lost these sites is to do, of which this was read. No file changes.
+///
+/// `Read` names the first surviving file that was unreadable; else the refusals are those of `rebuild`.
+pub fn plan_restore<R: Threads + Sync, G: Gate + Sync>(
     run: &Run<'_, R, G>,
     catalog: &Catalog,
     loss: Loss,
-    shelf: &mut S,
-) -> Result<Answered, Fault>
-    ensures loaded { IfOk result (λ answered. HasAtLeast answered.loaded (S.holds shelf.new)) }
-    ensures answers { IfOk result (λ answered. (d : Files) → S.holds shelf.new d
-        → IsRebuildAnswer catalog.now (contents_of d) loss (Ok answered.answer)) }
-    ensures unchanged { ChangesNothing S.holds S.may_leave S.kept S.moment S.left_since shelf.old shelf.new }
-    ensures counted { S.fault_count shelf.old ≤ S.fault_count shelf.new }
+    read: &Readable,
+) -> Result<Plan, Fault>
+    ensures { IfOk result (λ plan. (d : Files) → IsReadOf (surviving catalog.now []) read.now.files read.now.unreadable.items d
+        → PlansFor catalog.now loss plan.answer plan.changes.items d) }
 {
     let _rules = catalog.projection_count();
     let (workers, cut) = (run.workers, run.cut);
-    let loaded = match load_held(run.alloc, catalog, loss, shelf) {
-        Ok(loaded) => loaded,
-        Err(fault) => return Err(fault),
-    };
-    match rebuild_gated(
-        run.rt, run.alloc, catalog, &loaded, loss, workers, cut, run.gate,
-    ) {
-        Ok(answer) => Ok(Answered { loaded, answer }),
-        Err(fault) => Err(fault),
+    match unread(run.alloc, catalog, loss, read.unreadable.as_slice()) {
+        Ok(None) => {}
+        Ok(Some(name)) => return Err(Fault::Read(name)),
+        Err(_) => return Err(Fault::Memory),
     }
-}
-
-/// What a restore of the store that lost these sites is to do. No file changes.
-pub fn plan_restore<S: Shelf, R: Threads + Sync, G: Gate + Sync>(
-    run: &Run<'_, R, G>,
-    catalog: &Catalog,
-    loss: Loss,
-    shelf: &mut S,
-) -> Result<Plan, Fault>
-    ensures plans { IfOk result (λ plan.
-        PlansRestore catalog.now loss (S.holds shelf.new) plan.answer plan.changes.items) }
-    ensures unchanged { ChangesNothing S.holds S.may_leave S.kept S.moment S.left_since shelf.old shelf.new }
-    ensures counted { S.fault_count shelf.old ≤ S.fault_count shelf.new }
-{
-    let answered = match answer_of(run, catalog, loss, shelf) {
-        Ok(answered) => answered,
+    let answer = match rebuild_gated(
+        run.rt,
+        run.alloc,
+        catalog,
+        &read.files,
+        loss,
+        workers,
+        cut,
+        run.gate,
+    ) {
+        Ok(answer) => answer,
         Err(fault) => return Err(fault),
     };
-    match compare(run.alloc, &answered.loaded, &answered.answer, shelf) {
+    match compare(run.alloc, read, &answer) {
         Ok(compared) => Ok(Plan {
-            answer: answered.answer,
+            answer,
             steps: compared.steps,
             changes: compared.changes,
         }),
-        Err(fault) => Err(fault),
+        Err(_) => Err(Fault::Memory),
     }
 }
 

@@ -1,6 +1,7 @@
 //! Restoring a store in place.
-ghost use Rattle.std.specs.Prelude.{◌≤◌, IfOk};
-ghost use Rattle.cs_shelf.specs.Shelf.{AddsCopies, Follows, KeepsOld, LeavesOnly};
+ghost use Rattle.std.specs.Prelude.{◌≤◌, [], IfOk};
+ghost use Rattle.cs_schema.specs.FileNames.{surviving};
+ghost use Rattle.cs_shelf.specs.Shelf.{AddsCopies, Follows, IsReadIn, KeepsOld, LeavesOnly};
 ghost use Rattle.cs_restore.specs.Restoring.{IsFinished, IsOldOrPart, MayBeLeft, ReadsBack};
 
 use crate::placing::exchange;
@@ -9,7 +10,7 @@ use crate::step::Step;
 use cs_rebuild::{Gate, Run};
 use cs_schema::{Catalog, Loss};
 use cs_shelf::Shelf;
-use cs_store::Fault;
+use cs_store::{Fault, Readable};
 use std::marker::Sync;
 use std::thread::Threads;
 
@@ -22,7 +23,8 @@ pub struct Restored {
     pub steps: Vec<Step>,
 }
 
-/// Rebuilds what the loss took from the store, puts it in place file by file, reads all back and checks it.
+/// Rebuilds what the loss took from the store of which this was read, puts it in place file by file, reads all back and
+/// checks it.
 ///
 /// Nothing changes before `rebuild` has answered. After a fault, and after a stop at any moment, each name has what it had
 /// or what was rebuilt; asked for again with the same loss, it puts the same files in place. What it replaces is kept.
@@ -30,8 +32,10 @@ pub fn restore<S: Shelf, R: Threads + Sync, G: Gate + Sync>(
     run: &Run<'_, R, G>,
     catalog: &Catalog,
     loss: Loss,
+    read: Readable,
     shelf: &mut S,
 ) -> Result<Restored, Fault>
+    requires { IsReadIn (S.holds shelf.old) (surviving catalog.now []) read.files read.unreadable.items }
     ensures finished { IfOk result (λ restored. Follows (IsFinished catalog.now loss) (S.holds shelf.old) (S.holds shelf.new)) }
     ensures durable { IfOk result (λ restored. Follows (IsFinished catalog.now loss) (S.holds shelf.old) (S.may_leave shelf.new)) }
     ensures read_back { IfOk result (λ restored. ReadsBack catalog.now (S.holds shelf.new) restored.rows) }
@@ -43,10 +47,11 @@ pub fn restore<S: Shelf, R: Threads + Sync, G: Gate + Sync>(
     ensures counted { S.fault_count shelf.old ≤ S.fault_count shelf.new }
 {
     let _rules = catalog.projection_count();
-    let plan = match plan_restore(run, catalog, loss, shelf) {
+    let plan = match plan_restore(run, catalog, loss, &read) {
         Ok(plan) => plan,
         Err(fault) => return Err(fault),
     };
+    drop(read);
     match exchange(&plan.answer, plan.changes.as_slice(), shelf) {
         Ok(()) => {}
         Err(fault) => return Err(fault),

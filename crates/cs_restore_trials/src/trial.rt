@@ -2,7 +2,7 @@
 use anyhow::{Result, anyhow};
 use cs_restore::{OpenGate, Run, restore};
 use cs_schema::{Catalog, Loss};
-use cs_shelf::{MemoryShelf, Stop};
+use cs_shelf::{MemoryShelf, Stop, load_readable_held};
 use cs_store::FileSet;
 use std::alloc::Global;
 use std::marker::Sync;
@@ -89,7 +89,8 @@ pub fn restored<R: Threads + Sync>(rt: &R, trial: &Trial, shelf: &mut MemoryShel
         cut: 2,
         gate: &OpenGate,
     };
-    match restore(&run, trial.catalog, loss_of(trial.sites), shelf) {
+    let read = load_readable_held(trial.alloc, trial.catalog, shelf).ok()?;
+    match restore(&run, trial.catalog, loss_of(trial.sites), read, shelf) {
         Ok(restored) => Some(restored.rows),
         Err(_) => None,
     }

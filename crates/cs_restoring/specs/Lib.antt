@@ -1,2 +1,3 @@
+pub mod Doubts
 pub mod Restores
 pub mod Undoes

@@ -1,14 +1,27 @@
 -- What the verb `restore` does, by what the places and a store that can be changed say of one call.
-use Rattle.std.specs.Prelude.{◌≡◌, ◌⊎◌, ℕ, ⊤, Bool, true, false, List, Some, None}
+use Rattle.std.specs.Prelude.{◌≡◌, ◌⊎◌, ℕ, Bool, true, false, List, [], Some, None, Result, Ok}
 use Rattle.cs_schema.specs.CatalogData.{CatalogData}
 use Rattle.cs_schema.specs.Losses.{Sites}
 use Rattle.cs_schema.specs.declared.file_name.FileName.{FileName}
+use Rattle.cs_schema.specs.FileNames.{surviving}
 use Rattle.cs_store.specs.FileSet.{Files}
-use Rattle.cs_shelf.specs.Shelf.{Follows}
-use Rattle.cs_restore.specs.Restoring.{IsFinished, PlansRestore, ReadsBack}
+use Rattle.cs_store.specs.declared.readable.Readable.{Readable}
+use Rattle.cs_shelf.specs.Shelf.{Follows, IsNoMore, IsReadOf}
+use Rattle.cs_restore.specs.Restoring.{IsFinished, PlansFor, PlansRestore, ReadsBack}
 use Rattle.cs_places.specs.Finding.{FindsStore}
+use Rattle.cs_places.specs.declared.stop.Stop.{Stop}
+use Rattle.cs_answers.specs.declared.doubted.Doubted.{Doubted}
 use Rattle.cs_answers.specs.declared.restoration.Restoration.{Restoration}
 use Rattle.cs_answers.specs.declared.restoration.Restoration.TheVariants as restoration
+use Rattle.cs_restoring.specs.Doubts.{IsDoubtful, IsUndoubtedOf}
+
+-- a restore has a plan for what is held
+abbrev pub HasPlan : CatalogData → Sites → (Files → Type 0) → Type 0
+HasPlan C L held = (files : Files) × (changes : List FileName) × PlansRestore C L held files changes
+
+-- a restore has a plan for all contents of which this was read
+abbrev pub PlansFrom : CatalogData → Sites → Readable → Type 0
+PlansFrom C L read = (files : Files) × (changes : List FileName) × ((d : Files) → IsReadOf (surviving C []) read.files read.unreadable.items d → PlansFor C L files changes d)
 
 module _ {P K : Type 0} where
   -- What the survivors held stands in the store, now and after a stop; it was read back and checked, and given back as finished.
@@ -19,40 +32,59 @@ module _ {P K : Type 0} where
     pub read_back : ReadsBack C (holds left) rows
     pub given : gives_back s left true t
 
-  -- the store was looked at alone, and a restore has a plan for it
-  pub record PlansStore (looks_at : P → List ℕ → CatalogData → K → Type 0) (holds : K → Files → Type 0) (s : P) (path : List ℕ) (C : CatalogData) (L : Sites) : Type 0 where
+  -- the store was looked at alone, and a restore has a plan for it, of which it is not doubtful what was lost
+  pub record PlansStore (looks_at : P → List ℕ → CatalogData → K → Type 0) (holds : K → Files → Type 0) (accepts resumes : Bool) (s : P) (path : List ℕ) (C : CatalogData) (L : Sites) : Type 0 where
     pub store : K
     pub left : K
     pub looked : looks_at s path C store
-    pub files : Files
-    pub changes : List FileName
-    pub plan : PlansRestore C L (holds left) files changes
+    pub same : IsNoMore (holds store) (holds left)
+    pub plan : HasPlan C L (holds left)
+    pub undoubted : accepts ≡ false → IsUndoubtedOf holds C store L resumes
 
-  -- a plan is the answer, which has no number of rows; a doubt says nothing
-  abbrev pub Foresees : (P → List ℕ → CatalogData → K → Type 0) → (K → Files → Type 0) → P → List ℕ → CatalogData → Sites → Restoration → Type 0
-  Foresees looks_at holds s path C L (restoration.Done restored) = (restored.catalog ≡ C) × (restored.lost ≡ L) × (restored.rows ≡ None) × PlansStore looks_at holds s path C L
-  Foresees looks_at holds s path C L (restoration.Doubted _) = ⊤
+  -- a plan is the answer, which has no number of rows, or a diagnosis that makes the loss doubtful
+  abbrev pub Foresees : (P → List ℕ → CatalogData → K → Type 0) → (K → Files → Type 0) → Bool → Bool → P → List ℕ → CatalogData → Sites → Restoration → Type 0
+  Foresees looks_at holds accepts resumes s path C L (restoration.Done restored) = (restored.catalog ≡ C) × (restored.lost ≡ L) × (restored.rows ≡ None) × PlansStore looks_at holds accepts resumes s path C L
+  Foresees looks_at holds accepts resumes s path C L (restoration.Doubted doubted) = IsDoubtful doubted.diagnosed.diagnosis L resumes
 
-  -- the number of rows is the answer of a store that was restored; one that is doubtful was given back as it was taken
-  abbrev pub EndsRestore : (P → K → Bool → P → Type 0) → (holds may_leave : K → Files → Type 0) → P → CatalogData → Sites → K → P → Restoration → Type 0
-  EndsRestore gives_back holds may_leave s C L store t (restoration.Done restored) = (restored.catalog ≡ C) × (restored.lost ≡ L) × ((rows : ℕ) × (restored.rows ≡ Some rows) × WorksOnStore gives_back holds may_leave s C L store rows t)
-  EndsRestore gives_back holds may_leave s C L store t (restoration.Doubted _) = gives_back s store false t
+  -- the number of rows is the answer of a store that was restored
+  abbrev pub FinishesRestore : (P → K → Bool → P → Type 0) → (holds may_leave : K → Files → Type 0) → P → CatalogData → Sites → K → P → Restoration → Type 0
+  FinishesRestore gives_back holds may_leave s C L store t (restoration.Done restored) = (restored.catalog ≡ C) × (restored.lost ≡ L) × ((rows : ℕ) × (restored.rows ≡ Some rows) × WorksOnStore gives_back holds may_leave s C L store rows t)
+  FinishesRestore gives_back holds may_leave s C L store t (restoration.Doubted _) = ⊥
+
+  -- a doubt is the answer, whose store was given back
+  abbrev pub EndsDoubted : (P → K → Bool → P → Type 0) → P → Result Doubted Stop → K → P → Restoration → Type 0
+  EndsDoubted gives_back s doubted store t (restoration.Done _) = ⊥
+  EndsDoubted gives_back s doubted store t (restoration.Doubted answer) = (doubted ≡ Ok answer) × gives_back s store false t
+
+  -- the store was given back as it was taken: it was read alone
+  pub record GivesBackUnchanged (gives_back : P → K → Bool → P → Type 0) (holds may_leave : K → Files → Type 0) (s : P) (store : K) (t : P) : Type 0 where
+    pub left : K
+    pub held : IsNoMore (holds store) (holds left)
+    pub stop : IsNoMore (may_leave store) (may_leave left)
+    pub given : gives_back s left false t
+
+  -- A store is restored only where it is not doubtful what was lost, unless its loss is accepted; one that is doubtful is given
+  -- back as it was taken.
+  abbrev pub EndsRestore : (P → K → Bool → P → Type 0) → (holds may_leave : K → Files → Type 0) → Bool → Bool → P → CatalogData → Sites → K → P → Restoration → Type 0
+  EndsRestore gives_back holds may_leave accepts resumes s C L store t (restoration.Done restored) =
+      FinishesRestore gives_back holds may_leave s C L store t (restoration.Done restored) × (accepts ≡ false → IsUndoubtedOf holds C store L resumes)
+  EndsRestore gives_back holds may_leave accepts resumes s C L store t (restoration.Doubted doubted) = IsDoubtful doubted.diagnosed.diagnosis L resumes × GivesBackUnchanged gives_back holds may_leave s store t
 
 module _ {P S K : Type 0} (reads : P → List ℕ → List ℕ → P → Type 0) (opens : P → List ℕ → CatalogData → S → Type 0) (takes_store : P → List ℕ → CatalogData → Sites → K → P → Type 0) (looks_at : P → List ℕ → CatalogData → K → Type 0) (gives_back : P → K → Bool → P → Type 0) (holds may_leave : K → Files → Type 0) where
   -- the store was taken, for the sites that were asked for unless an unfinished restore goes on, and restored as these ask
-  pub record TakesAndEnds (resumes : Bool) (asked : Sites) (s : P) (path : List ℕ) (C : CatalogData) (answer : Restoration) (t : P) : Type 0 where
+  pub record TakesAndEnds (accepts resumes : Bool) (asked : Sites) (s : P) (path : List ℕ) (C : CatalogData) (answer : Restoration) (t : P) : Type 0 where
     pub lost : Sites
     pub as_asked : resumes ≡ false → lost ≡ asked
     pub store : K
     pub taken : P
     pub takes : takes_store s path C lost store taken
-    pub ends : EndsRestore gives_back holds may_leave taken C lost store t answer
+    pub ends : EndsRestore gives_back holds may_leave accepts resumes taken C lost store t answer
 
   -- The store at this path was found. Of a dry run, and of none else, it was then looked at alone; else it was taken and restored.
-  pub record DoesRestore (is_dry_run resumes : Bool) (asked : Sites) (s : P) (path : List ℕ) (answer : Restoration) (t : P) : Type 0 where
+  pub record DoesRestore (is_dry_run accepts resumes : Bool) (asked : Sites) (s : P) (path : List ℕ) (answer : Restoration) (t : P) : Type 0 where
     pub catalog : CatalogData
     pub found : P
     pub source : S
     pub finds : FindsStore reads opens s path catalog source found
-    pub does : ((is_dry_run ≡ true) × (t ≡ found) × Foresees looks_at holds found path catalog asked answer)
-        ⊎ ((is_dry_run ≡ false) × TakesAndEnds resumes asked found path catalog answer t)
+    pub does : ((is_dry_run ≡ true) × (t ≡ found) × Foresees looks_at holds accepts resumes found path catalog asked answer)
+        ⊎ ((is_dry_run ≡ false) × TakesAndEnds accepts resumes asked found path catalog answer t)

@@ -1,18 +1,21 @@
 //! Whether it is doubtful that a store lost just the sites that are named.
-ghost use Rattle.std.specs.Prelude.{◌≤◌, IfOk};
-ghost use Rattle.cs_file_diagnosis.specs.Disputed.{IsSomeDiagnosis};
+ghost use Rattle.std.specs.Prelude.{◌≡◌, ◌≤◌, true, Some, IfOk, MatchBool, MatchOption};
+ghost use Rattle.cs_store.specs.FileSet.{contents_of};
+ghost use Rattle.cs_inspection.specs.Laws.{AreAbsent};
+ghost use Rattle.cs_file_diagnosis.specs.Diagnoses.{IsDiagnosis};
+ghost use Rattle.cs_restoring.specs.Doubts.{IsDoubtful, IsEachBad, IsUndoubted};
 
-use cs_answers::holds;
-use cs_file_diagnosis::{Diagnosis, TableDisputes, Verdict, diagnose, disputed_rows};
-use cs_inspection::bad_files;
+use cs_design::within::is_within;
+use cs_diagnosis::explained::{is_explained, is_found};
+use cs_file_diagnosis::{Diagnosis, TableDisputes, Verdict, bad_sites, diagnose, disputed_rows};
+use cs_inspection::bad_survivors;
 use cs_places::Stop;
 use cs_progress::{Progress, Stage};
-use cs_reading::{SharedSource, load_readable_side_by_side};
 use cs_rebuild::Run;
-use cs_reports::{site_of, with_site};
 use cs_safety::safe;
 use cs_schema::{Catalog, Loss};
-use std::alloc::{AllocError, Global};
+use cs_store::Readable;
+use std::alloc::AllocError;
 use std::marker::Sync;
 use std::thread::Threads;
 
@@ -40,90 +43,96 @@ fn others(loss: Loss) -> Loss {
     others
 }
 
-/// Whether a bad file stands on each site of a loss. No file of another site is read.
-fn is_each_bad<R: Threads + Sync, G: Progress + Sync, S: SharedSource>(
+/// Whether a bad file stands on each site of a loss. No file of another site is looked at.
+fn is_each_bad<R: Threads + Sync, G: Progress + Sync>(
     run: &Run<'_, R, G>,
     catalog: &Catalog,
-    source: &S,
+    read: &Readable,
     loss: Loss,
-) -> Result<bool, AllocError> {
-    let found = load_readable_side_by_side(run.rt, run.alloc, catalog, others(loss), source)?;
-    let unreadable = found.unreadable.as_slice();
-    let bad = bad_files(run.rt, run.alloc, catalog, &found.files, unreadable)?;
-    let mut sites = Loss::none();
-    for (name, _) in &bad {
-        sites = with_site(sites, site_of(catalog, name.projection(), name.segment()));
-    }
-    Ok(holds(sites, loss))
+) -> Result<bool, AllocError>
+    ensures { IfOk result (λ is. is ≡ true → IsEachBad catalog.now (contents_of read.now.files) read.now.unreadable.items loss) }
+{
+    let _rules = catalog.projection_count();
+    let unreadable = read.unreadable.as_slice();
+    let bad = bad_survivors(
+        run.rt,
+        run.alloc,
+        catalog,
+        &read.files,
+        unreadable,
+        others(loss),
+    )?;
+    Ok(is_within(loss, bad_sites(catalog, bad.as_slice())))
 }
 
 /// Whether a diagnosis makes it doubtful that a store lost just these sites: fewer of them explain it, or others by another
 /// table. What no explanation is within is no doubt, but refused. A restore that goes on may have put files in place
 /// already, so that fewer sites explain the store.
-fn is_doubtful(diagnosis: &Diagnosis, loss: Loss, resumes: bool) -> bool {
-    let (mut is_accepted, mut is_explanation) = (false, false);
-    for explanation in &diagnosis.explanations {
-        is_accepted = is_accepted || holds(loss, explanation.loss);
-        is_explanation = is_explanation || explanation.loss == loss;
-    }
-    match diagnosis.verdict {
-        Verdict::Ambiguous => is_accepted,
-        _ => is_accepted && !is_explanation && !resumes,
-    }
-}
-
-/// The doubt that a diagnosis makes, with where its tables differ.
-fn doubt_by(alloc: Global, catalog: &Catalog, diagnosis: Diagnosis) -> Result<Doubt, AllocError>
-    requires { IsSomeDiagnosis catalog.now diagnosis }
+fn is_doubtful(diagnosis: &Diagnosis, loss: Loss, resumes: bool) -> bool
+    ensures { MatchBool result (IsDoubtful diagnosis.now loss resumes) (¬ IsDoubtful diagnosis.now loss resumes) }
 {
-    let disputes = disputed_rows(alloc, catalog, &diagnosis, DISPUTES)?;
-    Ok(Doubt {
-        diagnosis,
-        disputes,
-    })
+    let explanations = diagnosis.explanations.as_slice();
+    if !is_explained(explanations, loss) {
+        return false;
+    }
+    if let Verdict::Ambiguous = diagnosis.verdict {
+        return true;
+    }
+    !(resumes || is_found(explanations, loss))
 }
 
-/// What makes it doubtful that a store lost just these sites. Where a bad file stands on each of them, there is no doubt, and
-/// nothing else is read.
-pub fn find_doubt<R: Threads + Sync, G: Progress + Sync, S: SharedSource>(
+/// What makes it doubtful that a store of which this was read lost just these sites. Where a bad file stands on each of them,
+/// there is no doubt, and nothing else is looked at.
+pub fn find_doubt<R: Threads + Sync, G: Progress + Sync>(
     run: &Run<'_, R, G>,
     catalog: &Catalog,
-    source: &S,
+    read: &Readable,
     loss: Loss,
     resumes: bool,
-) -> Result<Option<Doubt>, Stop> {
+) -> Result<Option<Doubt>, Stop>
+    requires { AreAbsent (contents_of read.now.files) read.now.unreadable.items }
+    ensures { IfOk result (λ found. MatchOption found (IsUndoubted catalog.now read.now loss resumes) (λ doubt. IsDoubtful doubt.diagnosis loss resumes)) }
+{
     if !catalog.has_sites(loss) || !safe(catalog, loss) {
         return Ok(None);
     }
-    match is_each_bad(run, catalog, source, loss) {
+    match is_each_bad(run, catalog, read, loss) {
         Ok(true) => return Ok(None),
         Ok(false) => {}
         Err(_) => return Err(Stop::Memory),
     }
-    let Ok(diagnosis) = diagnosis_of(run, catalog, source, loss.count().min(SITE_LIMIT)) else {
+    let Ok(diagnosis) = diagnosis_of(run, catalog, read, loss.count().min(SITE_LIMIT)) else {
         return Err(Stop::Memory);
     };
     if !is_doubtful(&diagnosis, loss, resumes) {
         return Ok(None);
     }
-    match doubt_by(run.alloc, catalog, diagnosis) {
-        Ok(doubt) => Ok(Some(doubt)),
+    match disputed_rows(run.alloc, catalog, &diagnosis, DISPUTES) {
+        Ok(disputes) => Ok(Some(Doubt {
+            diagnosis,
+            disputes,
+        })),
         Err(_) => Err(Stop::Memory),
     }
 }
 
-/// The diagnosis of a store by losses of at most so many sites.
-fn diagnosis_of<R: Threads + Sync, G: Progress + Sync, S: SharedSource>(
+/// The diagnosis of a store of which this was read, by losses of at most so many sites.
+fn diagnosis_of<R: Threads + Sync, G: Progress + Sync>(
     run: &Run<'_, R, G>,
     catalog: &Catalog,
-    source: &S,
+    read: &Readable,
     at_most: u8,
 ) -> Result<Diagnosis, AllocError>
-    requires { at_most ≤ 16 }
-    ensures { IfOk result (IsSomeDiagnosis catalog.now) }
+    requires few { at_most ≤ 16 }
+    requires absent { AreAbsent (contents_of read.now.files) read.now.unreadable.items }
+    ensures { IfOk result (IsDiagnosis catalog.now (contents_of read.now.files) read.now.unreadable.items (Some at_most)) }
 {
-    let found = load_readable_side_by_side(run.rt, run.alloc, catalog, Loss::none(), source)?;
     run.gate.reached(Stage::Inspecting);
-    let unreadable = found.unreadable.as_slice();
-    diagnose(run, catalog, &found.files, unreadable, Some(at_most))
+    diagnose(
+        run,
+        catalog,
+        &read.files,
+        read.unreadable.as_slice(),
+        Some(at_most),
+    )
 }

@@ -1,9 +1,8 @@
 //! How a restore or an undo ends early.
-use cs_places::{GivenBack, Stop, Untaken, stop_of};
+use cs_places::{GivenBack, Stop, Untaken, WorkKind, refused, stop_of};
 use cs_schema::{Catalog, Loss};
 use cs_store::{Fault, StoreFault};
 use std::alloc::Global;
-use std::fmt;
 
 /// The store that is restored, or put back as it was.
 #[derive(Clone, Copy)]
@@ -14,31 +13,7 @@ pub struct LostStore<'a> {
     /// The sites that are lost; none of an undo.
     pub lost: Loss,
     /// The verb that is at work, by which it is gone on with.
-    pub verb: Verb,
-}
-
-/// A verb that changes a store in place.
-#[derive(Clone, Copy, Debug, PartialEq, Eq)]
-pub enum Verb {
-    Restore,
-    Undo,
-}
-
-impl fmt::Display for Verb {
-    fn fmt<W: fmt::Write>(&self, f: &mut fmt::Formatter<W>) -> fmt::Result {
-        f.write_str(match self {
-            Verb::Restore => "restore",
-            Verb::Undo => "undo",
-        })
-    }
-}
-
-/// The lines of a refusal, as how it ends a verb.
-fn refused(text: Option<String>) -> Stop {
-    match text {
-        Some(text) => Stop::Refused(text),
-        None => Stop::Memory,
-    }
+    pub verb: WorkKind,
 }
 
 /// The lines of a failure, as how it ends a verb.
@@ -50,7 +25,7 @@ fn failed(text: Option<String>) -> Stop {
 }
 
 /// How a store ends a verb for which it could not be taken.
-pub fn stop_untaken(alloc: Global, untaken: &Untaken, path: &str, verb: Verb) -> Stop {
+pub fn stop_untaken(alloc: Global, untaken: &Untaken, path: &str, verb: WorkKind) -> Stop {
     match untaken {
         Untaken::Memory => Stop::Memory,
         Untaken::Device => failed(format!(in alloc;
@@ -76,12 +51,12 @@ pub fn stop_untaken(alloc: Global, untaken: &Untaken, path: &str, verb: Verb) ->
 }
 
 /// That nothing is unfinished that could be gone on with.
-fn none_unfinished(alloc: Global, path: &str, verb: Verb) -> Option<String> {
+fn none_unfinished(alloc: Global, path: &str, verb: WorkKind) -> Option<String> {
     match verb {
-        Verb::Restore => format!(in alloc;
+        WorkKind::Restore => format!(in alloc;
             "fault: no restore of {path} is unfinished\nnext: pinepolo restore {path} SITE..\n"
         ).ok(),
-        Verb::Undo => format!(in alloc;
+        WorkKind::Undo => format!(in alloc;
             "fault: no undo of {path} is unfinished\nnext: pinepolo undo {path}\n"
         ).ok(),
     }
@@ -125,7 +100,7 @@ fn with_next(alloc: Global, lines: &str, next: &str) -> Option<String> {
 }
 
 /// How a fault ends a verb that is to be gone on with.
-fn resumed(alloc: Global, stop: Stop, path: &str, verb: Verb) -> Stop {
+fn resumed(alloc: Global, stop: Stop, path: &str, verb: WorkKind) -> Stop {
     let Ok(next) = format!(in alloc; "pinepolo {verb} --resume {path}") else {
         return Stop::Memory;
     };
@@ -152,7 +127,7 @@ pub fn stop_by(alloc: Global, store: &LostStore<'_>, fault: &Fault, given: Given
 }
 
 /// How a record ends a verb that could not be removed, or a journal that could not be written.
-pub fn stop_unended(alloc: Global, fault: StoreFault, path: &str, verb: Verb) -> Stop {
+pub fn stop_unended(alloc: Global, fault: StoreFault, path: &str, verb: WorkKind) -> Stop {
     match fault {
         StoreFault::Memory => Stop::Memory,
         StoreFault::Device => failed(format!(in alloc;

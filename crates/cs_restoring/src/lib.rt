@@ -4,7 +4,9 @@
 
 mod doubting;
 mod ending;
+mod foreseeing;
 mod planning;
+mod reading;
 mod restoring;
 mod undoing;
 mod working;

@@ -1,31 +1,28 @@
 //! What a restore would do.
 ghost use Rattle.std.specs.Prelude.{◌≡◌, IfOk, None};
-ghost use Rattle.cs_restoring.specs.Restores.{PlansStore};
+ghost use Rattle.cs_restoring.specs.Restores.{PlansFrom};
 
-use crate::ending::{LostStore, stop_unseen};
+use crate::ending::LostStore;
 use cs_answers::Restored;
 use cs_design::greatest_k;
-use cs_places::{Shelves, Stop, stop_of};
+use cs_places::{Stop, stop_of};
 use cs_progress::Progress;
 use cs_rebuild::Run;
 use cs_restore::{Step, plan_restore};
 use cs_schema::{Catalog, Loss};
+use cs_store::Readable;
 use std::marker::Sync;
 use std::thread::Threads;
 
-/// What would become of each file of a store. Nothing is changed.
-pub fn plan<R: Threads + Sync, G: Progress + Sync, P: Shelves>(
+/// What would become of each file of a store of which this was read. Nothing is changed.
+pub fn plan<R: Threads + Sync, G: Progress + Sync>(
     run: &Run<'_, R, G>,
-    places: &P,
     store: &LostStore<'_>,
+    read: &Readable,
 ) -> Result<Vec<Step>, Stop>
-    ensures { IfOk result (λ steps. PlansStore P.looks_at P.Shelf.holds places.now store.now.path.now store.now.catalog.now store.now.lost) }
+    ensures { IfOk result (λ steps. PlansFrom store.now.catalog.now store.now.lost read.now) }
 {
-    let mut shelf = match places.look(store.path, store.catalog) {
-        Ok(shelf) => shelf,
-        Err(fault) => return Err(stop_unseen(run.alloc, fault, store.path)),
-    };
-    match plan_restore(run, store.catalog, store.lost, &mut shelf) {
+    match plan_restore(run, store.catalog, store.lost, read) {
         Ok(plan) => Ok(plan.steps),
         Err(fault) => Err(stop_of(run.alloc, store.catalog, store.lost, &fault)),
     }

@@ -1,18 +1,21 @@
-//! The verb.
-ghost use Rattle.std.specs.Prelude.{◌≡◌, IfOk, Some, false};
-ghost use Rattle.cs_restoring.specs.Restores.{DoesRestore, EndsRestore, Foresees};
+//! The verb `restore`.
+ghost use Rattle.std.specs.Prelude.{◌≡◌, [], IfOk, Some, false};
+ghost use Rattle.cs_schema.specs.FileNames.{surviving};
+ghost use Rattle.cs_shelf.specs.Shelf.{IsReadIn};
+ghost use Rattle.cs_restoring.specs.Restores.{DoesRestore, EndsDoubted, EndsRestore, FinishesRestore};
 
-use crate::doubting::{Doubt, find_doubt};
-use crate::ending::{LostStore, Verb, stop_unended, stop_untaken};
-use crate::planning::{plan, planned};
+use crate::ending::{LostStore, stop_unended, stop_untaken};
+use crate::foreseeing::look_ahead;
+use crate::reading::{doubt_of, doubted, read_files};
 use crate::working::work;
-use cs_answers::{Diagnosed, Doubted, Restoration, Restored};
+use cs_answers::{Doubted, Restoration, Restored};
 use cs_design::greatest_k;
 use cs_operator_words::Restoring;
-use cs_places::{GivenBack, Shelves, Stop, find_store};
+use cs_places::{GivenBack, Shelves, Stop, WorkKind, find_store};
 use cs_progress::Progress;
 use cs_rebuild::Run;
 use cs_schema::{Catalog, Loss};
+use cs_store::Readable;
 use std::alloc::Global;
 use std::marker::Sync;
 use std::thread::Threads;
@@ -38,64 +41,7 @@ fn take<P: Shelves>(
     };
     match taken {
         Ok(taken) => Ok(taken),
-        Err(untaken) => Err(stop_untaken(alloc, &untaken, path, Verb::Restore)),
-    }
-}
-
-/// The answer of a restore that is doubtful.
-fn doubted(alloc: Global, catalog: Catalog, doubt: Doubt, lost: Loss) -> Result<Doubted, Stop> {
-    let Doubt {
-        diagnosis,
-        disputes,
-    } = doubt;
-    match Diagnosed::compared(alloc, catalog, diagnosis, disputes, false) {
-        Ok(diagnosed) => Ok(Doubted { diagnosed, lost }),
-        Err(_) => Err(Stop::Memory),
-    }
-}
-
-/// What makes a loss doubtful, unless its sites are known to be gone.
-fn doubt_of<R: Threads + Sync, G: Progress + Sync, P: Shelves>(
-    run: &Run<'_, R, G>,
-    catalog: &Catalog,
-    source: &P::Store,
-    request: &Restoring<'_>,
-    lost: Loss,
-) -> Result<Option<Doubt>, Stop> {
-    if request.accepts_loss {
-        return Ok(None);
-    }
-    find_doubt(run, catalog, source, lost, request.resumes)
-}
-
-/// What a restore of a store that was found would do.
-fn look_ahead<R: Threads + Sync, G: Progress + Sync, P: Shelves>(
-    run: &Run<'_, R, G>,
-    places: &P,
-    found: (Catalog, P::Store),
-    request: &Restoring<'_>,
-) -> Result<Restoration, Stop>
-    ensures { IfOk result (Foresees P.looks_at P.Shelf.holds places.now request.now.store.now found.0 request.now.loss) }
-{
-    let (catalog, source) = found;
-    let lost = request.loss;
-    match doubt_of::<R, G, P>(run, &catalog, &source, request, lost) {
-        Ok(None) => {}
-        Ok(Some(doubt)) => return match doubted(run.alloc, catalog, doubt, lost) {
-            Ok(doubted) => Ok(Restoration::Doubted(doubted)),
-            Err(stop) => Err(stop),
-        },
-        Err(stop) => return Err(stop),
-    }
-    let store = LostStore {
-        catalog: &catalog,
-        path: request.store,
-        lost,
-        verb: Verb::Restore,
-    };
-    match plan(run, places, &store) {
-        Ok(steps) => Ok(Restoration::Done(planned(catalog, lost, steps))),
-        Err(stop) => Err(stop),
+        Err(untaken) => Err(stop_untaken(alloc, &untaken, path, WorkKind::Restore)),
     }
 }
 
@@ -119,41 +65,80 @@ fn finished(
     }
 }
 
+/// Gives a store back that was not changed, for which a verb ends early.
+fn give_up<P: Shelves>(places: &mut P, shelf: P::Shelf, stop: Stop) -> Stop {
+    let _left = places.give_back(shelf, false).is_ok();
+    stop
+}
+
+/// Gives a store back of which it is doubtful what was lost.
+fn give_back_doubted<P: Shelves>(
+    alloc: Global,
+    places: &mut P,
+    shelf: P::Shelf,
+    doubted: Result<Doubted, Stop>,
+    path: &str,
+) -> Result<Restoration, Stop>
+    ensures { IfOk result (EndsDoubted P.gives_back places.old doubted shelf places.new) }
+{
+    let doubted = match doubted {
+        Ok(doubted) => doubted,
+        Err(stop) => return Err(give_up(places, shelf, stop)),
+    };
+    match places.give_back(shelf, false) {
+        Ok(_) => Ok(Restoration::Doubted(doubted)),
+        Err(fault) => Err(stop_unended(alloc, fault, path, WorkKind::Restore)),
+    }
+}
+
+/// Restores a store that was taken, of which this was read, and gives it back.
+fn restore_read<R: Threads + Sync, G: Progress + Sync, P: Shelves>(
+    run: &Run<'_, R, G>,
+    places: &mut P,
+    taken: (P::Shelf, Loss),
+    catalog: Catalog,
+    read: Readable,
+    path: &str,
+) -> Result<Restoration, Stop>
+    requires { IsReadIn (P.Shelf.holds taken.0) (surviving catalog []) read.files read.unreadable.items }
+    ensures { IfOk result (FinishesRestore P.gives_back P.Shelf.holds P.Shelf.may_leave places.old catalog taken.1 taken.0 places.new) }
+{
+    let (shelf, lost) = taken;
+    let store = LostStore {
+        catalog: &catalog,
+        path,
+        lost,
+        verb: WorkKind::Restore,
+    };
+    match work(run, places, shelf, &store, read) {
+        Ok((restored, given)) => Ok(Restoration::Done(finished(catalog, lost, restored, given))),
+        Err(stop) => Err(stop),
+    }
+}
+
 /// Restores a store that was taken, unless it is doubtful what it lost, and gives it back.
 fn restore_taken<R: Threads + Sync, G: Progress + Sync, P: Shelves>(
     run: &Run<'_, R, G>,
     places: &mut P,
     taken: (P::Shelf, Loss),
-    found: (Catalog, P::Store),
+    catalog: Catalog,
     request: &Restoring<'_>,
 ) -> Result<Restoration, Stop>
-    ensures { IfOk result (EndsRestore P.gives_back P.Shelf.holds P.Shelf.may_leave places.old found.0 taken.1 taken.0 places.new) }
+    ensures { IfOk result (EndsRestore P.gives_back P.Shelf.holds P.Shelf.may_leave request.now.accepts_loss request.now.resumes places.old catalog taken.1 taken.0 places.new) }
 {
     let (shelf, lost) = taken;
-    let (catalog, source) = found;
-    match doubt_of::<R, G, P>(run, &catalog, &source, request, lost) {
-        Ok(None) => {}
-        Ok(Some(doubt)) => return match places.give_back(shelf, false) {
-            Ok(_) => match doubted(run.alloc, catalog, doubt, lost) {
-                Ok(doubted) => Ok(Restoration::Doubted(doubted)),
-                Err(stop) => Err(stop),
-            },
-            Err(fault) => Err(stop_unended(run.alloc, fault, request.store, Verb::Restore)),
-        },
-        Err(stop) => {
-            let _left = places.give_back(shelf, false).is_ok();
-            return Err(stop);
-        }
-    }
-    let store = LostStore {
-        catalog: &catalog,
-        path: request.store,
-        lost,
-        verb: Verb::Restore,
+    let mut shelf = shelf;
+    let read = match read_files(run.alloc, &catalog, &mut shelf) {
+        Ok(read) => read,
+        Err(stop) => return Err(give_up(places, shelf, stop)),
     };
-    match work(run, places, shelf, &store) {
-        Ok((restored, given)) => Ok(Restoration::Done(finished(catalog, lost, restored, given))),
-        Err(stop) => Err(stop),
+    match doubt_of(run, &catalog, &read, request, lost) {
+        Ok(None) => restore_read(run, places, (shelf, lost), catalog, read, request.store),
+        Ok(Some(doubt)) => {
+            let doubted = doubted(run.alloc, catalog, doubt, lost);
+            give_back_doubted(run.alloc, places, shelf, doubted, request.store)
+        }
+        Err(stop) => Err(give_up(places, shelf, stop)),
     }
 }
 
@@ -166,17 +151,17 @@ pub fn restore<R: Threads + Sync, G: Progress + Sync, P: Shelves>(
     request: &Restoring<'_>,
 ) -> Result<Restoration, Stop>
     ensures { IfOk result (λ restoration. DoesRestore P.reads P.opens P.takes_store P.looks_at P.gives_back P.Shelf.holds P.Shelf.may_leave
-        request.now.is_dry_run request.now.resumes request.now.loss places.old request.now.store.now restoration places.new) }
+        request.now.is_dry_run request.now.accepts_loss request.now.resumes request.now.loss places.old request.now.store.now restoration places.new) }
 {
-    let found = match find_store(run.alloc, places, request.store) {
+    let (catalog, _source) = match find_store(run.alloc, places, request.store) {
         Ok(found) => found,
         Err(stop) => return Err(stop),
     };
     if request.is_dry_run {
-        return look_ahead(run, places, found, request);
+        return look_ahead(run, places, catalog, request);
     }
-    match take(run.alloc, places, &found.0, request) {
-        Ok(taken) => restore_taken(run, places, taken, found, request),
+    match take(run.alloc, places, &catalog, request) {
+        Ok(taken) => restore_taken(run, places, taken, catalog, request),
         Err(stop) => Err(stop),
     }
 }

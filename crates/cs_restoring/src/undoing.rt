@@ -2,11 +2,11 @@
 ghost use Rattle.std.specs.Prelude.{◌≡◌, IfOk};
 ghost use Rattle.cs_restoring.specs.Undoes.{DoesUndo, EndsUndo, undo_asked};
 
-use crate::ending::{LostStore, Verb, stop_unended, stop_untaken};
+use crate::ending::{LostStore, stop_unended, stop_untaken};
 use crate::working::leave;
 use cs_answers::Undone;
 use cs_operator_words::Undoing;
-use cs_places::{Shelves, Stop, UndoOf, Undoable, find_store};
+use cs_places::{Shelves, Stop, UndoOf, Undoable, WorkKind, find_store};
 use cs_schema::{Catalog, Loss};
 use cs_undo::put_back;
 use std::alloc::Global;
@@ -40,7 +40,7 @@ fn undo_taken<P: Shelves>(
             catalog: &catalog,
             path,
             lost: Loss::none(),
-            verb: Verb::Undo,
+            verb: WorkKind::Undo,
         };
         return Err(leave(alloc, places, shelf, &store, &fault));
     }
@@ -50,7 +50,7 @@ fn undo_taken<P: Shelves>(
             undoable,
             kept: given.kept,
         }),
-        Err(failure) => Err(stop_unended(alloc, failure, path, Verb::Undo)),
+        Err(failure) => Err(stop_unended(alloc, failure, path, WorkKind::Undo)),
     }
 }
 
@@ -73,6 +73,6 @@ pub fn undo<P: Shelves>(
     };
     match places.take_undo(path, &catalog, undo_of(request)) {
         Ok(taken) => undo_taken(alloc, places, taken, catalog, path),
-        Err(untaken) => Err(stop_untaken(alloc, &untaken, path, Verb::Undo)),
+        Err(untaken) => Err(stop_untaken(alloc, &untaken, path, WorkKind::Undo)),
     }
 }

@@ -1,5 +1,7 @@
 //! Restoring a store that was taken.
-ghost use Rattle.std.specs.Prelude.{IfOk};
+ghost use Rattle.std.specs.Prelude.{[], IfOk};
+ghost use Rattle.cs_schema.specs.FileNames.{surviving};
+ghost use Rattle.cs_shelf.specs.Shelf.{IsReadIn};
 ghost use Rattle.cs_restoring.specs.Restores.{WorksOnStore};
 
 use crate::ending::{LostStore, stop_by, stop_unended};
@@ -7,7 +9,7 @@ use cs_places::{GivenBack, Shelves, Stop};
 use cs_progress::Progress;
 use cs_rebuild::Run;
 use cs_restore::{Restored, restore};
-use cs_store::Fault;
+use cs_store::{Fault, Readable};
 use std::alloc::Global;
 use std::marker::Sync;
 use std::thread::Threads;
@@ -26,18 +28,20 @@ pub fn leave<P: Shelves>(
     }
 }
 
-/// Restores a store that was taken, and gives it back.
+/// Restores a store that was taken, of which this was read, and gives it back.
 pub fn work<R: Threads + Sync, G: Progress + Sync, P: Shelves>(
     run: &Run<'_, R, G>,
     places: &mut P,
     shelf: P::Shelf,
     store: &LostStore<'_>,
+    read: Readable,
 ) -> Result<(Restored, GivenBack), Stop>
+    requires { IsReadIn (P.Shelf.holds shelf) (surviving store.now.catalog.now []) read.files read.unreadable.items }
     ensures { IfOk result (λ worked. WorksOnStore P.gives_back P.Shelf.holds P.Shelf.may_leave
         places.old store.now.catalog.now store.now.lost shelf worked.0.rows places.new) }
 {
     let mut shelf = shelf;
-    let restored = match restore(run, store.catalog, store.lost, &mut shelf) {
+    let restored = match restore(run, store.catalog, store.lost, read, &mut shelf) {
         Ok(restored) => restored,
         Err(fault) => return Err(leave(run.alloc, places, shelf, store, &fault)),
     };

@@ -2,6 +2,7 @@ mod Copies
 pub mod Loads
 pub mod Moments
 pub mod Names
+mod Readable
 mod Past
 mod Rest
 pub mod Steps

@@ -20,8 +20,11 @@ module _ {S : Type 0} (holds may_leave kept : S → Files → Type 0) (moment : 
   abbrev Still : S → S → Type 0
   Still s t = ChangesNothing holds may_leave kept moment left_since s t
 
-  still : (s t : S) → t ≡ s → Still s t
+  pub still : (s t : S) → t ≡ s → Still s t
   still s t same = subst (λ u. Still s u) (sym same) (record { held = λ c now. now; stop = λ c now. now; copies = λ c now. now; later = omega arith; before = λ m c le left. inl left })
+
+  pub unmoved : (s : S) → Still s s
+  unmoved s = still s s refl
 
   pub still_then : (s u t : S) → Still s u → Still u t → Still s t
   still_then s u t a b = record {

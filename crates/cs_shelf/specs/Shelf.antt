@@ -2,6 +2,7 @@
 use Rattle.std.specs.Prelude.{◌≡◌, ◌⊎◌, ℕ, ◌≤◌, List, None, Some, slice_get, IsSome}
 use Rattle.std.specs.FinMap.{insert}
 use Rattle.cs_schema.specs.declared.file_name.FileName.{FileName}
+use Rattle.cs_schema.specs.Lists.{IsIn}
 use Rattle.cs_store.specs.FileSet.{Files, contents_of}
 use Rattle.cs_store.specs.Memory.{held_at}
 
@@ -81,3 +82,13 @@ pub record ChangesNothing {S : Type 0} (holds may_leave kept : S → Files → T
 -- under these names a set has what is held, whichever of the contents that is
 abbrev pub IsFoundIn : (Files → Type 0) → List FileName → Files → Type 0
 IsFoundIn held names files = (c : Files) → held c → (n : FileName) → contents_of files n ≡ held_at c names n
+
+-- this was read of a store's contents: nothing but what they have, and under these names all of it, but for those at which a
+-- read failed
+pub record IsReadOf (names : List FileName) (files : Files) (unreadable : List FileName) (c : Files) : Type 0 where
+  pub only : (n : FileName) (bytes : List ℕ) → contents_of files n ≡ Some bytes → contents_of c n ≡ Some bytes
+  pub all : (n : FileName) → IsIn n names → (IsIn n unreadable → ⊥) → contents_of files n ≡ contents_of c n
+
+-- so it was of what is held, whichever of the contents that is
+abbrev pub IsReadIn : (Files → Type 0) → List FileName → Files → List FileName → Type 0
+IsReadIn held names files unreadable = (c : Files) → held c → IsReadOf names files unreadable c

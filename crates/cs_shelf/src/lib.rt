@@ -10,6 +10,6 @@ mod refusing;
 mod shelf;
 
 pub use memory::{MemoryShelf, Stop};
-pub use reading::{load_held, read_held};
+pub use reading::{load_held, load_readable_held};
 pub use refusing::write_fault;
 pub use shelf::Shelf;

@@ -1,16 +1,16 @@
 //! Reading what a shelf holds, which changes nothing.
-ghost use Rattle.std.specs.Prelude.{◌≡◌, ◌≤◌, IfOk, IsErrOf};
-ghost use Rattle.std.specs.Option.{option_map};
+ghost use Rattle.std.specs.Prelude.{◌≡◌, ◌≤◌, [], None, IfOk, IsErrOf};
+ghost use Rattle.std.specs.List.{AllByRecursion};
 ghost use Rattle.cs_schema.specs.FileNames.{surviving};
 ghost use Rattle.cs_schema.specs.declared.file_name.FileName.{FileName};
 ghost use Rattle.cs_store.specs.Fault.{CountsFault};
-ghost use Rattle.cs_store.specs.FileSet.{Files, contents_of};
-ghost use Rattle.cs_shelf.specs.Shelf.{ChangesNothing, IsFoundIn};
+ghost use Rattle.cs_store.specs.FileSet.{contents_of};
+ghost use Rattle.cs_shelf.specs.Shelf.{ChangesNothing, IsFoundIn, IsReadIn};
 
 use crate::Shelf;
-use cs_schema::{Catalog, FileName, Loss};
-use cs_store::{Fault, FileSet, StoreFault, load};
-use std::alloc::Global;
+use cs_schema::{Catalog, Loss};
+use cs_store::{Fault, FileSet, Readable, load, load_readable};
+use std::alloc::{AllocError, Global};
 
 /// Reads the files that survive the loss. No file changes at any moment, whatever it answers.
 pub fn load_held<S: Shelf>(
@@ -28,14 +28,17 @@ pub fn load_held<S: Shelf>(
     load(alloc, catalog, loss, shelf)
 }
 
-/// Reads one file. No file changes at any moment, whatever it answers.
-pub fn read_held<S: Shelf>(shelf: &mut S, name: FileName) -> Result<Option<Vec<u8>>, StoreFault>
-    ensures found { IfOk result (λ file. (c : Files) → S.holds shelf.new c
-        → option_map (λ bytes. bytes.items) file ≡ contents_of c name) }
+/// Reads each of the store's files that can be read. No file changes at any moment, whatever it answers.
+pub fn load_readable_held<S: Shelf>(
+    alloc: Global,
+    catalog: &Catalog,
+    shelf: &mut S,
+) -> Result<Readable, AllocError>
+    ensures found { IfOk result (λ found. IsReadIn (S.holds shelf.new) (surviving catalog.now []) found.files found.unreadable.items) }
+    ensures apart { IfOk result (λ found.
+        AllByRecursion (λ name. contents_of found.files name ≡ None) found.unreadable.items) }
     ensures unchanged { ChangesNothing S.holds S.may_leave S.kept S.moment S.left_since shelf.old shelf.new }
-    ensures device { IsErrOf result StoreFault.Device
-        → CountsFault (S.fault_count shelf.old) (S.fault_count shelf.new) }
     ensures counted { S.fault_count shelf.old ≤ S.fault_count shelf.new }
 {
-    shelf.read(name)
+    load_readable(alloc, catalog, Loss::none(), shelf)
 }

@@ -1,4 +1,5 @@
 //! The end of work on a store.
+use crate::digests::Digests;
 use crate::files::sync_folder;
 use crate::journal::append;
 use crate::replaced::kept_record;
@@ -15,12 +16,13 @@ pub fn finish<R: Files + Clock>(
     rt: &R,
     store: &str,
     taken: &Taken,
+    digests: &Digests,
 ) -> io::Result<()> {
     if taken.record.changes.is_some() {
         let number = taken.record.kept;
         let kept = kept_record(alloc, store, number)?;
         if !fs::exists(rt, kept.as_str())? {
-            append(alloc, rt, store, &taken.record)?;
+            append(alloc, rt, store, &taken.record, digests)?;
             let record = format!(in alloc; "{store}/{RECORD}")?;
             fs::hard_link(rt, record.as_str(), kept.as_str())?;
             let folder = format!(in alloc; "{store}/replaced/{number}")?;

@@ -1,4 +1,6 @@
 //! The journal of a store: a line for each restore and undo that changed something.
+use crate::digests::{Digests, FileDigest};
+use crate::files::{read_regular, regular_size};
 use crate::record::{Change, Record, Work, change_word};
 use cs_folders::read_bounded;
 use cs_reports::object::{Object, sites};
@@ -6,7 +8,6 @@ use cs_schema::FileName;
 use cs_store::StoreFault;
 use jiff::Timestamp;
 use serde_json::Value;
-use sha2::{Digest, Sha256};
 use std::alloc::Global;
 use std::fs::{OpenFile, OpenOptions};
 use std::io::{ErrorKind, Read, Seek, SeekFrom, Write};
@@ -17,31 +18,54 @@ use std::{fs, io};
 /// The name of the journal in a store's folder.
 pub const JOURNAL: &str = "restores.jsonl";
 
-/// How many bytes a file has whose digest is told, at most.
-const GREATEST: u64 = 1 << 62;
+/// The size and the digest of the regular file at this path; null where there is none. It is read only where its digest
+/// isn't known.
+fn file_value<R: Files>(
+    alloc: Global,
+    rt: &R,
+    path: &str,
+    known: Option<FileDigest>,
+) -> io::Result<Value> {
+    let Some(size) = regular_size(rt, path) else {
+        return Ok(Value::Null);
+    };
+    match known {
+        Some(digest) if digest.bytes == size => return digest_value(alloc, digest),
+        _ => {}
+    }
+    match read_regular(alloc, rt, path, size)? {
+        Some(bytes) => digest_value(alloc, FileDigest::of(bytes.as_slice())),
+        None => Ok(Value::Null),
+    }
+}
 
-/// The size and the digest of the regular file at this path; null where there is none.
-fn file_value<R: Files>(alloc: Global, rt: &R, path: &str) -> io::Result<Value> {
-    let size = match fs::symlink_metadata(rt, path) {
-        Ok(found) if found.is_file() && found.len() <= GREATEST => found.len(),
-        Ok(_) => return Ok(Value::Null),
-        Err(e) if e.kind() == ErrorKind::NotFound => return Ok(Value::Null),
-        Err(e) => return Err(e),
-    };
-    let mut file = fs::open(rt, path)?;
-    let bytes = match read_bounded(alloc, &mut file, size) {
-        Ok(bytes) => bytes,
-        Err(StoreFault::Memory) => return Err(io::Error::from(ErrorKind::OutOfMemory)),
-        Err(StoreFault::Device) => return Ok(Value::Null),
-    };
-    let digest = Sha256::digest(bytes.as_slice());
-    let digest = hex::encode(alloc, digest.as_slice())?;
+/// A size and a digest as an object.
+fn digest_value(alloc: Global, digest: FileDigest) -> io::Result<Value> {
+    let sha256 = hex::encode(alloc, &digest.sha256)?;
     Ok(
         Object::new(alloc)
-            .number("bytes", size)
-            .text("sha256", digest.as_str())
+            .number("bytes", digest.bytes)
+            .text("sha256", sha256.as_str())
             .finish()?,
     )
+}
+
+/// The file that was kept of a name, where one was.
+fn before_value<R: Files>(
+    alloc: Global,
+    rt: &R,
+    kept: &str,
+    name: FileName,
+    change: Change,
+    digests: &Digests,
+) -> io::Result<Value> {
+    match change {
+        Change::New => Ok(Value::Null),
+        Change::Replaces => {
+            let path = format!(in alloc; "{kept}/{name}")?;
+            file_value(alloc, rt, path.as_str(), digests.before(name))
+        }
+    }
 }
 
 /// What became of a name: the file before, where one was, and after.
@@ -51,17 +75,12 @@ fn change_value<R: Files>(
     folders: (&str, &str),
     name: FileName,
     change: Change,
+    digests: &Digests,
 ) -> io::Result<Value> {
     let (store, kept) = folders;
-    let before = match change {
-        Change::New => Value::Null,
-        Change::Replaces => {
-            let path = format!(in alloc; "{kept}/{name}")?;
-            file_value(alloc, rt, path.as_str())?
-        }
-    };
+    let before = before_value(alloc, rt, kept, name, change, digests)?;
     let path = format!(in alloc; "{store}/{name}")?;
-    let after = file_value(alloc, rt, path.as_str())?;
+    let after = file_value(alloc, rt, path.as_str(), digests.now(name))?;
     let name = name.path();
     Ok(
         Object::new(alloc)
@@ -79,6 +98,7 @@ fn change_values<R: Files>(
     rt: &R,
     store: &str,
     record: &Record,
+    digests: &Digests,
 ) -> io::Result<Value> {
     let mut list = Vec::new(alloc);
     let Some(changes) = &record.changes else {
@@ -87,7 +107,7 @@ fn change_values<R: Files>(
     let kept = format!(in alloc; "{store}/replaced/{}", record.kept)?;
     for (name, change) in changes {
         let folders = (store, kept.as_str());
-        list.push(change_value(alloc, rt, folders, *name, *change)?)?;
+        list.push(change_value(alloc, rt, folders, *name, *change, digests)?)?;
     }
     Ok(Value::Array(list))
 }
@@ -111,6 +131,7 @@ fn line_of<R: Files + Clock>(
     rt: &R,
     store: &str,
     record: &Record,
+    digests: &Digests,
 ) -> io::Result<String> {
     let time = now(alloc, rt)?;
     let object = Object::new(alloc)
@@ -122,7 +143,7 @@ fn line_of<R: Files + Clock>(
             .member("sites", sites(alloc, lost)),
         Work::Undo(number) => object.text("what", "undo").number("of", u64::from(number)),
     };
-    let files = change_values(alloc, rt, store, record)?;
+    let files = change_values(alloc, rt, store, record, digests)?;
     let value = object.member("files", Ok(files)).finish()?;
     Ok(format!(in alloc; "{value}\n")?)
 }
@@ -166,8 +187,9 @@ pub fn append<R: Files + Clock>(
     rt: &R,
     store: &str,
     record: &Record,
+    digests: &Digests,
 ) -> io::Result<()> {
-    let line = line_of(alloc, rt, store, record)?;
+    let line = line_of(alloc, rt, store, record, digests)?;
     let path = format!(in alloc; "{store}/{JOURNAL}")?;
     let size = match fs::symlink_metadata(rt, path.as_str()) {
         Ok(found) if found.is_file() => found.len(),

@@ -4,6 +4,7 @@
 //! line of each finished work stands in a journal. Of what a disk keeps, nothing is proved.
 #![tactic(auto)]
 
+mod digests;
 mod files;
 mod finishing;
 mod journal;
@@ -14,10 +15,11 @@ mod replaced;
 mod taking;
 mod undoing;
 
+pub use digests::{Digests, FileDigest};
 pub use files::{make_folder, remove_if_there, sync_folder};
 pub use finishing::finish;
 pub use journal::JOURNAL;
-pub use record::{Change, Record, Work};
+pub use record::{Change, Record, Work, WorkKind};
 pub use replaced::Undoable;
-pub use taking::{RECORD, Taken, Untaken, is_unfinished, remove_record, resume, take};
+pub use taking::{RECORD, Taken, Untaken, remove_record, resume, take, unfinished_kind};
 pub use undoing::{UndoOf, take_undo};

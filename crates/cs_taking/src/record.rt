@@ -14,6 +14,32 @@ pub enum Work {
     Undo(u32),
 }
 
+/// A kind of work on a store, by the verb that does it.
+#[derive(Clone, Copy, Debug, PartialEq, Eq)]
+pub enum WorkKind {
+    Restore,
+    Undo,
+}
+
+impl Work {
+    /// The kind of this work.
+    pub fn kind(&self) -> WorkKind {
+        match self {
+            Work::Restore(_) => WorkKind::Restore,
+            Work::Undo(_) => WorkKind::Undo,
+        }
+    }
+}
+
+impl fmt::Display for WorkKind {
+    fn fmt<W: fmt::Write>(&self, f: &mut fmt::Formatter<W>) -> fmt::Result {
+        f.write_str(match self {
+            WorkKind::Restore => "restore",
+            WorkKind::Undo => "undo",
+        })
+    }
+}
+
 /// What becomes of a name.
 #[derive(Clone, Copy, Debug, PartialEq, Eq)]
 pub enum Change {

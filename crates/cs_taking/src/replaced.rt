@@ -1,10 +1,10 @@
 //! What earlier work on a store keeps in `replaced/N`.
+use crate::files::read_regular;
 use crate::record::{Change, Record};
 use crate::recording::{RECORD_LIMIT, record_of};
 use crate::taking::{Untaken, failed};
-use cs_folders::read_bounded;
 use cs_schema::FileName;
-use cs_store::{FileSet, StoreFault};
+use cs_store::FileSet;
 use std::alloc::Global;
 use std::io::ErrorKind;
 use std::rt::Files;
@@ -72,34 +72,6 @@ pub fn last_finished<R: Files + Alloc + Clone + Drop>(
     Ok(None)
 }
 
-/// The bytes of a regular file of at most so many bytes; none where there is no such file.
-fn regular<R: Files>(
-    alloc: Global,
-    rt: &R,
-    path: &str,
-    limit: u64,
-) -> Result<Option<Vec<u8>>, StoreFault> {
-    let size = match fs::symlink_metadata(rt, path) {
-        Ok(found) if found.is_file() && found.len() <= limit => found.len(),
-        _ => return Ok(None),
-    };
-    if size > GREATEST {
-        return Ok(None);
-    }
-    match fs::open(rt, path) {
-        Ok(mut file) => match read_bounded(alloc, &mut file, size) {
-            Ok(bytes) => Ok(Some(bytes)),
-            Err(StoreFault::Memory) => Err(StoreFault::Memory),
-            Err(StoreFault::Device) => Ok(None),
-        },
-        Err(e) if e.kind() == ErrorKind::OutOfMemory => Err(StoreFault::Memory),
-        Err(_) => Ok(None),
-    }
-}
-
-/// How many bytes a file has that is put back, at most.
-const GREATEST: u64 = 1 << 62;
-
 /// The record of the work of this number.
 fn read_kept_record<R: Files>(
     alloc: Global,
@@ -115,7 +87,7 @@ fn read_kept_record<R: Files>(
         return Err(Untaken::NoneKept(Some(number)));
     }
     let path = kept_record(alloc, store, number).map_err(failed)?;
-    match regular(alloc, rt, path.as_str(), RECORD_LIMIT) {
+    match read_regular(alloc, rt, path.as_str(), RECORD_LIMIT) {
         Ok(Some(bytes)) => match record_of(alloc, bytes.as_slice()) {
             Ok(record) if record.kept == number && record.changes.is_some() => Ok(record),
             Ok(_) | Err(Untaken::Damaged) => Err(Untaken::Unrecorded(number)),
@@ -139,7 +111,7 @@ fn add_kept<R: Files>(
         Ok(path) => path,
         Err(_) => return Err(Untaken::Memory),
     };
-    match regular(alloc, rt, path.as_str(), u64::MAX) {
+    match read_regular(alloc, rt, path.as_str(), u64::MAX) {
         Ok(Some(bytes)) => match undoable.back.put(name, bytes) {
             Ok(()) => Ok(()),
             Err(_) => Err(Untaken::Memory),

@@ -1,6 +1,6 @@
 //! Taking a store's folder for a restore or an undo, so that no second one begins beside it.
 use crate::files::{remove_if_there, sync_folder};
-use crate::record::{Change, Record, Work};
+use crate::record::{Change, Record, Work, WorkKind};
 use crate::recording::{read_record, write_record};
 use crate::replaced::last_number;
 use cs_schema::FileName;
@@ -82,8 +82,25 @@ pub fn failed(error: io::Error) -> Untaken {
     }
 }
 
+/// Which kind of work on the store in this folder is not finished, if any; a restore where its record can't be read.
+pub fn unfinished_kind<R: Files>(
+    alloc: Global,
+    rt: &R,
+    store: &str,
+) -> Result<Option<WorkKind>, AllocError> {
+    if !is_unfinished(alloc, rt, store)? {
+        return Ok(None);
+    }
+    let path = format!(in alloc; "{store}/{RECORD}")?;
+    match record_at(alloc, rt, path.as_str()) {
+        Ok(record) => Ok(Some(record.work.kind())),
+        Err(Untaken::Memory) => Err(AllocError),
+        Err(_) => Ok(Some(WorkKind::Restore)),
+    }
+}
+
 /// Whether a restore or an undo of the store in this folder is not finished, or it can't be told that none is.
-pub fn is_unfinished<R: Files>(alloc: Global, rt: &R, store: &str) -> Result<bool, AllocError> {
+fn is_unfinished<R: Files>(alloc: Global, rt: &R, store: &str) -> Result<bool, AllocError> {
     let path = format!(in alloc; "{store}/{RECORD}")?;
     match fs::symlink_metadata(rt, path.as_str()) {
         Ok(_) => Ok(true),
@@ -106,17 +123,21 @@ fn new_beside<R: Files>(alloc: Global, rt: &R, record: &str) -> io::Result<(Stri
     Err(io::Error::from(ErrorKind::AlreadyExists))
 }
 
-/// Which work is not finished, of which the record is there.
-fn unfinished<R: Files>(alloc: Global, rt: &R, path: &str) -> Untaken {
-    let record = match fs::open(rt, path) {
+/// The record at this path; `Busy` where it is gone meanwhile.
+fn record_at<R: Files>(alloc: Global, rt: &R, path: &str) -> Result<Record, Untaken> {
+    match fs::open(rt, path) {
         Ok(mut file) => read_record(alloc, &mut file),
         Err(e) if e.kind() == ErrorKind::NotFound => Err(Untaken::Busy),
         Err(e) => Err(failed(e)),
-    };
-    match record {
-        Ok(record) => match record.work {
-            Work::Restore(_) => Untaken::Unfinished,
-            Work::Undo(_) => Untaken::UnfinishedUndo,
+    }
+}
+
+/// Which work is not finished, of which the record is there.
+fn unfinished<R: Files>(alloc: Global, rt: &R, path: &str) -> Untaken {
+    match record_at(alloc, rt, path) {
+        Ok(record) => match record.work.kind() {
+            WorkKind::Restore => Untaken::Unfinished,
+            WorkKind::Undo => Untaken::UnfinishedUndo,
         },
         Err(untaken) => untaken,
     }

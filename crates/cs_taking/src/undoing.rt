@@ -46,6 +46,20 @@ fn go_on<R: Files<File = File>>(
     }
 }
 
+/// What an undo of the work of this number puts back, once the folder is taken. Other work may have ended just before.
+fn undoable_of<R: Files + Alloc + Clone + Drop>(
+    alloc: Global,
+    rt: &R,
+    store: &str,
+    of: UndoOf,
+    number: u32,
+) -> Result<Undoable, Untaken> {
+    if of == UndoOf::Last && last(alloc, rt, store)? != number {
+        return Err(Untaken::Busy);
+    }
+    read_replaced(alloc, rt, store, number)
+}
+
 /// Takes the store in this folder for an undo, and reads what that puts back. What is refused then leaves the folder free,
 /// unless the undo was unfinished.
 pub fn take_undo<R: Files<File = File> + Alloc + Clone + Drop>(
@@ -60,7 +74,7 @@ pub fn take_undo<R: Files<File = File> + Alloc + Clone + Drop>(
         UndoOf::Last => last(alloc, rt, store)?,
     };
     let taken = take(alloc, rt, store, Work::Undo(number))?;
-    match read_replaced(alloc, rt, store, number) {
+    match undoable_of(alloc, rt, store, of, number) {
         Ok(undoable) => Ok((taken, undoable)),
         Err(untaken) => {
             remove_record(alloc, rt, store).map_err(failed)?;

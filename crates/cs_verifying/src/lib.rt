@@ -7,6 +7,7 @@ mod listed;
 mod listing;
 mod objects;
 mod reading;
+mod trusting;
 mod verified;
 mod verifying;
 
@@ -15,5 +16,6 @@ pub use listed::Listed;
 pub use listing::list;
 pub use objects::{listed_object, verified_object};
 pub use reading::manifest_at;
+pub use trusting::{Trusted, is_changed, manifest_if};
 pub use verified::Verified;
 pub use verifying::verify;

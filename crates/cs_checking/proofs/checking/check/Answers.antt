@@ -22,5 +22,5 @@ returns-in-Ok-judge-clause-ok g c =
       inspected = subst (λ (U : List FileName). AreBadFiles c.in-Ok.found.0 (contents_of c.in-Ok-load_readable_side_by_side.found.files) U c.in-Ok-bad_files.bad.items) read c.in-Ok-bad_files.ensures;
       none_bad = λ e. let none = c.any_bad-is_bad.ensures e in let listed = none.0 in let failed = none.1 in ((cc), (cc));
       judged = c.in-Ok-judge.ensures;
-      restoring = c.in-Ok-is_restoring.ensures;
+      unfinished = c.in-Ok-unfinished.ensures;
     }

@@ -7,5 +7,5 @@ returns-in-Ok-text_of g c = record {
   left = c.in-Ok.found.1;
   finds = c.in-Ok.ensures.ok;
   text_given = c.in-Ok-text_of.ensures;
-  restoring = c.in-Ok-is_restoring.ensures;
+  unfinished = c.in-Ok-unfinished.ensures;
 }

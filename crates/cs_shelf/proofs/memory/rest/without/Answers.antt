@@ -1,4 +1,4 @@
-use Rattle.std.proofs.Common.{refl, subst, sym, ap, ◌∙◌}
+use Rattle.std.proofs.Common.{refl}
 use Rattle.cs_shelf.proofs.Rest.{lacks_one, marked_same}
 use Rattle.cs_shelf.proofs.memory.rest.without.Goals as goal
 

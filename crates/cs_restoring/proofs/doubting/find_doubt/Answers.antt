@@ -1,0 +1,14 @@
+use Rattle.std.proofs.Common.{Some, sym, ◌∙◌}
+use Rattle.cs_schema.proofs.Ascending.{false≢true}
+use Rattle.cs_restoring.specs.Doubts.{IsUndoubted}
+use Rattle.cs_restoring.proofs.doubting.find_doubt.Goals as goal
+use Rattle.cs_restoring.proofs.doubting.find_doubt.Goals.{then-not-has_sites-via-then-not-has_sites, then-not-has_sites-via-else-not-has_sites+then-not-safe}
+
+pub returns-then-not-has_sites : goal.returns-then-not-has_sites
+returns-then-not-has_sites g c = IsUndoubted.refused (λ both. elim c.then-not-has_sites.branch [
+  | then-not-has_sites-via-then-not-has_sites w ↦ false≢true (sym w.if-not-has_sites.true ∙ c.has_sites.ensures.1 both.0)
+  | then-not-has_sites-via-else-not-has_sites+then-not-safe w ↦ false≢true (sym w.if-not-safe.true ∙ w.safe.ensures.1 both.1)
+])
+
+pub returns-then-not-is_doubtful : goal.returns-then-not-is_doubtful
+returns-then-not-is_doubtful g c = IsUndoubted.told (Some c.min.result) c.in-Ok.diagnosis c.in-Ok.ensures (rw c.if-not-is_doubtful.true at c.is_doubtful.ensures)

@@ -1,0 +1,44 @@
+-- Whether it is doubtful that a store lost just some sites.
+use Rattle.std.specs.Prelude.{◌≡◌, ℕ, Bool, false, List, [], Option, IsTrue}
+use Rattle.cs_schema.specs.declared.file_name.FileName.{FileName}
+use Rattle.cs_schema.specs.CatalogData.{CatalogData}
+use Rattle.cs_schema.specs.FileNames.{FileContents, HasName, surviving}
+use Rattle.cs_schema.specs.Lists.{member}
+use Rattle.cs_schema.specs.Losses.{Sites, IsLoss}
+use Rattle.cs_safety.specs.Safety.{IsSafe}
+use Rattle.cs_store.specs.FileSet.{Files, contents_of}
+use Rattle.cs_store.specs.declared.readable.Readable.{Readable}
+use Rattle.cs_shelf.specs.Shelf.{IsNoMore, IsReadIn}
+use Rattle.cs_recovery.specs.Conflicts.{site_of}
+use Rattle.cs_inspection.specs.BadFiles.{IsBad}
+use Rattle.cs_inspection.specs.declared.badness.Badness.{Badness}
+use Rattle.cs_diagnosis.specs.Findings.{IsExplained, IsFound}
+use Rattle.cs_diagnosis.specs.declared.findings.Verdict.TheVariants.{Ambiguous}
+use Rattle.cs_file_diagnosis.specs.Diagnoses.{IsDiagnosis}
+use Rattle.cs_file_diagnosis.specs.declared.diagnosing.Diagnosis.{Diagnosis}
+
+-- A diagnosis makes it doubtful that just these sites were lost: they hold an explanation, and explanations have different
+-- tables, or the sites are not an explanation themselves, so that fewer would do. Where a restore goes on that has put files in
+-- place already, fewer may do.
+pub data IsDoubtful (d : Diagnosis) (L : Sites) (resumes : Bool) : Type 0 where
+  tables : IsExplained d.explanations.items L → d.verdict ≡ Ambiguous → IsDoubtful d L resumes
+  fewer : IsExplained d.explanations.items L → ¬ IsFound d.explanations.items L → resumes ≡ false → IsDoubtful d L resumes
+
+-- a bad file stands on each site of the loss
+abbrev pub IsEachBad : CatalogData → FileContents → List FileName → Sites → Type 0
+IsEachBad C F unreadable L = (x : ℕ) → IsTrue (member L x) → (n : FileName) × (why : Badness) × HasName C n × IsBad C F unreadable n why × (x ≡ site_of C n)
+
+-- It is not doubtful that a store of which this was read lost just these sites: a bad file stands on each, or a diagnosis says
+-- so. A loss that is not safe, or names another site than the catalog's, is refused whatever the files are.
+pub data IsUndoubted (C : CatalogData) (read : Readable) (L : Sites) (resumes : Bool) : Type 0 where
+  refused : ¬ (IsLoss C L × IsSafe C L) → IsUndoubted C read L resumes
+  each_bad : IsEachBad C (contents_of read.files) read.unreadable.items L → IsUndoubted C read L resumes
+  told : (asked : Option ℕ) (d : Diagnosis) → IsDiagnosis C (contents_of read.files) read.unreadable.items asked d → ¬ IsDoubtful d L resumes → IsUndoubted C read L resumes
+
+-- so it is by what was read of a store, which that changed in nothing
+pub record IsUndoubtedOf {K : Type 0} (holds : K → Files → Type 0) (C : CatalogData) (store : K) (L : Sites) (resumes : Bool) : Type 0 where
+  pub seen : K
+  pub read : Readable
+  pub same : IsNoMore (holds store) (holds seen)
+  pub found : IsReadIn (holds seen) (surviving C []) read.files read.unreadable.items
+  pub undoubted : IsUndoubted C read L resumes

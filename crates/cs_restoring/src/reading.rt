@@ -1,0 +1,70 @@
+//! What is read of a store before it is restored, and whether that makes it doubtful what was lost.
+ghost use Rattle.std.specs.Prelude.{◌≡◌, [], None, Some, false, IfOk};
+ghost use Rattle.cs_schema.specs.FileNames.{surviving};
+ghost use Rattle.cs_store.specs.FileSet.{contents_of};
+ghost use Rattle.cs_shelf.specs.Shelf.{IsNoMore, IsReadIn};
+ghost use Rattle.cs_inspection.specs.Laws.{AreAbsent};
+ghost use Rattle.cs_restoring.specs.Doubts.{IsDoubtful, IsUndoubted};
+ghost use Rattle.cs_restoring.specs.declared.doubting.Doubt.{Doubt as DoubtData};
+
+use crate::doubting::{Doubt, find_doubt};
+use cs_answers::{Diagnosed, Doubted};
+use cs_operator_words::Restoring;
+use cs_places::Stop;
+use cs_progress::Progress;
+use cs_rebuild::Run;
+use cs_schema::{Catalog, Loss};
+use cs_shelf::{Shelf, load_readable_held};
+use cs_store::Readable;
+use std::alloc::Global;
+use std::marker::Sync;
+use std::thread::Threads;
+
+/// Reads each file of a store that can be read. No file changes.
+pub fn read_files<S: Shelf>(
+    alloc: Global,
+    catalog: &Catalog,
+    shelf: &mut S,
+) -> Result<Readable, Stop>
+    ensures found { IfOk result (λ read. IsReadIn (S.holds shelf.new) (surviving catalog.now []) read.files read.unreadable.items) }
+    ensures absent { IfOk result (λ read. AreAbsent (contents_of read.files) read.unreadable.items) }
+    ensures held { IsNoMore (S.holds shelf.old) (S.holds shelf.new) }
+    ensures stop { IsNoMore (S.may_leave shelf.old) (S.may_leave shelf.new) }
+{
+    match load_readable_held(alloc, catalog, shelf) {
+        Ok(read) => Ok(read),
+        Err(_) => Err(Stop::Memory),
+    }
+}
+
+/// What makes a loss doubtful, unless its sites are known to be gone.
+pub fn doubt_of<R: Threads + Sync, G: Progress + Sync>(
+    run: &Run<'_, R, G>,
+    catalog: &Catalog,
+    read: &Readable,
+    request: &Restoring<'_>,
+    lost: Loss,
+) -> Result<Option<Doubt>, Stop>
+    requires { AreAbsent (contents_of read.now.files) read.now.unreadable.items }
+    ensures undoubted { IfOk result (λ found. found ≡ None → request.now.accepts_loss ≡ false → IsUndoubted catalog.now read.now lost request.now.resumes) }
+    ensures doubtful { IfOk result (λ found. (doubt : DoubtData) → found ≡ Some doubt → IsDoubtful doubt.diagnosis lost request.now.resumes) }
+{
+    if request.accepts_loss {
+        return Ok(None);
+    }
+    find_doubt(run, catalog, read, lost, request.resumes)
+}
+
+/// The answer of a restore that is doubtful.
+pub fn doubted(alloc: Global, catalog: Catalog, doubt: Doubt, lost: Loss) -> Result<Doubted, Stop>
+    ensures { IfOk result (λ doubted. doubted.diagnosed.diagnosis ≡ doubt.diagnosis) }
+{
+    let Doubt {
+        diagnosis,
+        disputes,
+    } = doubt;
+    match Diagnosed::new(alloc, catalog, diagnosis, disputes, Vec::new(alloc), None) {
+        Ok(diagnosed) => Ok(Doubted { diagnosed, lost }),
+        Err(_) => Err(Stop::Memory),
+    }
+}
