@@ -3,3 +3,4 @@ pub mod TextLists
 pub mod SortedTexts
 pub mod CutLemmas
 pub mod Mapped
+pub mod Passing

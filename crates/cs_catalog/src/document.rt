@@ -1,5 +1,5 @@
 //! A catalog's TOML with every key read at its type.
-ghost use Rattle.std.specs.Prelude.{◌≡◌, Some, None, IfOk, IfErr, OnOk, map, option_and_then, [], ◌∷◌, ◌++◌};
+ghost use Rattle.std.specs.Prelude.{◌≡◌, codes, Some, None, IfOk, IfErr, OnOk, map, option_and_then, [], ◌∷◌, ◌++◌};
 ghost use Rattle.toml.specs.Data.{as_str, as_integer, as_table};
 ghost use Rattle.toml.specs.View.{view, table_view};
 ghost use Rattle.cs_schema.specs.Document.{read_all, is_from_to};
@@ -7,6 +7,7 @@ ghost use Rattle.cs_catalog.specs.Tree.{is_version, safety_at, texts, text_at, i
 ghost use Rattle.cs_catalog.specs.Refusals.{IsRefused, IsRefusedUnlessMemory};
 
 use crate::CatalogFault;
+use crate::head::head_of;
 use std::alloc::Global;
 use std::marker::Model;
 use toml::{Table, Value};
@@ -94,7 +95,7 @@ pub fn push<T: Drop>(list: &mut Vec<T>, item: T) -> Result<(), CatalogFault>
     }
 }
 
-fn text_at<'a>(table: &'a Table, key: &str) -> Result<&'a str, CatalogFault>
+pub fn text_at<'a>(table: &'a Table, key: &str) -> Result<&'a str, CatalogFault>
     ensures read { IfOk result (λ s. text_at key.now (table_view table.now) ≡ Some s.now) }
     ensures unread { IfErr result (IsRefused 2 (text_at key.now (table_view table.now))) }
 {
@@ -256,15 +257,18 @@ pub fn is_version(number: u8, table: &Table) -> bool
     }
 }
 
-fn safety_at(table: &Table) -> Result<&str, CatalogFault>
-    ensures read { IfOk result (λ s. safety_at (table_view table.now) ≡ Some s.now) }
-    ensures unread { IfErr result (IsRefused 2 (safety_at (table_view table.now))) }
+fn columns_at(alloc: Global, table: &Table) -> Result<Vec<ColumnEntry<'_>>, CatalogFault>
+    ensures read { IfOk result (λ v. tables_at column_of (codes "column") (table_view table.now) ≡ Some v.items) }
+    ensures unread { IfErr result (IsRefusedUnlessMemory 2 (tables_at column_of (codes "column") (table_view table.now))) }
 {
-    if is_version(2, table) {
-        text_at(table, "safety")
-    } else {
-        Ok("whole")
-    }
+    columns(alloc, array_at(table, "column")?)
+}
+
+fn projections_at(alloc: Global, table: &Table) -> Result<Vec<ProjectionEntry<'_>>, CatalogFault>
+    ensures read { IfOk result (λ v. tables_at projection_of (codes "projection") (table_view table.now) ≡ Some v.items) }
+    ensures unread { IfErr result (IsRefusedUnlessMemory 2 (tables_at projection_of (codes "projection") (table_view table.now))) }
+{
+    projections(alloc, array_at(table, "projection")?)
 }
 
 /// Reads every key at its type.
@@ -272,18 +276,17 @@ pub fn read_document(alloc: Global, table: &Table) -> Result<Document<'_>, Catal
     ensures read { IfOk result (λ d. document_of (table_view table.now) ≡ Some d) }
     ensures unread { IfErr result (IsRefusedUnlessMemory 2 (document_of (table_view table.now))) }
 {
-    let name = text_at(table, "table")?;
-    let key = text_at(table, "key")?;
-    let sites = integer_at(table, "sites")?;
-    let safety = safety_at(table)?;
-    let columns = columns(alloc, array_at(table, "column")?)?;
-    let projections = projections(alloc, array_at(table, "projection")?)?;
-    Ok(Document {
-        table: name,
-        key,
-        sites,
-        safety,
-        columns,
-        projections,
-    })
+    let head = head_of(table)?;
+    let columns = columns_at(alloc, table)?;
+    match projections_at(alloc, table) {
+        Ok(projections) => Ok(Document {
+            table: head.table,
+            key: head.key,
+            sites: head.sites,
+            safety: head.safety,
+            columns,
+            projections,
+        }),
+        Err(fault) => Err(fault),
+    }
 }

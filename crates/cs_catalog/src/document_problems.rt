@@ -7,22 +7,17 @@ use std::alloc::{AllocError, Global};
 use std::fmt;
 use toml::Table;
 
-const NAME: &str = "a name has 1 to 32 bytes, the first a to z, the others a to z, 0 to 9 or _";
+const NAME: &str = ": a name has 1 to 32 bytes, the first a to z, the others a to z, 0 to 9 or _";
 
 /// What of a document breaks a rule from 3 on. Its text says so.
 #[derive(Clone, Copy)]
 enum Problem<'a> {
     Said(&'static str),
-    /// The table's name.
-    Table,
-    /// The name of the column or projection at a place.
-    Name(&'static str, usize),
-    /// A name of two columns, or of two projections.
-    Twice(&'static str, &'a str),
     Sites(i64),
-    /// How many there are of what, and how many are wanted.
-    Count(usize, &'static str),
-    Column(&'a str, &'static str),
+    /// How many there are of something, or the place of a column or a projection, between words.
+    Count(&'static str, usize, &'static str),
+    /// A name between words.
+    Name(&'static str, &'a str, &'static str),
     Projection(&'a str, ProjectionProblem<'a>),
 }
 
@@ -30,29 +25,26 @@ impl fmt::Display for Problem<'_> {
     fn fmt<W: fmt::Write>(&self, f: &mut fmt::Formatter<W>) -> fmt::Result {
         match self {
             Problem::Said(words) => f.write_str(words),
-            Problem::Table => write!(f, "table: {NAME}"),
-            Problem::Name(list, at) => write!(f, "{list} {at}: {NAME}"),
-            Problem::Twice(list, name) => write!(f, "{list} {name} stands twice"),
             Problem::Sites(sites) => write!(f, "sites is {sites}, 1 to 16 is wanted"),
-            Problem::Count(found, wanted) => write!(f, "{found} {wanted}"),
-            Problem::Column(name, what) => write!(f, "column {name}{what}"),
+            Problem::Count(before, count, after) => write!(f, "{before}{count}{after}"),
+            Problem::Name(before, name, after) => write!(f, "{before}{name}{after}"),
             Problem::Projection(name, problem) => write!(f, "projection {name}: {problem}"),
         }
     }
 }
 
-/// A name that is none, or that stands twice, found by a sort: the list may have any length.
+/// A name that is none, or that stands twice, found by a sort: the names, each of a `list`, may be of any number.
 fn names_problem<'a>(list: &'static str, names: Vec<&'a str>) -> Option<Problem<'a>> {
     let mut names = names;
     for (at, name) in names.iter().enumerate() {
         if !is_name(name) {
-            return Some(Problem::Name(list, at));
+            return Some(Problem::Count(list, at, NAME));
         }
     }
     names.sort_unstable();
     for at in 1..names.len() {
         if names[at - 1] == names[at] {
-            return Some(Problem::Twice(list, names[at]));
+            return Some(Problem::Name(list, names[at], " stands twice"));
         }
     }
     None
@@ -63,14 +55,14 @@ fn name_problem<'a>(
     document: &Document<'a>,
 ) -> Result<Option<Problem<'a>>, AllocError> {
     if !is_name(document.table) {
-        return Ok(Some(Problem::Table));
+        return Ok(Some(Problem::Name("table", "", NAME)));
     }
     let columns = column_names(alloc, &document.columns)?;
-    if let Some(problem) = names_problem("column", columns) {
+    if let Some(problem) = names_problem("column ", columns) {
         return Ok(Some(problem));
     }
     let projections = projection_names(alloc, &document.projections)?;
-    Ok(names_problem("projection", projections))
+    Ok(names_problem("projection ", projections))
 }
 
 fn size_problem(document: &Document) -> Problem<'static> {
@@ -78,16 +70,17 @@ fn size_problem(document: &Document) -> Problem<'static> {
     if !is_from_to(1, 16, document.sites) {
         Problem::Sites(document.sites)
     } else if columns < 1 || 32 < columns {
-        Problem::Count(columns, "columns, 1 to 32 are wanted")
+        Problem::Count("", columns, " columns, 1 to 32 are wanted")
     } else {
-        Problem::Count(projections, "projections, 1 to 8 are wanted")
+        Problem::Count("", projections, " projections, 1 to 8 are wanted")
     }
 }
 
 fn kind_problem<'a>(document: &Document<'a>) -> Option<Problem<'a>> {
     for column in &document.columns {
         if !is_kind(column.kind) {
-            return Some(Problem::Column(column.name, ": kind is neither int nor text"));
+            let is = ": kind is neither int nor text";
+            return Some(Problem::Name("column ", column.name, is));
         }
     }
     None
@@ -96,7 +89,7 @@ fn kind_problem<'a>(document: &Document<'a>) -> Option<Problem<'a>> {
 fn stored_problem<'a>(document: &Document<'a>) -> Option<Problem<'a>> {
     for column in &document.columns {
         if !is_stored(&document.projections, column) {
-            return Some(Problem::Column(column.name, " is in no projection"));
+            return Some(Problem::Name("column ", column.name, " is in no projection"));
         }
     }
     None

@@ -132,21 +132,26 @@ fn of_items(table: &Table, list: &'static str, keys: &[(&'static str, Wanted)]) 
     None
 }
 
+/// What is wrong with a key at the top or with the tables of its array, if anything is.
+fn of_key(table: &Table, key: &'static str, wanted: Wanted) -> Option<Problem> {
+    if key != "safety" || is_version(2, table) {
+        if let Some(what) = of_value(table, key, wanted) {
+            return Some(Problem::Key(key, what));
+        }
+    }
+    match key {
+        "column" => of_items(table, key, &OF_COLUMN),
+        "projection" => of_items(table, key, &OF_PROJECTION),
+        _ => None,
+    }
+}
+
 /// The first key that is missing or has another type, with those of the tables of each array.
 fn first_problem(table: &Table) -> Option<Problem> {
-    for (key, wanted) in AT_TOP {
-        if key != "safety" || is_version(2, table) {
-            if let Some(what) = of_value(table, key, wanted) {
-                return Some(Problem::Key(key, what));
-            }
-        }
-        let of_items = match key {
-            "column" => of_items(table, key, &OF_COLUMN),
-            "projection" => of_items(table, key, &OF_PROJECTION),
-            _ => None,
-        };
-        if of_items.is_some() {
-            return of_items;
+    for (key, wanted) in AT_TOP.iter() {
+        let problem = of_key(table, key, *wanted);
+        if problem.is_some() {
+            return problem;
         }
     }
     None

@@ -10,6 +10,7 @@ mod document;
 mod document_problems;
 mod explained;
 mod fault;
+mod head;
 mod key_problems;
 mod lookups;
 mod names;

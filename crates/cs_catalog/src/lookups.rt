@@ -28,7 +28,12 @@ pub fn are_distinct(names: &[&str]) -> bool
 pub fn is_column(columns: &[ColumnEntry], name: &str) -> bool
     ensures { result ≡ is_column columns.now name.now }
 {
-    columns.iter().any(|column| column.name == name)
+    for column in columns {
+        if column.name == name {
+            return true;
+        }
+    }
+    false
 }
 
 /// Whether a column of ints has this name.
@@ -44,7 +49,12 @@ pub fn is_int_column(columns: &[ColumnEntry], name: &str) -> bool
 pub fn is_projection(projections: &[ProjectionEntry], name: &str) -> bool
     ensures { result ≡ is_projection projections.now name.now }
 {
-    projections.iter().any(|projection| projection.name == name)
+    for projection in projections {
+        if projection.name == name {
+            return true;
+        }
+    }
+    false
 }
 
 /// The first sort column, or the empty text where there is none.

@@ -12,12 +12,10 @@ use toml::Value;
 pub enum Problem<'a> {
     /// A whole list.
     List(&'static str),
-    /// A list that is too short or too long: how many it has of what, and how many are wanted.
+    /// The length of a list that is too short or too long, or the place of an item, between words.
     Count(&'static str, usize, &'static str),
     /// A list that is as long as none that it has to be as long as.
     Length(&'static str, usize, usize),
-    /// The item at a place of a list.
-    Item(&'static str, usize, &'static str),
     /// The number at a place of a list, and the greatest that is wanted.
     Number(&'static str, usize, i64, u8),
     /// A name that a list has twice.
@@ -28,11 +26,10 @@ impl fmt::Display for Problem<'_> {
     fn fmt<W: fmt::Write>(&self, f: &mut fmt::Formatter<W>) -> fmt::Result {
         match self {
             Problem::List(words) => f.write_str(words),
-            Problem::Count(list, found, wanted) => write!(f, "{list} has {found} {wanted}"),
+            Problem::Count(before, count, after) => write!(f, "{before}{count}{after}"),
             Problem::Length(list, found, wanted) => {
                 write!(f, "{list} has {found} numbers, {wanted} are wanted")
             }
-            Problem::Item(list, at, what) => write!(f, "{list}[{at}] is {what}"),
             Problem::Number(list, at, number, most) => {
                 write!(f, "{list}[{at}] is {number}, 1 to {most} is wanted")
             }
@@ -70,7 +67,7 @@ fn columns_problem<'a>(
     }
     for (at, name) in projection.columns.iter().enumerate() {
         if !is_column(columns, name) {
-            return Some(Problem::Item("columns", at, "no column of the table"));
+            return Some(Problem::Count("columns[", at, "] is no column of the table"));
         }
     }
     repeated("columns", &projection.columns)
@@ -87,11 +84,11 @@ fn codes_problem(projection: &ProjectionEntry) -> Option<Problem<'static>> {
 fn sort_problem<'a>(projection: &ProjectionEntry<'a>) -> Option<Problem<'a>> {
     let found = projection.sort.len();
     if found < 1 || 4 < found {
-        return Some(Problem::Count("sort", found, "names, 1 to 4 are wanted"));
+        return Some(Problem::Count("sort has ", found, " names, 1 to 4 are wanted"));
     }
     for (at, name) in projection.sort.iter().enumerate() {
         if !is_among(name, &projection.columns) {
-            return Some(Problem::Item("sort", at, "no column of the projection"));
+            return Some(Problem::Count("sort[", at, "] is no column of the projection"));
         }
     }
     repeated("sort", &projection.sort)
@@ -108,8 +105,8 @@ fn differences_problem(
     );
     for at in 0..names.len().min(codes.len()) {
         if !may_have_code(columns, first, names[at], codes[at]) {
-            let wanted = "3, which only a first sort column of ints may have";
-            return Some(Problem::Item("codes", at, wanted));
+            let is = "] is 3, which only a first sort column of ints may have";
+            return Some(Problem::Count("codes[", at, is));
         }
     }
     None
@@ -119,10 +116,10 @@ fn differences_problem(
 fn item_of_cuts(of_ints: bool, cuts: &[Value]) -> Problem<'static> {
     for (at, cut) in cuts.iter().enumerate() {
         if of_ints && integer_cut(cut).is_none() {
-            return Problem::Item("cuts", at, "no integer");
+            return Problem::Count("cuts[", at, "] is no integer");
         }
         if !of_ints && text_cut(cut).is_none() {
-            return Problem::Item("cuts", at, "no string of at most 255 bytes");
+            return Problem::Count("cuts[", at, "] is no string of at most 255 bytes");
         }
     }
     Problem::List("cuts do not ascend")
@@ -131,7 +128,7 @@ fn item_of_cuts(of_ints: bool, cuts: &[Value]) -> Problem<'static> {
 fn cuts_problem(columns: &[ColumnEntry], projection: &ProjectionEntry) -> Problem<'static> {
     let found = projection.cuts.len();
     if found > 15 {
-        return Problem::Count("cuts", found, "items, at most 15 are wanted");
+        return Problem::Count("cuts has ", found, " items, at most 15 are wanted");
     }
     item_of_cuts(is_int_column(columns, leading(projection)), projection.cuts)
 }
@@ -153,7 +150,7 @@ fn joins_problem<'a>(
 ) -> Option<Problem<'a>> {
     for (at, name) in projection.joins.iter().enumerate() {
         if !is_projection(projections, name) {
-            return Some(Problem::Item("joins", at, "no projection"));
+            return Some(Problem::Count("joins[", at, "] is no projection"));
         }
     }
     if is_among(projection.name, &projection.joins) {

@@ -62,10 +62,13 @@ pub fn columns_hold(document: &Document) -> bool
     ensures { result ≡ columns_hold document.now }
 {
     let columns = document.columns.as_slice();
-    document
-        .projections
-        .iter()
-        .all(|projection| has_columns(columns, projection))
+    let projections = document.projections.as_slice();
+    for projection in projections {
+        if !has_columns(columns, projection) {
+            return false;
+        }
+    }
+    true
 }
 
 fn are_from_to(low: u8, high: u8, values: &[i64]) -> bool
@@ -84,10 +87,7 @@ fn has_codes(projection: &ProjectionEntry) -> bool
 pub fn codes_hold(document: &Document) -> bool
     ensures { result ≡ codes_hold document.now }
 {
-    document
-        .projections
-        .iter()
-        .all(|projection| has_codes(projection))
+    document.projections.iter().all(has_codes)
 }
 
 fn are_among(names: &[&str], all: &[&str]) -> bool
@@ -112,10 +112,7 @@ fn has_sort(projection: &ProjectionEntry) -> bool
 pub fn sorts_hold(document: &Document) -> bool
     ensures { result ≡ sorts_hold document.now }
 {
-    document
-        .projections
-        .iter()
-        .all(|projection| has_sort(projection))
+    document.projections.iter().all(has_sort)
 }
 
 pub fn may_have_code(columns: &[ColumnEntry], first: &str, name: &str, code: i64) -> bool
@@ -151,10 +148,13 @@ pub fn differences_hold(document: &Document) -> bool
     ensures { result ≡ differences_hold document.now }
 {
     let columns = document.columns.as_slice();
-    document
-        .projections
-        .iter()
-        .all(|projection| has_differences(columns, projection))
+    let projections = document.projections.as_slice();
+    for projection in projections {
+        if !has_differences(columns, projection) {
+            return false;
+        }
+    }
+    true
 }
 
 fn has_sites(count: u8, projection: &ProjectionEntry) -> bool
@@ -180,10 +180,13 @@ pub fn sites_hold(document: &Document) -> bool
     ensures { result ≡ sites_hold document.now }
 {
     let count = site_count(document);
-    document
-        .projections
-        .iter()
-        .all(|projection| has_sites(count, projection))
+    let projections = document.projections.as_slice();
+    for projection in projections {
+        if !has_sites(count, projection) {
+            return false;
+        }
+    }
+    true
 }
 
 fn are_projections(projections: &[ProjectionEntry], names: &[&str]) -> bool
@@ -209,27 +212,36 @@ pub fn joins_hold(document: &Document) -> bool
     ensures { result ≡ joins_hold document.now }
 {
     let projections = document.projections.as_slice();
-    projections
-        .iter()
-        .all(|projection| has_joins(projections, projection))
+    for projection in projections {
+        if !has_joins(projections, projection) {
+            return false;
+        }
+    }
+    true
 }
 
 pub fn is_stored(projections: &[ProjectionEntry], column: &ColumnEntry) -> bool
     ensures { result ≡ is_stored projections.now column.now }
 {
-    projections
-        .iter()
-        .any(|projection| is_among(column.name, &projection.columns))
+    for projection in projections {
+        if is_among(column.name, &projection.columns) {
+            return true;
+        }
+    }
+    false
 }
 
 pub fn columns_are_stored(document: &Document) -> bool
     ensures { result ≡ columns_are_stored document.now }
 {
     let projections = document.projections.as_slice();
-    document
-        .columns
-        .iter()
-        .all(|column| is_stored(projections, column))
+    let columns = document.columns.as_slice();
+    for column in columns {
+        if !is_stored(projections, column) {
+            return false;
+        }
+    }
+    true
 }
 
 fn safety_holds(document: &Document) -> bool

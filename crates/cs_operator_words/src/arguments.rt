@@ -1,118 +1,93 @@
-//! The arguments that verbs share.
+//! The arguments of the verbs.
 use clap::{Arg, ArgAction, value_parser};
-use std::alloc::Global;
+use std::alloc::{AllocError, Global};
 
-/// `STORE`, the folder of a store.
-pub fn store<'a>(alloc: Global) -> Arg<'a> {
-    Arg::new(alloc, "store")
-        .value_name("STORE")
-        .required(true)
-        .help("The folder of the store")
+/// What an argument takes.
+#[derive(Clone, Copy)]
+pub enum Takes {
+    /// Nothing: it is there or not.
+    Nothing,
+    /// One text.
+    Text,
+    /// A number of workers, 1 to 64.
+    Workers,
+    /// A number from the least to 16.
+    UpTo16(i64),
+    /// Any number.
+    Count,
+    /// A number from 1 on.
+    Place,
+    /// Sites, each a word of its own.
+    Sites,
+    /// Sites, with commas between them.
+    ListedSites,
 }
 
-/// `FILE`, the name of a file of the store.
-pub fn file<'a>(alloc: Global) -> Arg<'a> {
-    Arg::new(alloc, "file")
-        .value_name("FILE")
-        .help("The name of one of its files, as p0.s1.seg")
+/// An argument of a verb.
+#[derive(Clone, Copy)]
+pub struct Argument {
+    /// What it is asked for by, once it is found.
+    pub id: &'static str,
+    /// The name of an option; none where an argument is known by its place.
+    pub long: Option<&'static str>,
+    /// What its value is called; none where it takes none.
+    pub value: Option<&'static str>,
+    pub takes: Takes,
+    pub is_required: bool,
+    /// What it can't stand beside.
+    pub conflicts: &'static [&'static str],
+    /// What it has to be there without.
+    pub unless: &'static [&'static str],
+    pub help: &'static str,
 }
 
-/// `--json`.
-pub fn json<'a>(alloc: Global) -> Arg<'a> {
-    Arg::new(alloc, "json")
-        .long("json")
-        .action(ArgAction::SetTrue)
-        .help("Answer with one object of JSON")
+fn with_long<'a>(arg: Arg<'a>, long: Option<&'static str>) -> Arg<'a> {
+    match long {
+        Some(long) => arg.long(long),
+        None => arg,
+    }
 }
 
-/// `--quiet`.
-pub fn quiet<'a>(alloc: Global) -> Arg<'a> {
-    Arg::new(alloc, "quiet")
-        .long("quiet")
-        .action(ArgAction::SetTrue)
-        .help("Show no line on a terminal that tells how far it has come")
+fn with_value<'a>(arg: Arg<'a>, value: Option<&'static str>) -> Arg<'a> {
+    match value {
+        Some(value) => arg.value_name(value),
+        None => arg,
+    }
 }
 
-/// `--workers N`.
-pub fn workers<'a>(alloc: Global) -> Arg<'a> {
-    Arg::new(alloc, "workers")
-        .long("workers")
-        .value_name("N")
-        .value_parser(value_parser!(u32).range(1..=64))
-        .help("Workers, 1 to 64 [default: the number of processors, at most 64]")
-}
-
-/// `--k K`.
-pub fn k<'a>(alloc: Global) -> Arg<'a> {
-    Arg::new(alloc, "k")
-        .long("k")
-        .value_name("K")
-        .value_parser(value_parser!(u8).range(0..=16))
-        .help("Any K sites may fail, 0 to 16 [default: as many as the catalog allows]")
-}
-
-/// `--at-most N`.
-pub fn at_most<'a>(alloc: Global) -> Arg<'a> {
-    Arg::new(alloc, "at_most")
-        .long("at-most")
-        .value_name("N")
+fn with_sites<'a>(arg: Arg<'a>) -> Arg<'a> {
+    arg.action(ArgAction::Append)
         .value_parser(value_parser!(u8).range(1..=16))
-        .help(
-            "Try losses of at most N sites, 1 to 16 [default: as many as make the verdict certain]",
-        )
 }
 
-/// `--disputes N`.
-pub fn disputes<'a>(alloc: Global) -> Arg<'a> {
-    Arg::new(alloc, "disputes")
-        .long("disputes")
-        .value_name("N")
-        .value_parser(value_parser!(u32))
-        .help("Print at most N of the rows in which two tables differ [default: 10]")
+fn taking<'a>(arg: Arg<'a>, takes: Takes) -> Arg<'a> {
+    match takes {
+        Takes::Nothing => arg.action(ArgAction::SetTrue),
+        Takes::Text => arg,
+        Takes::Workers => arg.value_parser(value_parser!(u32).range(1..=64)),
+        Takes::UpTo16(least) => arg.value_parser(value_parser!(u8).range(least..=16)),
+        Takes::Count => arg.value_parser(value_parser!(u32)),
+        Takes::Place => arg.value_parser(value_parser!(u32).range(1..)),
+        Takes::Sites => with_sites(arg.num_args(1..)),
+        Takes::ListedSites => with_sites(arg.value_delimiter(',')),
+    }
 }
 
-/// `--manifest FILE`.
-pub fn manifest<'a>(alloc: Global) -> Arg<'a> {
-    Arg::new(alloc, "manifest")
-        .long("manifest")
-        .value_name("FILE")
-        .help("Compare the files with the digests of this manifest")
+/// The argument with what it says of others.
+fn with_others<'a>(arg: Arg<'a>, argument: &Argument) -> Result<Arg<'a>, AllocError> {
+    match arg.conflicts_with_all(argument.conflicts) {
+        Ok(arg) => arg.required_unless_present_any(argument.unless),
+        Err(error) => Err(error),
+    }
 }
 
-/// `SITE..`, the sites that are lost.
-pub fn lost_sites<'a>(alloc: Global) -> Arg<'a> {
-    Arg::new(alloc, "sites")
-        .value_name("SITE")
-        .required(true)
-        .action(ArgAction::Append)
-        .num_args(1..)
-        .value_parser(value_parser!(u8).range(1..=16))
-        .help("The sites that are lost, each 1 to 16")
-}
-
-/// `--lost SITE,..`, the sites that are lost already.
-pub fn lost_already<'a>(alloc: Global) -> Arg<'a> {
-    Arg::new(alloc, "lost")
-        .long("lost")
-        .value_name("SITE,..")
-        .action(ArgAction::Append)
-        .value_delimiter(',')
-        .value_parser(value_parser!(u8).range(1..=16))
-        .help("The sites that are lost already, each 1 to 16")
-}
-
-/// `--replace-partial`.
-pub fn replace_partial<'a>(alloc: Global) -> Arg<'a> {
-    Arg::new(alloc, "replace-partial")
-        .long("replace-partial")
-        .action(ArgAction::SetTrue)
-        .help("Replace what an earlier run began there and did not end")
-}
-
-/// `CATALOG`, the file of a catalog.
-pub fn catalog<'a>(alloc: Global) -> Arg<'a> {
-    Arg::new(alloc, "catalog")
-        .value_name("CATALOG")
-        .required(true)
-        .help("The file of the catalog, or the folder of a store")
+impl Argument {
+    /// The argument as the parser knows it.
+    pub fn made<'a>(&self, alloc: Global) -> Result<Arg<'a>, AllocError> {
+        let arg = Arg::new(alloc, self.id)
+            .required(self.is_required)
+            .help(self.help);
+        let arg = with_value(with_long(arg, self.long), self.value);
+        with_others(taking(arg, self.takes), self)
+    }
 }

@@ -1,6 +1,7 @@
 //! The verbs, as the command line knows them.
-use crate::{arguments, help, manifests, restores, tables};
-use clap::{Arg, Command, Error};
+use crate::arguments::Argument;
+use crate::{argument_table as table, help, manifests, restores, tables};
+use clap::{Command, Error};
 use std::alloc::Global;
 
 /// A command, or why there is none.
@@ -62,12 +63,6 @@ pub fn verb<'a>(alloc: Global, name: &str) -> Option<Made<'a>> {
     }
 }
 
-/// A command with one more argument.
-pub(crate) fn with<'a>(command: Made<'a>, argument: Arg<'a>) -> Made<'a> {
-    let command = command?;
-    Ok(command.arg(argument)?)
-}
-
 /// The program with one more verb.
 fn with_verb<'a>(program: Made<'a>, verb: Made<'a>) -> Made<'a> {
     let program = program?;
@@ -75,86 +70,130 @@ fn with_verb<'a>(program: Made<'a>, verb: Made<'a>) -> Made<'a> {
 }
 
 /// A command that its usage calls by this name.
-pub(crate) fn named<'a>(command: Command<'a>, name: &str) -> Made<'a> {
+fn named<'a>(command: Command<'a>, name: &str) -> Made<'a> {
     Ok(command.bin_name(name)?)
 }
 
+/// What a verb is called, and its texts of the help.
+#[derive(Clone, Copy)]
+pub(crate) struct VerbTexts {
+    pub name: &'static str,
+    /// How its usage calls it.
+    pub usage: &'static str,
+    pub about: &'static str,
+    /// What stands below its help.
+    pub end: &'static str,
+}
+
+/// A command with more arguments.
+fn with_all<'a>(alloc: Global, command: Made<'a>, arguments: &[Argument]) -> Made<'a> {
+    let mut command = command?;
+    for argument in arguments {
+        command = command.arg(argument.made(alloc)?)?;
+    }
+    Ok(command)
+}
+
+/// The command of a verb with its arguments.
+pub(crate) fn command_of<'a>(alloc: Global, verb: &VerbTexts, arguments: &[Argument]) -> Made<'a> {
+    let command = Command::new(alloc, verb.name)
+        .about(verb.about)
+        .after_help(verb.end);
+    with_all(alloc, named(command, verb.usage), arguments)
+}
+
+const CHECK: VerbTexts = VerbTexts {
+    name: "check",
+    usage: "pinepolo check",
+    about: help::CHECK,
+    end: help::CHECK_END,
+};
+
+const CHECK_ARGUMENTS: [Argument; 5] = [
+    table::K,
+    table::WORKERS,
+    table::QUIET,
+    table::JSON,
+    table::STORE,
+];
+
 /// `check [--k K] [--workers N] [--quiet] [--json] STORE`.
 fn check<'a>(alloc: Global) -> Made<'a> {
-    let command = Command::new(alloc, "check")
-        .about(help::CHECK)
-        .after_help(help::CHECK_END);
-    let command = with(named(command, "pinepolo check"), arguments::k(alloc));
-    let command = with(command, arguments::workers(alloc));
-    let command = with(command, arguments::quiet(alloc));
-    let command = with(command, arguments::json(alloc));
-    with(command, arguments::store(alloc))
+    command_of(alloc, &CHECK, &CHECK_ARGUMENTS)
 }
+
+const SHOW: VerbTexts = VerbTexts {
+    name: "show",
+    usage: "pinepolo show",
+    about: help::SHOW,
+    end: help::SHOW_END,
+};
+
+const SHOW_ARGUMENTS: [Argument; 4] = [table::QUIET, table::JSON, table::STORE, table::FILE];
 
 /// `show [--quiet] [--json] STORE [FILE]`.
 fn show<'a>(alloc: Global) -> Made<'a> {
-    let command = Command::new(alloc, "show")
-        .about(help::SHOW)
-        .after_help(help::SHOW_END);
-    let command = with(named(command, "pinepolo show"), arguments::quiet(alloc));
-    let command = with(command, arguments::json(alloc));
-    let command = with(command, arguments::store(alloc));
-    with(command, arguments::file(alloc))
+    command_of(alloc, &SHOW, &SHOW_ARGUMENTS)
 }
+
+const DIAGNOSE: VerbTexts = VerbTexts {
+    name: "diagnose",
+    usage: "pinepolo diagnose",
+    about: help::DIAGNOSE,
+    end: help::DIAGNOSE_END,
+};
+
+const DIAGNOSE_ARGUMENTS: [Argument; 7] = [
+    table::AT_MOST,
+    table::DISPUTES,
+    table::MANIFEST,
+    table::WORKERS,
+    table::QUIET,
+    table::JSON,
+    table::STORE,
+];
 
 /// `diagnose [--at-most N] [--disputes N] [--manifest FILE] [--workers N] [--quiet] [--json] STORE`.
 fn diagnose<'a>(alloc: Global) -> Made<'a> {
-    let command = Command::new(alloc, "diagnose")
-        .about(help::DIAGNOSE)
-        .after_help(help::DIAGNOSE_END);
-    let command = with(
-        named(command, "pinepolo diagnose"),
-        arguments::at_most(alloc),
-    );
-    let command = with(command, arguments::disputes(alloc));
-    let command = with(command, arguments::manifest(alloc));
-    let command = with(command, arguments::workers(alloc));
-    let command = with(command, arguments::quiet(alloc));
-    let command = with(command, arguments::json(alloc));
-    with(command, arguments::store(alloc))
+    command_of(alloc, &DIAGNOSE, &DIAGNOSE_ARGUMENTS)
 }
+
+const RECOVER: VerbTexts = VerbTexts {
+    name: "recover",
+    usage: "pinepolo recover",
+    about: help::RECOVER,
+    end: help::RECOVER_END,
+};
+
+const RECOVER_ARGUMENTS: [Argument; 6] = [
+    table::WORKERS,
+    table::QUIET,
+    table::JSON,
+    table::STORE,
+    table::OUTPUT,
+    table::LOST_SITES,
+];
 
 /// `recover [--workers N] [--quiet] [--json] STORE OUT SITE..`.
 fn recover<'a>(alloc: Global) -> Made<'a> {
-    let output = Arg::new(alloc, "output")
-        .value_name("OUT")
-        .required(true)
-        .help("The folder to make for the files");
-    let command = Command::new(alloc, "recover")
-        .about(help::RECOVER)
-        .after_help(help::RECOVER_END);
-    let command = with(
-        named(command, "pinepolo recover"),
-        arguments::workers(alloc),
-    );
-    let command = with(command, arguments::quiet(alloc));
-    let command = with(command, arguments::json(alloc));
-    let command = with(with(command, arguments::store(alloc)), output);
-    with(command, arguments::lost_sites(alloc))
+    command_of(alloc, &RECOVER, &RECOVER_ARGUMENTS)
 }
+
+const DESIGN: VerbTexts = VerbTexts {
+    name: "design",
+    usage: "pinepolo design",
+    about: help::DESIGN,
+    end: help::DESIGN_END,
+};
+
+const DESIGN_ARGUMENTS: [Argument; 4] = [
+    table::LOST_ALREADY,
+    table::JSON,
+    table::SVG,
+    table::CATALOG,
+];
 
 /// `design [--lost SITE,..] [--json] [--svg FILE] CATALOG`.
 fn design<'a>(alloc: Global) -> Made<'a> {
-    let svg = Arg::new(alloc, "svg")
-        .long("svg")
-        .value_name("FILE")
-        .help("Write a picture of the placement to this file");
-    let catalog = Arg::new(alloc, "catalog")
-        .value_name("CATALOG")
-        .required(true)
-        .help("The file of the catalog, or the folder of a store");
-    let command = Command::new(alloc, "design")
-        .about(help::DESIGN)
-        .after_help(help::DESIGN_END);
-    let command = with(
-        named(command, "pinepolo design"),
-        arguments::lost_already(alloc),
-    );
-    let command = with(command, arguments::json(alloc));
-    with(with(command, svg), catalog)
+    command_of(alloc, &DESIGN, &DESIGN_ARGUMENTS)
 }

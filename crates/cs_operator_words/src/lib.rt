@@ -4,6 +4,7 @@
 //! not, with the usage of their verb.
 #![tactic(auto)]
 
+mod argument_table;
 mod arguments;
 mod commands;
 mod found;

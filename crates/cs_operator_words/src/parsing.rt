@@ -71,19 +71,34 @@ fn joined(alloc: Global, text: &str, usage: &str) -> Unasked {
 
 /// What the verb asks for that was found.
 fn asked<'a>(matches: &ArgMatches<'a>, processors: u32) -> Option<Request<'a>> {
-    match matches.subcommand() {
-        Some(("check", found)) => found::checking(found, processors),
-        Some(("show", found)) => found::showing(found),
-        Some(("diagnose", found)) => found::diagnosing(found, processors),
-        Some(("recover", found)) => found::recovering(found, processors),
-        Some(("restore", found)) => found::restoring(found, processors),
-        Some(("undo", found)) => found::undoing(found),
-        Some(("manifest", found)) => found::manifesting(found),
-        Some(("verify", found)) => found::verifying(found),
-        Some(("design", found)) => found::designing(found),
-        Some(("load", found)) => found::loading(found, processors),
-        Some(("dump", found)) => found::dumping(found, processors),
-        Some(("relayout", found)) => found::relaying(found, processors),
+    let (name, found) = matches.subcommand()?;
+    match name {
+        "check" => found::checking(found, processors),
+        "show" => found::showing(found),
+        "diagnose" => found::diagnosing(found, processors),
+        "recover" => found::recovering(found, processors),
+        _ => asked_in_place(name, found, processors),
+    }
+}
+
+/// What a verb asks for that changes a store in place, or one on manifests, catalogs or tables.
+fn asked_in_place<'a>(name: &str, found: &ArgMatches<'a>, processors: u32) -> Option<Request<'a>> {
+    match name {
+        "restore" => found::restoring(found, processors),
+        "undo" => found::undoing(found),
+        "manifest" => found::manifesting(found),
+        "verify" => found::verifying(found),
+        _ => asked_of_tables(name, found, processors),
+    }
+}
+
+/// What a verb on catalogs or tables asks for.
+fn asked_of_tables<'a>(name: &str, found: &ArgMatches<'a>, processors: u32) -> Option<Request<'a>> {
+    match name {
+        "design" => found::designing(found),
+        "load" => found::loading(found, processors),
+        "dump" => found::dumping(found, processors),
+        "relayout" => found::relaying(found, processors),
         _ => None,
     }
 }

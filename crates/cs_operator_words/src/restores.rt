@@ -1,79 +1,114 @@
 //! The verbs that change a store in place, as the command line knows them.
-use crate::commands::{Made, named, with};
-use crate::{arguments, restore_help as help};
-use clap::{Arg, ArgAction, Command, value_parser};
-use std::alloc::{AllocError, Global};
+use crate::arguments::{Argument, Takes};
+use crate::commands::{Made, VerbTexts, command_of};
+use crate::{argument_table as table, restore_help as help};
+use std::alloc::Global;
 
 /// `--dry-run`.
-fn dry_run<'a>(alloc: Global) -> Arg<'a> {
-    Arg::new(alloc, "dry-run")
-        .long("dry-run")
-        .action(ArgAction::SetTrue)
-        .help("Say what would be done, and change nothing")
-}
+const DRY_RUN: Argument = Argument {
+    id: "dry-run",
+    long: Some("dry-run"),
+    value: None,
+    takes: Takes::Nothing,
+    is_required: false,
+    conflicts: &[],
+    unless: &[],
+    help: "Say what would be done, and change nothing",
+};
 
 /// `--accept-loss`.
-fn accept_loss<'a>(alloc: Global) -> Arg<'a> {
-    Arg::new(alloc, "accept-loss")
-        .long("accept-loss")
-        .action(ArgAction::SetTrue)
-        .help("These sites are known to be gone: restore whatever a diagnosis says")
-}
+const ACCEPT_LOSS: Argument = Argument {
+    id: "accept-loss",
+    long: Some("accept-loss"),
+    value: None,
+    takes: Takes::Nothing,
+    is_required: false,
+    conflicts: &[],
+    unless: &[],
+    help: "These sites are known to be gone: restore whatever a diagnosis says",
+};
 
-/// `--resume`, beside which no site is named.
-fn resume<'a>(alloc: Global) -> Result<Arg<'a>, AllocError> {
-    Arg::new(alloc, "resume")
-        .long("resume")
-        .action(ArgAction::SetTrue)
-        .help("Go on with the restore that was not finished")
-        .conflicts_with("sites")?
-        .conflicts_with("dry-run")
-}
+/// `--resume` of a restore.
+const RESUME: Argument = Argument {
+    id: "resume",
+    long: Some("resume"),
+    value: None,
+    takes: Takes::Nothing,
+    is_required: false,
+    conflicts: &["sites", "dry-run"],
+    unless: &[],
+    help: "Go on with the restore that was not finished",
+};
+
+/// `--resume` of an undo.
+const RESUME_UNDO: Argument = Argument {
+    id: "resume",
+    long: Some("resume"),
+    value: None,
+    takes: Takes::Nothing,
+    is_required: false,
+    conflicts: &["kept"],
+    unless: &[],
+    help: "Go on with the undo that was not finished",
+};
+
+/// `N`, of what is kept in `replaced/N`.
+const KEPT: Argument = Argument {
+    id: "kept",
+    long: None,
+    value: Some("N"),
+    takes: Takes::Place,
+    is_required: false,
+    conflicts: &[],
+    unless: &[],
+    help: "Put back what is kept in STORE/replaced/N [default: the last]",
+};
 
 /// `SITE..`, the sites that are lost, unless a restore is resumed.
-fn lost_sites<'a>(alloc: Global) -> Result<Arg<'a>, AllocError> {
-    arguments::lost_sites(alloc)
-        .required(false)
-        .required_unless_present("resume")
-}
+const RESTORED_SITES: Argument = Argument {
+    id: "sites",
+    long: None,
+    value: Some("SITE"),
+    takes: Takes::Sites,
+    is_required: false,
+    conflicts: &[],
+    unless: &["resume"],
+    help: "The sites that are lost, each 1 to 16",
+};
+
+const RESTORE: VerbTexts = VerbTexts {
+    name: "restore",
+    usage: "pinepolo restore",
+    about: help::RESTORE,
+    end: help::RESTORE_END,
+};
+
+const RESTORE_ARGUMENTS: [Argument; 8] = [
+    DRY_RUN,
+    ACCEPT_LOSS,
+    RESUME,
+    table::WORKERS,
+    table::QUIET,
+    table::JSON,
+    table::STORE,
+    RESTORED_SITES,
+];
 
 /// `restore [--dry-run] [--accept-loss] [--resume] [--workers N] [--quiet] [--json] STORE SITE..`.
 pub fn restore<'a>(alloc: Global) -> Made<'a> {
-    let command = Command::new(alloc, "restore")
-        .about(help::RESTORE)
-        .after_help(help::RESTORE_END);
-    let command = with(named(command, "pinepolo restore"), dry_run(alloc));
-    let command = with(with(command, accept_loss(alloc)), resume(alloc)?);
-    let command = with(command, arguments::workers(alloc));
-    let command = with(command, arguments::quiet(alloc));
-    let command = with(command, arguments::json(alloc));
-    with(with(command, arguments::store(alloc)), lost_sites(alloc)?)
+    command_of(alloc, &RESTORE, &RESTORE_ARGUMENTS)
 }
 
-/// `N`, of what is kept in `replaced/N`.
-fn kept<'a>(alloc: Global) -> Arg<'a> {
-    Arg::new(alloc, "kept")
-        .value_name("N")
-        .value_parser(value_parser!(u32).range(1..))
-        .help("Put back what is kept in STORE/replaced/N [default: the last]")
-}
+const UNDO: VerbTexts = VerbTexts {
+    name: "undo",
+    usage: "pinepolo undo",
+    about: help::UNDO,
+    end: help::UNDO_END,
+};
 
-/// `--resume`, beside which no N is given.
-fn resume_undo<'a>(alloc: Global) -> Result<Arg<'a>, AllocError> {
-    Arg::new(alloc, "resume")
-        .long("resume")
-        .action(ArgAction::SetTrue)
-        .help("Go on with the undo that was not finished")
-        .conflicts_with("kept")
-}
+const UNDO_ARGUMENTS: [Argument; 5] = [RESUME_UNDO, table::QUIET, table::JSON, table::STORE, KEPT];
 
 /// `undo [--resume] [--quiet] [--json] STORE [N]`.
 pub fn undo<'a>(alloc: Global) -> Made<'a> {
-    let command = Command::new(alloc, "undo")
-        .about(help::UNDO)
-        .after_help(help::UNDO_END);
-    let command = with(named(command, "pinepolo undo"), resume_undo(alloc)?);
-    let command = with(command, arguments::quiet(alloc));
-    let command = with(command, arguments::json(alloc));
-    with(with(command, arguments::store(alloc)), kept(alloc))
+    command_of(alloc, &UNDO, &UNDO_ARGUMENTS)
 }

@@ -1,0 +1,51 @@
+//! What a catalog's TOML says beside its columns and projections.
+ghost use Rattle.std.specs.Prelude.{◌≡◌, codes, Some, IfOk, IfErr};
+ghost use Rattle.toml.specs.View.{table_view};
+ghost use Rattle.cs_catalog.specs.Tree.{safety_at, text_at, integer_at, document_of};
+ghost use Rattle.cs_catalog.specs.Refusals.{IsRefused};
+
+use crate::CatalogFault;
+use crate::document::{integer_at, is_version, text_at};
+use toml::Table;
+
+/// What a document says beside its columns and projections.
+#[derive(Clone, Copy)]
+pub struct Head<'a> {
+    pub table: &'a str,
+    pub key: &'a str,
+    pub sites: i64,
+    pub safety: &'a str,
+}
+
+fn safety_at(table: &Table) -> Result<&str, CatalogFault>
+    ensures read { IfOk result (λ s. safety_at (table_view table.now) ≡ Some s.now) }
+    ensures unread { IfErr result (IsRefused 2 (safety_at (table_view table.now))) }
+{
+    if is_version(2, table) {
+        text_at(table, "safety")
+    } else {
+        Ok("whole")
+    }
+}
+
+/// Reads what stands beside the columns and projections.
+pub fn head_of(table: &Table) -> Result<Head<'_>, CatalogFault>
+    ensures table { IfOk result (λ h. text_at (codes "table") (table_view table.now) ≡ Some h.table.now) }
+    ensures key { IfOk result (λ h. text_at (codes "key") (table_view table.now) ≡ Some h.key.now) }
+    ensures sites { IfOk result (λ h. integer_at (codes "sites") (table_view table.now) ≡ Some h.sites) }
+    ensures safety { IfOk result (λ h. safety_at (table_view table.now) ≡ Some h.safety.now) }
+    ensures unread { IfErr result (IsRefused 2 (document_of (table_view table.now))) }
+{
+    let (Ok(name), Ok(key)) = (text_at(table, "table"), text_at(table, "key")) else {
+        return Err(CatalogFault::Rule(2));
+    };
+    let (Ok(sites), Ok(safety)) = (integer_at(table, "sites"), safety_at(table)) else {
+        return Err(CatalogFault::Rule(2));
+    };
+    Ok(Head {
+        table: name,
+        key,
+        sites,
+        safety,
+    })
+}
