@@ -1,5 +1,5 @@
 -- Whether it is doubtful that a store lost just some sites.
-use Rattle.std.specs.Prelude.{◌≡◌, ℕ, Bool, false, List, [], Option, IsTrue}
+use Rattle.std.specs.Prelude.{◌≡◌, ◌≤◌, ℕ, Bool, false, List, [], length, Some, IsTrue}
 use Rattle.cs_schema.specs.declared.file_name.FileName.{FileName}
 use Rattle.cs_schema.specs.CatalogData.{CatalogData}
 use Rattle.cs_schema.specs.FileNames.{FileContents, HasName, surviving}
@@ -28,12 +28,12 @@ pub data IsDoubtful (d : Diagnosis) (L : Sites) (resumes : Bool) : Type 0 where
 abbrev pub IsEachBad : CatalogData → FileContents → List FileName → Sites → Type 0
 IsEachBad C F unreadable L = (x : ℕ) → IsTrue (member L x) → (n : FileName) × (why : Badness) × HasName C n × IsBad C F unreadable n why × (x ≡ site_of C n)
 
--- It is not doubtful that a store of which this was read lost just these sites: a bad file stands on each, or a diagnosis says
--- so. A loss that is not safe, or names another site than the catalog's, is refused whatever the files are.
+-- It is not doubtful that a store of which this was read lost just these sites: a bad file stands on each, or a diagnosis by
+-- losses of as many sites at least says so. A loss that is not safe, or names another site than the catalog's, is refused whatever the files are.
 pub data IsUndoubted (C : CatalogData) (read : Readable) (L : Sites) (resumes : Bool) : Type 0 where
   refused : ¬ (IsLoss C L × IsSafe C L) → IsUndoubted C read L resumes
   each_bad : IsEachBad C (contents_of read.files) read.unreadable.items L → IsUndoubted C read L resumes
-  told : (asked : Option ℕ) (d : Diagnosis) → IsDiagnosis C (contents_of read.files) read.unreadable.items asked d → ¬ IsDoubtful d L resumes → IsUndoubted C read L resumes
+  told : (n : ℕ) (d : Diagnosis) → length L ≤ n → IsDiagnosis C (contents_of read.files) read.unreadable.items (Some n) d → ¬ IsDoubtful d L resumes → IsUndoubted C read L resumes
 
 -- so it is by what was read of a store, which that changed in nothing
 pub record IsUndoubtedOf {K : Type 0} (holds : K → Files → Type 0) (C : CatalogData) (store : K) (L : Sites) (resumes : Bool) : Type 0 where

@@ -19,9 +19,6 @@ use std::alloc::AllocError;
 use std::marker::Sync;
 use std::thread::Threads;
 
-/// How many sites there are, at most.
-const SITE_LIMIT: u8 = 16;
-
 /// How many rows are named, at most, in which two tables differ.
 const DISPUTES: usize = 10;
 
@@ -93,6 +90,7 @@ pub fn find_doubt<R: Threads + Sync, G: Progress + Sync>(
     requires { AreAbsent (contents_of read.now.files) read.now.unreadable.items }
     ensures { IfOk result (λ found. MatchOption found (IsUndoubted catalog.now read.now loss resumes) (λ doubt. IsDoubtful doubt.diagnosis loss resumes)) }
 {
+    let _rules = catalog.projection_count();
     if !catalog.has_sites(loss) || !safe(catalog, loss) {
         return Ok(None);
     }
@@ -101,7 +99,7 @@ pub fn find_doubt<R: Threads + Sync, G: Progress + Sync>(
         Ok(false) => {}
         Err(_) => return Err(Stop::Memory),
     }
-    let Ok(diagnosis) = diagnosis_of(run, catalog, read, loss.count().min(SITE_LIMIT)) else {
+    let Ok(diagnosis) = diagnosis_of(run, catalog, read, loss.count()) else {
         return Err(Stop::Memory);
     };
     if !is_doubtful(&diagnosis, loss, resumes) {

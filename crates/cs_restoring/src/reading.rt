@@ -1,6 +1,7 @@
 //! What is read of a store before it is restored, and whether that makes it doubtful what was lost.
-ghost use Rattle.std.specs.Prelude.{◌≡◌, [], None, Some, false, IfOk};
+ghost use Rattle.std.specs.Prelude.{◌≡◌, ◌≢◌, [], None, Some, false, IfOk};
 ghost use Rattle.cs_schema.specs.FileNames.{surviving};
+ghost use Rattle.cs_store.specs.Fault.{CountsFault};
 ghost use Rattle.cs_store.specs.FileSet.{contents_of};
 ghost use Rattle.cs_shelf.specs.Shelf.{IsNoMore, IsReadIn};
 ghost use Rattle.cs_inspection.specs.Laws.{AreAbsent};
@@ -28,6 +29,7 @@ pub fn read_files<S: Shelf>(
 ) -> Result<Readable, Stop>
     ensures found { IfOk result (λ read. IsReadIn (S.holds shelf.new) (surviving catalog.now []) read.files read.unreadable.items) }
     ensures absent { IfOk result (λ read. AreAbsent (contents_of read.files) read.unreadable.items) }
+    ensures device { IfOk result (λ read. read.unreadable.items ≢ [] → CountsFault (S.fault_count shelf.old) (S.fault_count shelf.new)) }
     ensures held { IsNoMore (S.holds shelf.old) (S.holds shelf.new) }
     ensures stop { IsNoMore (S.may_leave shelf.old) (S.may_leave shelf.new) }
 {

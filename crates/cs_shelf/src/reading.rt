@@ -1,5 +1,5 @@
 //! Reading what a shelf holds, which changes nothing.
-ghost use Rattle.std.specs.Prelude.{◌≡◌, ◌≤◌, [], None, IfOk, IsErrOf};
+ghost use Rattle.std.specs.Prelude.{◌≡◌, ◌≢◌, ◌≤◌, [], None, IfOk, IsErrOf};
 ghost use Rattle.std.specs.List.{AllByRecursion};
 ghost use Rattle.cs_schema.specs.FileNames.{surviving};
 ghost use Rattle.cs_schema.specs.declared.file_name.FileName.{FileName};
@@ -37,6 +37,8 @@ pub fn load_readable_held<S: Shelf>(
     ensures found { IfOk result (λ found. IsReadIn (S.holds shelf.new) (surviving catalog.now []) found.files found.unreadable.items) }
     ensures apart { IfOk result (λ found.
         AllByRecursion (λ name. contents_of found.files name ≡ None) found.unreadable.items) }
+    ensures device { IfOk result (λ found. found.unreadable.items ≢ []
+        → CountsFault (S.fault_count shelf.old) (S.fault_count shelf.new)) }
     ensures unchanged { ChangesNothing S.holds S.may_leave S.kept S.moment S.left_since shelf.old shelf.new }
     ensures counted { S.fault_count shelf.old ≤ S.fault_count shelf.new }
 {

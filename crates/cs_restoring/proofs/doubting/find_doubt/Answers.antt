@@ -1,5 +1,6 @@
-use Rattle.std.proofs.Common.{Some, sym, ◌∙◌}
+use Rattle.std.proofs.Common.{arith, sym, ◌∙◌}
 use Rattle.cs_schema.proofs.Ascending.{false≢true}
+use Rattle.cs_file_diagnosis.proofs.Corrected.{few_sites}
 use Rattle.cs_restoring.specs.Doubts.{IsUndoubted}
 use Rattle.cs_restoring.proofs.doubting.find_doubt.Goals as goal
 use Rattle.cs_restoring.proofs.doubting.find_doubt.Goals.{then-not-has_sites-via-then-not-has_sites, then-not-has_sites-via-else-not-has_sites+then-not-safe}
@@ -10,5 +11,10 @@ returns-then-not-has_sites g c = IsUndoubted.refused (λ both. elim c.then-not-h
   | then-not-has_sites-via-else-not-has_sites+then-not-safe w ↦ false≢true (sym w.if-not-safe.true ∙ w.safe.ensures.1 both.1)
 ])
 
+pub diagnosis_of-requires-clause-few : goal.diagnosis_of-requires-clause-few
+diagnosis_of-requires-clause-few g c κs within =
+    let few = few_sites c.args.catalog.now c.projection_count-rules.ensures.rules c.args.loss (c.has_sites.ensures.0 c.if-not-has_sites.false) in
+    omega (arith, few, c.count.ensures.count)
+
 pub returns-then-not-is_doubtful : goal.returns-then-not-is_doubtful
-returns-then-not-is_doubtful g c = IsUndoubted.told (Some c.min.result) c.in-Ok.diagnosis c.in-Ok.ensures (rw c.if-not-is_doubtful.true at c.is_doubtful.ensures)
+returns-then-not-is_doubtful g c = IsUndoubted.told c.count.result c.in-Ok.diagnosis (omega (arith, c.count.ensures.count)) c.in-Ok.ensures (rw c.if-not-is_doubtful.true at c.is_doubtful.ensures)
