@@ -1,7 +1,8 @@
-pub mod RowsAlike
+pub mod RowTotals
 pub mod Corrected
 pub mod Diagnosed
-pub mod FoundTables
-pub mod Retried
-pub mod KnownLosses
+pub mod PlansAlike
+pub mod WalkedPlans
+pub mod Searched
 pub mod DisputedTables
+pub mod GoodFiles

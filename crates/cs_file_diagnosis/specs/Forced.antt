@@ -1,11 +1,21 @@
 -- The sites of bad files.
-use Rattle.std.specs.Prelude.{◌≡◌, ℕ, List}
+use Rattle.std.specs.Prelude.{◌≡◌, ◌↔◌, ℕ, List, IsTrue}
 use Rattle.cs_schema.specs.declared.file_name.FileName.{FileName}
 use Rattle.cs_schema.specs.CatalogData.{CatalogData}
-use Rattle.cs_schema.specs.Lists.{IsIn}
+use Rattle.cs_schema.specs.FileNames.{FileContents}
+use Rattle.cs_schema.specs.Lists.{member, IsIn}
+use Rattle.cs_schema.specs.Losses.{Sites}
 use Rattle.cs_recovery.specs.Conflicts.{site_of}
+use Rattle.cs_inspection.specs.BadFiles.{AreBadFiles}
+use Rattle.cs_inspection.specs.Laws.{AreAbsent}
 use Rattle.cs_inspection.specs.declared.badness.Badness.{Badness}
 
 -- a bad file stands on the site
 abbrev pub IsBadSite : CatalogData → List (FileName × Badness) → ℕ → Type 0
 IsBadSite C bad x = (b : FileName × Badness) × IsIn b bad × (x ≡ site_of C b.0)
+
+-- these are the bad files of a store, no file stands under an unreadable name, and these are the sites of the bad ones
+pub record AreTold (C : CatalogData) (F : FileContents) (unreadable : List FileName) (bad : List (FileName × Badness)) (sites : Sites) : Type 0 where
+  pub absent : AreAbsent F unreadable
+  pub list : AreBadFiles C F unreadable bad
+  pub sites_are : (x : ℕ) → IsTrue (member sites x) ↔ IsBadSite C bad x

@@ -1,5 +1,6 @@
 pub mod Forced
 pub mod Reach
 pub mod Diagnoses
-pub mod Evidence
+pub mod Walks
+pub mod Known
 pub mod Disputed

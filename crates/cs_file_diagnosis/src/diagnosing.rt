@@ -1,22 +1,27 @@
 //! The diagnosis of a store.
-ghost use Rattle.std.specs.Prelude.{◌≤◌, IfOk, IfSome, List};
+ghost use Rattle.std.specs.Prelude.{◌≤◌, [], IfOk, IfSome, List};
 ghost use Rattle.cs_schema.specs.declared.file_name.FileName.{FileName as NameData};
 ghost use Rattle.cs_store.specs.FileSet.{contents_of};
 ghost use Rattle.cs_inspection.specs.BadFiles.{AreBadFiles};
 ghost use Rattle.cs_inspection.specs.Laws.{AreAbsent};
+ghost use Rattle.cs_schema.specs.FileNames.{FileContents};
+ghost use Rattle.cs_rebuild.specs.Steps.{AreRead};
 ghost use Rattle.cs_file_diagnosis.specs.Diagnoses.{IsDiagnosis};
+ghost use Rattle.cs_file_diagnosis.specs.Forced.{AreTold};
 
 use crate::explaining::explain;
 use crate::forcing::bad_sites;
 use crate::reaching::{Reach, reach_of};
 use crate::tables::FoundTable;
+use cs_conflicts::Remains;
 use cs_diagnosis::findings::{Explanation, Verdict};
 use cs_diagnosis::summary::verdict_of;
 use cs_inspection::{Badness, bad_files};
 use cs_progress::Progress;
-use cs_rebuild::Run;
+use cs_rebuild::{Run, read_store};
+use cs_rows::Survivors;
 use cs_schema::{Catalog, FileName, Loss};
-use cs_store::FileSet;
+use cs_store::{Fault, FileSet};
 use std::alloc::AllocError;
 use std::marker::Sync;
 use std::thread::Threads;
@@ -37,6 +42,34 @@ pub struct Diagnosis {
     pub verdict: Verdict,
 }
 
+/// What explains a store of which the bad files are known, and the others were read.
+fn diagnose_read<R: Threads + Sync, G: Progress + Sync>(
+    run: &Run<'_, R, G>,
+    remains: &Remains<'_>,
+    bad: Vec<(FileName, Badness)>,
+    at_most: Option<u8>,
+) -> Result<Diagnosis, AllocError>
+    requires at_most { IfSome at_most (λ n. n ≤ 16) }
+    requires read { (F : FileContents) × (unreadable : List NameData) × AreRead remains.now.catalog.now F remains.now.first remains.now.survivors.now × AreTold remains.now.catalog.now F unreadable bad.items remains.now.first }
+    ensures { IfOk result (λ d. (F : FileContents) (unreadable : List NameData) → AreRead remains.now.catalog.now F remains.now.first remains.now.survivors.now → AreTold remains.now.catalog.now F unreadable bad.items remains.now.first → IsDiagnosis remains.now.catalog.now F unreadable at_most d) }
+{
+    let forced = remains.first;
+    let _rules = remains.catalog.projection_count();
+    let _sites = forced.count();
+    let reach = reach_of(remains.catalog, forced, at_most);
+    match explain(run, remains, reach.at_most) {
+        Ok(found) => Ok(Diagnosis {
+            bad,
+            forced,
+            reach,
+            verdict: verdict_of(found.explanations.as_slice(), found.tables.len()),
+            explanations: found.explanations,
+            tables: found.tables,
+        }),
+        Err(refused) => Err(refused),
+    }
+}
+
 /// What explains a store of which the bad files are known.
 fn diagnose_bad<R: Threads + Sync, G: Progress + Sync>(
     run: &Run<'_, R, G>,
@@ -49,21 +82,41 @@ fn diagnose_bad<R: Threads + Sync, G: Progress + Sync>(
     requires bad { (unreadable : List NameData) × AreAbsent (contents_of files.now) unreadable × AreBadFiles catalog.now (contents_of files.now) unreadable bad.items }
     ensures { IfOk result (λ d. (unreadable : List NameData) → AreAbsent (contents_of files.now) unreadable → AreBadFiles catalog.now (contents_of files.now) unreadable bad.items → IsDiagnosis catalog.now (contents_of files.now) unreadable at_most d) }
 {
-    let _rules = catalog.projection_count();
-    let forced = bad_sites(catalog, bad.as_slice());
-    let _sites = forced.count();
-    let reach = reach_of(catalog, forced, at_most);
-    match explain(run, catalog, files, forced, reach.at_most) {
-        Ok(found) => Ok(Diagnosis {
-            bad,
-            forced,
-            reach,
-            verdict: verdict_of(found.explanations.as_slice(), found.tables.len()),
-            explanations: found.explanations,
-            tables: found.tables,
-        }),
-        Err(refused) => Err(refused),
+    let first = bad_sites(catalog, bad.as_slice());
+    match read_store(run, catalog, files, first) {
+        Ok(survivors) => {
+            let remains = Remains {
+                catalog,
+                first,
+                survivors: &survivors,
+            };
+            diagnose_read(run, &remains, bad, at_most)
+        }
+        Err(fault) => match fault {
+            Fault::Memory => Err(AllocError),
+            _ => unreachable!(),
+        },
     }
+}
+
+/// What explains a store of which every file is good, and was read.
+fn diagnose_good<R: Threads + Sync, G: Progress + Sync>(
+    run: &Run<'_, R, G>,
+    catalog: &Catalog,
+    survivors: &Survivors,
+    at_most: Option<u8>,
+) -> Result<Diagnosis, AllocError>
+    requires at_most { IfSome at_most (λ n. n ≤ 16) }
+    requires read { (F : FileContents) × AreRead catalog.now F [] survivors.now }
+    ensures { IfOk result (λ d. (F : FileContents) (unreadable : List NameData) → AreRead catalog.now F [] survivors.now → AreAbsent F unreadable → IsDiagnosis catalog.now F unreadable at_most d) }
+{
+    let _rules = catalog.projection_count();
+    let remains = Remains {
+        catalog,
+        first: Loss::none(),
+        survivors,
+    };
+    diagnose_read(run, &remains, Vec::new(run.alloc), at_most)
 }
 
 /// What is wrong with a store: its bad files, which losses of at most so many sites explain the rest, and whether these agree
@@ -81,6 +134,14 @@ pub fn diagnose<R: Threads + Sync, G: Progress + Sync>(
     requires absent { AreAbsent (contents_of files.now) unreadable.now }
     ensures { IfOk result (IsDiagnosis catalog.now (contents_of files.now) unreadable.now at_most) }
 {
+    // where files are missing, they needn't be read to see that some are bad
+    if files.len() == catalog.surviving(run.alloc, Loss::none())?.len() {
+        match read_store(run, catalog, files, Loss::none()) {
+            Ok(survivors) => return diagnose_good(run, catalog, &survivors, at_most),
+            Err(Fault::Memory) => return Err(AllocError),
+            Err(_) => {}
+        }
+    }
     match bad_files(run.rt, run.alloc, catalog, files, unreadable) {
         Ok(bad) => diagnose_bad(run, catalog, files, bad, at_most),
         Err(refused) => Err(refused),

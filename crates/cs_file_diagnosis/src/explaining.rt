@@ -1,210 +1,164 @@
 //! The search for what explains a store: its files say which losses are accepted.
-ghost use Rattle.std.specs.Prelude.{◌≡◌, ℕ, ◌<◌, ◌≤◌, ◌++◌, ◌∷◌, ◌≢◌, List, IfOk, OnOk, MatchOption};
-ghost use Rattle.std.specs.List.{slice_get};
-ghost use Rattle.cs_schema.specs.Losses.{IsLoss};
-ghost use Rattle.cs_schema.specs.Rows.{Row};
+ghost use Rattle.std.specs.Prelude.{◌≡◌, ◌≤◌, ◌++◌, ◌∷◌, [], IfOk, OnOk};
+ghost use Rattle.cs_schema.specs.FileNames.{FileContents};
+ghost use Rattle.cs_schema.specs.Rows.{IsTable};
 ghost use Rattle.cs_safety.specs.Safety.{IsSafe};
-ghost use Rattle.cs_store.specs.FileSet.{contents_of};
+ghost use Rattle.cs_safety.specs.Within.{IsWithin};
 ghost use Rattle.cs_recovery.specs.Holding.{HoldsSurvivors};
+ghost use Rattle.cs_rebuild.specs.OnStore.{table_on};
+ghost use Rattle.cs_rebuild.specs.Steps.{AreRead};
 ghost use Rattle.cs_diagnosis.specs.Explanations.{AreForced};
-ghost use Rattle.cs_diagnosis.specs.Findings.{IsTableAt, AreExplanations};
+ghost use Rattle.cs_diagnosis.specs.Findings.{AreExplanations};
 ghost use Rattle.cs_diagnosis.specs.Tried.{IsTried};
 ghost use Rattle.cs_file_diagnosis.specs.Diagnoses.{rows_found};
-ghost use Rattle.cs_file_diagnosis.specs.Evidence.{IsEvidence, IsRefused};
+ghost use Rattle.cs_file_diagnosis.specs.Known.{IsKnown, IsKeptTable, NoneIsHit};
 
-use crate::around::{grown, suspect, without};
-use crate::comparing::same_rows;
-use crate::evidence::Evidence;
-use crate::surviving::surviving_table;
+use crate::known::Known;
 use crate::tables::FoundTable;
+use cs_conflicts::{Candidate, Conflicts, Remains, find_candidate};
 use cs_design::order::all_losses;
 use cs_diagnosis::findings::Explanation;
 use cs_diagnosis::search::{Findings, may_explain};
 use cs_progress::Progress;
 use cs_rebuild::Run;
-use cs_safety::safe;
-use cs_schema::{Catalog, Loss};
-use cs_store::{Fault, FileSet};
+use cs_schema::Loss;
 use std::alloc::AllocError;
 use std::marker::Sync;
 use std::thread::Threads;
 
-/// The place of a table among those found.
-fn place_of(tables: &[FoundTable], found: &FoundTable) -> Option<usize>
-    ensures { MatchOption result ((n : ℕ) (t : FoundTable) → slice_get tables.now n ≡ Some t → rows_found t ≢ rows_found found.now)
-        (λ n. IsTableAt rows_found tables.now n (rows_found found.now)) }
-{
-    for (place, table) in tables.iter().enumerate() {
-        if same_rows(table.columns.as_slice(), found.columns.as_slice()) {
-            return Some(place);
-        }
-    }
-    None
-}
-
-/// Keeps a loss that explains the store by a table.
-fn keep(
+/// Keeps a loss that explains the store by a table that was found before.
+fn keep_known(
     findings: &mut Findings<FoundTable>,
     loss: Loss,
-    found: FoundTable,
+    table: usize,
 ) -> Result<(), AllocError>
-    ensures { OnOk result (IsTried (λ T. T ≡ rows_found found) rows_found loss findings.old findings.new) }
+    ensures { OnOk result ((findings.new.explanations.items ≡ findings.old.explanations.items ++ (record { loss = loss; table = table }) ∷ []) × (findings.new.tables.items ≡ findings.old.tables.items)) }
 {
-    let table = match place_of(findings.tables.as_slice(), &found) {
-        Some(place) => place,
-        None => {
-            findings.tables.push(found)?;
-            findings.tables.len() - 1
-        }
-    };
     findings.explanations.push(Explanation { loss, table })?;
     Ok(())
 }
 
-/// Tries a loss for the sake of those within it, where it is safe and nothing is known of it.
-fn settle<R: Threads + Sync, G: Progress + Sync>(
-    evidence: &mut Evidence,
-    run: &Run<'_, R, G>,
-    catalog: &Catalog,
-    files: &FileSet,
+/// Keeps a loss that explains the store by a table that wasn't found before, and the conflicts of that table.
+fn keep_new(
+    findings: &mut Findings<FoundTable>,
+    known: &mut Known,
     loss: Loss,
+    table: FoundTable,
+    conflicts: Conflicts,
 ) -> Result<(), AllocError>
-    requires { IsEvidence catalog.now (contents_of files.now) evidence.old }
-    ensures { OnOk result (IsEvidence catalog.now (contents_of files.now) evidence.new) }
+    ensures { OnOk result (IsKeptTable loss table conflicts findings.old findings.new known.old known.new) }
 {
-    if evidence.is_known(loss) {
-        return Ok(());
-    }
-    if !catalog.has_sites(loss) {
-        return Ok(());
-    }
-    if !safe(catalog, loss) {
-        return Ok(());
-    }
-    match surviving_table(run, catalog, files, loss) {
-        Ok(found) => evidence.accept(loss, found),
-        Err(fault) => match fault {
-            Fault::Memory => Err(AllocError),
-            _ => evidence.refuse(loss),
-        },
+    findings.tables.push(table)?;
+    known.conflicts.push(conflicts)?;
+    let place = findings.tables.len() - 1;
+    keep_known(findings, loss, place)
+}
+
+/// The table of a candidate.
+fn table_of<R: Threads + Sync, G>(
+    run: &Run<'_, R, G>,
+    candidate: &Candidate<'_>,
+) -> Result<FoundTable, AllocError>
+    requires { IsTable candidate.now.store.catalog.now (table_on candidate.now.store) }
+    ensures { IfOk result (λ table. rows_found table ≡ table_on candidate.now.store) }
+{
+    let _rules = candidate.store.catalog.projection_count();
+    match candidate.columns(run) {
+        Ok(columns) => Ok(FoundTable { columns }),
+        Err(refused) => Err(refused),
     }
 }
 
-/// Tries the largest losses around one, where none of them is known to be accepted, and larger ones than it will be tried.
-fn look_around<R: Threads + Sync, G: Progress + Sync>(
-    evidence: &mut Evidence,
+/// Walks what survives a loss: where it is accepted, it explains the store by a table that wasn't found before.
+fn walk_loss<R: Threads + Sync, G: Progress + Sync>(
+    findings: &mut Findings<FoundTable>,
+    known: &mut Known,
     run: &Run<'_, R, G>,
-    catalog: &Catalog,
-    files: &FileSet,
+    remains: &Remains<'_>,
     loss: Loss,
 ) -> Result<(), AllocError>
-    requires { IsEvidence catalog.now (contents_of files.now) evidence.old }
-    ensures { OnOk result (IsEvidence catalog.now (contents_of files.now) evidence.new) }
+    requires safe { IsSafe remains.now.catalog.now loss }
+    requires within { IsWithin remains.now.first loss }
+    requires read { (F : FileContents) × AreRead remains.now.catalog.now F remains.now.first remains.now.survivors.now }
+    ensures { OnOk result ((F : FileContents) → AreRead remains.now.catalog.now F remains.now.first remains.now.survivors.now
+        → IsKnown remains.now.catalog.now F remains.now.first findings.old.tables.items known.old
+        → NoneIsHit known.old.conflicts.items loss
+        → IsTried (HoldsSurvivors remains.now.catalog.now F loss) rows_found loss findings.old findings.new
+        × IsKnown remains.now.catalog.now F remains.now.first findings.new.tables.items known.new) }
 {
-    if loss.count() >= evidence.at_most {
-        return Ok(());
-    }
-    if evidence.around(loss).is_some() {
-        return Ok(());
-    }
-    for first in 0..16u8 {
-        settle(evidence, run, catalog, files, grown(catalog, loss, first))?;
-    }
-    Ok(())
-}
-
-/// Tries a largest loss around one but for the site of a file that contradicts the others.
-fn look_beside<R: Threads + Sync, G: Progress + Sync>(
-    evidence: &mut Evidence,
-    run: &Run<'_, R, G>,
-    catalog: &Catalog,
-    files: &FileSet,
-    loss: Loss,
-    fault: Fault,
-) -> Result<(), AllocError>
-    requires { IsEvidence catalog.now (contents_of files.now) evidence.old }
-    ensures { OnOk result (IsEvidence catalog.now (contents_of files.now) evidence.new) }
-{
-    let Some(around) = evidence.around(loss) else {
-        return Ok(());
-    };
-    match suspect(catalog, &fault) {
-        Some(site) => settle(evidence, run, catalog, files, without(around, site)),
-        None => Ok(()),
+    run.gate.tried(loss);
+    match find_candidate(run, remains, loss)? {
+        None => known.walks.keep(remains.catalog, loss, None),
+        Some(candidate) => {
+            if candidate.conflicts.are_hit(loss) {
+                let table = table_of(run, &candidate)?;
+                keep_new(findings, known, loss, table, candidate.conflicts)
+            } else {
+                known
+                    .walks
+                    .keep(remains.catalog, loss, Some(candidate.conflicts))
+            }
+        }
     }
 }
 
-/// Keeps that a loss is refused, and looks for what refutes others with it: larger losses that are refused, and such as have
-/// different tables.
-fn refute<R: Threads + Sync, G: Progress + Sync>(
-    evidence: &mut Evidence,
-    run: &Run<'_, R, G>,
-    catalog: &Catalog,
-    files: &FileSet,
-    loss: Loss,
-    fault: Fault,
-) -> Result<(), AllocError>
-    requires evidence { IsEvidence catalog.now (contents_of files.now) evidence.old }
-    requires refused { IsRefused catalog.now (contents_of files.now) loss }
-    ensures { OnOk result (IsEvidence catalog.now (contents_of files.now) evidence.new) }
-{
-    evidence.refuse(loss)?;
-    look_around(evidence, run, catalog, files, loss)?;
-    look_beside(evidence, run, catalog, files, loss, fault)
-}
-
-/// Tries one loss: where it is accepted, it is a new explanation.
+/// Tries one loss: where it is accepted, it is a new explanation. It is walked only where no table that was found tells, and
+/// nothing that came of its plan.
 fn try_loss<R: Threads + Sync, G: Progress + Sync>(
     findings: &mut Findings<FoundTable>,
-    evidence: &mut Evidence,
+    known: &mut Known,
     run: &Run<'_, R, G>,
-    catalog: &Catalog,
-    files: &FileSet,
+    remains: &Remains<'_>,
     loss: Loss,
 ) -> Result<(), AllocError>
-    requires loss { IsLoss catalog.now loss }
-    requires safe { IsSafe catalog.now loss }
-    requires evidence { IsEvidence catalog.now (contents_of files.now) evidence.old }
-    ensures tried { OnOk result (IsTried (HoldsSurvivors catalog.now (contents_of files.now) loss) rows_found loss findings.old findings.new) }
-    ensures evidence { OnOk result (IsEvidence catalog.now (contents_of files.now) evidence.new) }
+    requires safe { IsSafe remains.now.catalog.now loss }
+    requires within { IsWithin remains.now.first loss }
+    requires read { (F : FileContents) × AreRead remains.now.catalog.now F remains.now.first remains.now.survivors.now }
+    ensures { OnOk result ((F : FileContents) → AreRead remains.now.catalog.now F remains.now.first remains.now.survivors.now
+        → IsKnown remains.now.catalog.now F remains.now.first findings.old.tables.items known.old
+        → IsTried (HoldsSurvivors remains.now.catalog.now F loss) rows_found loss findings.old findings.new
+        × IsKnown remains.now.catalog.now F remains.now.first findings.new.tables.items known.new) }
 {
-    let _rules = catalog.projection_count();
-    if evidence.refutes(loss) {
-        return Ok(());
-    }
-    match surviving_table(run, catalog, files, loss) {
-        Ok(found) => keep(findings, loss, found),
-        Err(fault) => match fault {
-            Fault::Memory => Err(AllocError),
-            _ => refute(evidence, run, catalog, files, loss, fault),
-        },
+    match known.table_of(loss) {
+        Some(table) => keep_known(findings, loss, table),
+        None => {
+            if known.walks.refutes(remains.catalog, loss) {
+                Ok(())
+            } else {
+                walk_loss(findings, known, run, remains, loss)
+            }
+        }
     }
 }
 
-/// Every explanation of at most so many sites, in the order of losses, each with the place of its table.
-///
-/// Each accepted loss holds the forced sites.
+/// Every explanation of at most so many sites, in the order of losses, each with the place of its table, by what was read of
+/// the files that survive the loss of the forced sites.
 pub fn explain<R: Threads + Sync, G: Progress + Sync>(
     run: &Run<'_, R, G>,
-    catalog: &Catalog,
-    files: &FileSet,
-    forced: Loss,
+    remains: &Remains<'_>,
     at_most: u8,
 ) -> Result<Findings<FoundTable>, AllocError>
     requires at_most { at_most ≤ 16 }
-    requires forced { AreForced catalog.now (HoldsSurvivors catalog.now (contents_of files.now)) forced }
-    ensures { IfOk result (λ found. AreExplanations catalog.now (HoldsSurvivors catalog.now (contents_of files.now)) at_most rows_found found.explanations.items found.tables.items) }
+    requires read { (F : FileContents) × AreRead remains.now.catalog.now F remains.now.first remains.now.survivors.now }
+    ensures { IfOk result (λ found. (F : FileContents) → AreRead remains.now.catalog.now F remains.now.first remains.now.survivors.now
+        → AreForced remains.now.catalog.now (HoldsSurvivors remains.now.catalog.now F) remains.now.first
+        → AreExplanations remains.now.catalog.now (HoldsSurvivors remains.now.catalog.now F) at_most rows_found found.explanations.items found.tables.items) }
 {
     let alloc = run.alloc;
-    let losses = all_losses(alloc, catalog, at_most)?;
+    let losses = all_losses(alloc, remains.catalog, at_most)?;
     let mut findings = Findings {
         explanations: Vec::new(alloc),
         tables: Vec::new(alloc),
     };
-    let mut evidence = Evidence::new(alloc, at_most);
+    let mut known = Known::new(alloc);
     for loss in &losses {
-        if may_explain(catalog, forced, findings.explanations.as_slice(), *loss) {
-            try_loss(&mut findings, &mut evidence, run, catalog, files, *loss)?;
+        if may_explain(
+            remains.catalog,
+            remains.first,
+            findings.explanations.as_slice(),
+            *loss,
+        ) {
+            try_loss(&mut findings, &mut known, run, remains, *loss)?;
         }
     }
     Ok(findings)

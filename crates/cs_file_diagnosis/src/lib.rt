@@ -4,15 +4,14 @@
 
 mod absent;
 mod around;
-mod comparing;
 mod diagnosing;
 mod disputing;
-mod evidence;
 mod explaining;
 mod forcing;
+mod known;
 mod reaching;
-mod surviving;
 mod tables;
+mod walks;
 
 pub use absent::are_absent;
 pub use around::without;

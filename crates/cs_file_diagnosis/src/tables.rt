@@ -1,8 +1,16 @@
 //! A table that was found.
-ghost use Rattle.cs_rows.specs.WalkedView.{AreColumns};
+ghost use Rattle.std.specs.Prelude.{◌≡◌};
+ghost use Rattle.cs_rows.specs.WalkedView.{AreColumns, count_of};
 
-use crate::comparing::row_count;
 use cs_schema::Cells;
+
+/// How many rows columns have.
+fn row_count(columns: &[Cells]) -> usize
+    requires { AreColumns columns.now }
+    ensures { result ≡ count_of columns.now }
+{
+    columns[0].len()
+}
 
 /// The rows of a table that was found, by primary key: a column of cells for each column of the table.
 #[derive(Drop)]

@@ -1,20 +1,18 @@
 -- No store has 2^32 rows: an image has at most 1,048,576, a projection at most 16 images, a catalog at most 8 projections.
-use Rattle.std.proofs.Common.{◌≡◌, ℕ, zero, suc, ◌+◌, ◌*◌, ◌<◌, ◌≤◌, ◌^◌, List, [], ◌∷◌, ◌++◌, map, length, refl, sym, ap, subst, ◌∙◌, Bool, true, false, cond, not, Option, Some, None, arith, Result, Ok, Err, length-append}
+use Rattle.std.proofs.Common.{◌≡◌, ℕ, zero, suc, ◌+◌, ◌*◌, ◌<◌, ◌≤◌, ◌^◌, List, [], ◌∷◌, ◌++◌, map, length, refl, sym, ap, subst, Bool, true, false, cond, not, Option, Some, None, arith, Result, Ok, Err, length-append}
 use Rattle.std.specs.List.{filter, filter_map, cons_option, flat_map, find, range_with_len}
 use Rattle.std.specs.Option.{option_and_then, option_map_or}
 use Rattle.std.proofs.lemmas.List.{length-map}
 use Rattle.std.proofs.lemmas.List.FromFn.{length-map-range_with_len}
-use Rattle.cs_schema.specs.declared.file_name.FileName.{FileName}
 use Rattle.cs_schema.specs.declared.kinds.Safety.{Safety}
-use Rattle.cs_schema.specs.CatalogData.{CatalogData, HasSegment, projection, segments}
+use Rattle.cs_schema.specs.CatalogData.{CatalogData, HasSegment, segments}
 use Rattle.cs_schema.specs.CatalogRules.{IsCatalog}
 use Rattle.cs_schema.specs.FileNames.{FileContents}
 use Rattle.cs_schema.specs.Lists.{numbers_below}
-use Rattle.cs_schema.specs.Losses.{Sites, lost, alive}
+use Rattle.cs_schema.specs.Losses.{Sites, lost}
 use Rattle.cs_schema.specs.Order.{row_limit}
 use Rattle.cs_schema.specs.Rows.{Row, cell}
 use Rattle.cs_schema.specs.Values.{value_eq}
-use Rattle.cs_schema.proofs.Ascending.{false≢true}
 use Rattle.cs_delta.specs.DeltaFile.{AllFit}
 use Rattle.cs_delta.specs.Image.{Change, Pair, ImageData, applied, layered, base_pairs}
 use Rattle.cs_segment.specs.SegmentFile.{base_row}

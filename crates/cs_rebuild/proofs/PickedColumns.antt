@@ -1,12 +1,11 @@
 -- Rows that are picked by their numbers, in columns.
-use Rattle.std.proofs.Common.{◌≡◌, ℕ, ◌<◌, List, [], ◌∷◌, map, length, refl, ap, subst, ◌∙◌, Result, Ok, Err, None}
-use Rattle.std.specs.Prelude.{All, IfOk, slice_index}
+use Rattle.std.proofs.Common.{◌≡◌, ℕ, List, [], ◌∷◌, map, length, refl, ap, subst, Result, Ok, Err}
+use Rattle.std.specs.Prelude.{IfOk}
 use Rattle.std.specs.List.{AllZip, range_with_len}
 use Rattle.std.specs.declared.alloc.AllocError.{AllocError}
 use Rattle.rayon.proofs.ListFacts.{AllZip-weaken, IfOk-then}
 use Rattle.cs_schema.specs.CatalogData.{CatalogData}
 use Rattle.cs_schema.specs.declared.cells.Cells.{Cells}
-use Rattle.cs_schema.specs.declared.cells.Value.{Value}
 use Rattle.cs_schema.specs.Rows.{Row, cell}
 use Rattle.cs_order.specs.Orders.{row_at}
 use Rattle.cs_rows.specs.Columns.{ColumnsFit}

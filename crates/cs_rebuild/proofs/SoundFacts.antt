@@ -12,8 +12,8 @@ use Rattle.cs_schema.specs.CatalogData.{CatalogData, HasSegment, projection, cod
 use Rattle.cs_schema.specs.CatalogRules.{IsCatalog}
 use Rattle.cs_schema.specs.FileNames.{FileContents}
 use Rattle.cs_schema.specs.Losses.{Sites}
-use Rattle.cs_schema.specs.Order.{Fits, rows_of}
-use Rattle.cs_schema.specs.Rows.{Row, IsTable, cell, project}
+use Rattle.cs_schema.specs.Order.{rows_of}
+use Rattle.cs_schema.specs.Rows.{Row, cell, project}
 use Rattle.cs_schema.proofs.Lists.{slice_get_map}
 use Rattle.cs_piece.specs.declared.pieces.Piece.{Piece}
 use Rattle.cs_piece.specs.Pieces.{IsPieceOf}
@@ -24,7 +24,6 @@ use Rattle.cs_rows.specs.Survivors.{SurvivorsData, contents_of}
 use Rattle.cs_rows.specs.WalkedView.{WalkedData}
 use Rattle.cs_order.specs.Orders.{OrdersData, row_at, numbers_in}
 use Rattle.cs_order.specs.Tables.{table_of}
-use Rattle.cs_recovery.specs.Holding.{AreContentsOf}
 use Rattle.cs_recovery.specs.Places.{entries_for}
 use Rattle.cs_recovery.specs.Verdicts.{twice, full}
 use Rattle.cs_recovery.proofs.Afresh.{base_is, column_is, count_is, never_falls}

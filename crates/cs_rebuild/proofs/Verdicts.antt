@@ -30,7 +30,7 @@ use Rattle.cs_recovery.specs.TableAnswers.{Columns, IsTableAnswer, TableClauses}
 use Rattle.cs_recovery.proofs.Read.{layers}
 use Rattle.cs_recovery.proofs.Suffice.{rebuild_clauses, check_clauses}
 use Rattle.cs_recovery.proofs.TableClauses.{table_clauses}
-use Rattle.cs_rebuild.specs.Steps.{IsBadFile, IsStray, row_fault, AreSound, safety_refusal}
+use Rattle.cs_rebuild.specs.Steps.{IsBadFile, IsStray, IsUnordered, row_fault, AreSound, safety_refusal}
 
 -- what the exit of a `?` answers
 pub passed : {T E : Type 0} (r : Result T E) (f : E) (Q : E → Type 0) → IsErrAnd r (λ e. e ≡ f) → Q f → IfErr r Q
@@ -87,6 +87,10 @@ module _ (C : CatalogData) (F : FileContents) (L : Sites) where
           table_rows h =
               IsVerdict.contents S (Ok rows) reads walk
               (sym (ap (λ x. unless_refused x (table_of C rows)) (neither (twice C rows) (full C (table_of C rows)) _ sound ∙ ap (λ o. option_or o (misled C L S (table_of C rows))) placed ∙ h)))
+
+    pub unordered_rows : (f : Fault) → IsUnordered C L S f → IsVerdict C F L (Err f)
+    unordered_rows f (IsUnordered.astray h) = stray_row f h
+    unordered_rows f (IsUnordered.refused rows walk h) = faulty_rows rows walk f h
 
   pub sound_verdict : (v : SurvivorsData) (w : WalkedData) (o : OrdersData) → AreSound C F L v w o → IsVerdict C F L (Ok (table_of C w.rows))
   sound_verdict v w o s = table_rows (held_by v) s.read.reads w.rows s.walked.walk s.rows_sound s.placed s.led

@@ -1,5 +1,5 @@
 -- What each step of a recovery finds.
-use Rattle.std.specs.Prelude.{◌≡◌, ◌<◌, ◌^◌, List, map, Option, None, Ok, Err, length}
+use Rattle.std.specs.Prelude.{◌≡◌, ◌<◌, ◌^◌, List, map, Option, None, Some, Ok, Err, length}
 use Rattle.std.specs.Option.{option_or}
 use Rattle.cs_schema.specs.declared.file_name.FileName.{FileName}
 use Rattle.cs_schema.specs.CatalogData.{CatalogData}
@@ -44,6 +44,17 @@ pub record AreWalkedRows (C : CatalogData) (L : Sites) (S : Contents) (w : Walke
 -- a key twice, or else a range that is too large
 abbrev pub row_fault : CatalogData → List Row → Option Fault
 row_fault C rows = option_or (twice C rows) (full C (table_of C rows))
+
+-- The rows to which the walk leads, of which no key and no range is refused, and their orders.
+pub record AreOrdered (C : CatalogData) (L : Sites) (v : SurvivorsData) (w : WalkedData) (o : OrdersData) : Type 0 where
+  pub walked : AreWalkedRows C L (contents_of v) w
+  pub rows_sound : row_fault C w.rows ≡ None
+  pub orders : AreOrdersOf C w.rows o
+
+-- Why survivors have no ordered rows: a row is astray, or a key or a range of the walked rows is refused.
+pub data IsUnordered (C : CatalogData) (L : Sites) (S : Contents) (f : Fault) : Type 0 where
+  astray : IsStray C L S f → IsUnordered C L S f
+  refused : (rows : List Row) → IsWalkedBy C.safety C L S (Ok rows) → row_fault C rows ≡ Some f → IsUnordered C L S f
 
 -- What a sound store comes to: its contents, the rows to which its walk leads, and their orders.
 pub record AreSound (C : CatalogData) (F : FileContents) (L : Sites) (v : SurvivorsData) (w : WalkedData) (o : OrdersData) : Type 0 where

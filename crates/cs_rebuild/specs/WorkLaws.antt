@@ -1,26 +1,17 @@
 -- Laws of the works: want of memory is no piece's own fault, and a piece has one fault at most.
-use Rattle.std.specs.Prelude.{◌≡◌, ℕ, Bool, false, List, Option, Some, None}
-use Rattle.std.specs.Option.{option_map, option_and_then}
+use Rattle.std.specs.Prelude.{◌≡◌, ℕ, List, Option, Some, None}
 use Rattle.std.specs.Ordering.{ordering_reverse}
 use Rattle.std.specs.declared.cmp.Ordering.{Ordering}
 use Rattle.std.specs.declared.cmp.Ordering.TheVariants.{Less, Equal, Greater}
-use Rattle.std.proofs.Common.{ap, sym, refl, subst, inl, inr, ◌∙◌, true}
+use Rattle.std.proofs.Common.{ap, sym, refl, subst, inl, inr, ◌∙◌}
 use Rattle.std.proofs.lemmas.Option.{none-some, same_Some}
 use Rattle.cs_store.specs.declared.fault.Fault.{Fault}
 use Rattle.cs_schema.specs.declared.file_name.FileName.{FileName}
 use Rattle.cs_schema.specs.CatalogData.{CatalogData}
 use Rattle.cs_schema.specs.FileNames.{FileContents, name_cmp}
-use Rattle.cs_schema.specs.Losses.{Sites}
-use Rattle.cs_schema.specs.Rows.{Row}
 use Rattle.cs_schema.specs.NameOrder.{name_cmp_total, name_cmp-IsAntisymmetric}
-use Rattle.cs_rows.specs.Walk.{Contents, At}
-use Rattle.cs_rows.specs.WalkByRows.{Reached}
-use Rattle.cs_safety.specs.PlanData.{PlanData}
-use Rattle.cs_recovery.specs.Tables.{when}
 use Rattle.cs_recovery.specs.Verdicts.{FileFault}
 use Rattle.cs_rebuild.specs.Reading.{IsFilesFault, IsFirstBadOf, FilesFaultAt}
-use Rattle.cs_rebuild.specs.Walking.{stray_fault, stray_row_fault}
-use Rattle.cs_rebuild.specs.Verifying.{is_misplaced, misplaced_at, is_misled, misled_at}
 
 -- a fault that is what a function gives is one fault
 pub one_value : {X : Type 0} (o f g : X) → f ≡ o → g ≡ o → f ≡ g

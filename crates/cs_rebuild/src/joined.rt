@@ -28,7 +28,7 @@ use std::marker::Sync;
 use std::thread::Threads;
 
 /// The entry at a key, `(0, 0)` where it has no place.
-fn raw_entry(join: &JoinIndex, key: u32) -> (u16, u32)
+pub fn raw_entry(join: &JoinIndex, key: u32) -> (u16, u32)
     ensures { result ≡ raw_entry join.now key }
 {
     match join.entry(key) {

@@ -4,6 +4,9 @@
 //! orders found, images and join indexes compared with them, and for `rebuild` the lost files encoded. `build` begins with
 //! the rows, and encodes every file. What they answer depends on the bytes alone: not on the number of workers, nor on how
 //! the work is cut.
+//!
+//! The steps are public too, for those who judge many losses by what was read once: `read_store`, `order_store`, `is_placed`,
+//! `places`, and rounds of `Tasks`.
 #![tactic(auto)]
 
 mod anchored;
@@ -20,7 +23,7 @@ mod lending;
 mod ordered_store;
 mod ordering;
 mod placed;
-mod places;
+pub mod places;
 mod planned;
 mod reading;
 mod recovery;
@@ -39,6 +42,12 @@ pub use building::build;
 pub use columns_of_rows::are_columns;
 pub use cs_board::{Gate, OpenGate, Round};
 pub use cs_store::{Fault, FileSet, Sink, Source, StoreFault, load, save};
+pub use joined::raw_entry;
+pub use ordered_store::{OrderedStore, store_of};
+pub use placed::is_placed;
 pub use recovery::{check, check_gated, rebuild, rebuild_gated};
+pub use rounds::Tasks;
 pub use run::Run;
-pub use surviving_table::table;
+pub use survey::{joins_of, surviving_segments};
+pub use surviving_table::{rows_by_key, table};
+pub use verifying::{order_store, read_store};

@@ -21,7 +21,7 @@ use std::marker::Sync;
 use std::thread::Threads;
 
 /// Whether the image of a surviving segment has the table's rows in its range, in their order.
-fn is_placed<R: Threads>(rt: &R, store: &OrderedStore<'_>, p: u16, s: u16) -> bool
+pub fn is_placed<R: Threads>(rt: &R, store: &OrderedStore<'_>, p: u16, s: u16) -> bool
     requires { Survives store.now.catalog.now store.now.loss (NameData.Seg p s) }
     ensures { result ≡ not (is_misplaced store.now.catalog.now (held_on store.now) (table_on store.now) (p, s)) }
 {

@@ -1,8 +1,10 @@
 //! The entries of join indexes after a recovery: for each key of a segment the place of its row in another projection.
 ghost use Rattle.std.specs.Prelude.{◌≡◌, ◌<◌, ℕ, false, true, length, Some, MatchOption};
+ghost use Rattle.std.specs.List.{slice_get};
 ghost use Rattle.std.proofs.Props.{props};
 ghost use Rattle.cs_schema.specs.CatalogData.{HasSegment, segments};
 ghost use Rattle.cs_schema.specs.Losses.{lost};
+ghost use Rattle.cs_schema.specs.Order.{rows_of};
 ghost use Rattle.cs_delta.specs.Image.{position_of_key};
 ghost use Rattle.cs_rows.specs.Survivors.{images_of, image_at};
 ghost use Rattle.cs_order.specs.Orders.{numbers_in, row_at};
@@ -15,11 +17,12 @@ use cs_delta::Image;
 /// The entries of a join index. What is the same for each key is looked up once, as there may be a million keys.
 #[derive(Drop)]
 pub struct Entries<'a> {
-    store: &'a OrderedStore<'a>,
-    p: u16,
-    s: u16,
-    q: u16,
-    numbers: &'a [u32],
+    pub store: &'a OrderedStore<'a>,
+    pub p: u16,
+    pub s: u16,
+    pub q: u16,
+    /// The rows of the segment's range, in their order.
+    pub numbers: &'a [u32],
     /// The image of the segment, where it isn't lost.
     kept: Option<&'a Image>,
     targets: &'a [Option<Image>],
@@ -75,7 +78,7 @@ impl<'a> Entries<'a> {
     }
 
     /// The position of a key in the segment.
-    fn position(&self, key: u32) -> Option<u32>
+    pub fn position(&self, key: u32) -> Option<u32>
         ensures { result ≡ position_of_key (image_after self.now.store.now.catalog.now self.now.store.now.loss (held_on self.now.store.now) (table_on self.now.store.now) self.now.p self.now.s) key }
     {
         match self.kept {
@@ -93,10 +96,11 @@ impl<'a> Entries<'a> {
     }
 
     /// The place of a walked row in the projection: its segment, and the key that it has there.
-    fn place(&self, row: u32) -> (u16, u32)
+    pub fn place(&self, row: u32) -> (u16, u32)
         requires { row < length self.now.store.now.walked.rows }
         ensures place { result ≡ place_of self.now.store.now.catalog.now self.now.store.now.loss (held_on self.now.store.now) (table_on self.now.store.now) self.now.q (row_at self.now.store.now.walked.rows row) }
         ensures exists { result.0 < segments self.now.store.now.catalog.now self.now.q }
+        ensures there { (i : ℕ) × (slice_get (rows_of self.now.store.now.catalog.now (table_on self.now.store.now) self.now.q result.0) i ≡ Some (row_at self.now.store.now.walked.rows row)) }
     {
         let store = self.store;
         let (t, index) = store.orders.place(self.q, row);

@@ -67,7 +67,7 @@ fn pick_columns<R: Threads + Sync>(
 }
 
 /// The rows of the table by primary key, which no two of them have in common.
-fn rows_by_key<R: Threads + Sync, G>(
+pub fn rows_by_key<R: Threads + Sync, G>(
     run: &Run<'_, R, G>,
     catalog: &Catalog,
     walked: &Table<'_>,

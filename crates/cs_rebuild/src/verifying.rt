@@ -5,8 +5,9 @@ ghost use Rattle.cs_store.specs.FileSet.{contents_of};
 ghost use Rattle.cs_store.specs.Fault.{MemoryOr};
 ghost use Rattle.cs_safety.specs.Safety.{IsSafe};
 ghost use Rattle.cs_recovery.specs.Verdicts.{IsVerdict};
+ghost use Rattle.cs_rows.specs.Survivors.{contents_of as held_by};
 ghost use Rattle.cs_rebuild.specs.OnStore.{IsStoreOf};
-ghost use Rattle.cs_rebuild.specs.Steps.{AreRead, AreSound};
+ghost use Rattle.cs_rebuild.specs.Steps.{AreRead, AreOrdered, AreSound, IsBadFile, IsUnordered};
 
 use crate::joined::verify_joins;
 use crate::ordered_store::{OrderedStore, store_of};
@@ -31,6 +32,7 @@ pub fn read_store<R: Threads + Sync, G: Gate + Sync>(
     loss: Loss,
 ) -> Result<Survivors, Fault>
     ensures ok { IfOk result (AreRead catalog.now (contents_of files.now) loss) }
+    ensures bad { IfErr result (λ fault. MemoryOr fault (IsBadFile catalog.now (contents_of files.now) loss fault)) }
     ensures err { IfErr result (λ fault. MemoryOr fault (IsVerdict catalog.now (contents_of files.now) loss (Err fault))) }
 {
     let segments = match surviving_segments(run.alloc, catalog, loss) {
@@ -39,6 +41,29 @@ pub fn read_store<R: Threads + Sync, G: Gate + Sync>(
     };
     match read_survivors(run, catalog, files, loss, segments.as_slice()) {
         Ok(survivors) => Ok(survivors),
+        Err(fault) => Err(fault),
+    }
+}
+
+/// The rows of the table to which what was read leads, in their orders; or the first refusal of the walk, a key or a range.
+pub fn order_store<'a, R: Threads + Sync, G: Gate + Sync>(
+    run: &Run<'_, R, G>,
+    catalog: &'a Catalog,
+    loss: Loss,
+    survivors: &'a Survivors,
+) -> Result<OrderedStore<'a>, Fault>
+    requires safe { IsSafe catalog.now loss }
+    requires read { (F : FileContents) × AreRead catalog.now F loss survivors.now }
+    ensures ok { IfOk result (λ store. AreOrdered catalog.now loss survivors.now store.walked store.orders) }
+    ensures of { IfOk result (IsStoreOf catalog.now loss survivors.now) }
+    ensures err { IfErr result (λ fault. MemoryOr fault (IsUnordered catalog.now loss (held_by survivors.now) fault)) }
+{
+    let walked = match walk_all(run, catalog, loss, survivors) {
+        Ok(walked) => walked,
+        Err(fault) => return Err(fault),
+    };
+    match orders_of(run, catalog, &walked) {
+        Ok(orders) => Ok(store_of(catalog, loss, survivors, walked, orders)),
         Err(fault) => Err(fault),
     }
 }
@@ -60,15 +85,10 @@ pub fn verify_store<'a, R: Threads + Sync, G: Gate + Sync>(
         Ok(segments) => segments,
         Err(_) => return Err(Fault::Memory),
     };
-    let walked = match walk_all(run, catalog, loss, survivors) {
-        Ok(walked) => walked,
+    let store = match order_store(run, catalog, loss, survivors) {
+        Ok(store) => store,
         Err(fault) => return Err(fault),
     };
-    let orders = match orders_of(run, catalog, &walked) {
-        Ok(orders) => orders,
-        Err(fault) => return Err(fault),
-    };
-    let store = store_of(catalog, loss, survivors, walked, orders);
     match verify_images(run, &store, segments.as_slice()) {
         Ok(()) => {}
         Err(fault) => return Err(fault),

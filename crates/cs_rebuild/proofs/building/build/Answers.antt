@@ -1,6 +1,5 @@
-use Rattle.std.proofs.Common.{◌≡◌, ℕ, List, length, map, sym, ap, subst, ◌∙◌, Err}
+use Rattle.std.proofs.Common.{◌≡◌, List, sym, ap, subst, ◌∙◌, Err}
 use Rattle.std.specs.Prelude.{IfOk}
-use Rattle.cs_schema.specs.CatalogData.{ColumnData}
 use Rattle.cs_schema.specs.declared.file_name.FileName.{FileName}
 use Rattle.cs_schema.specs.Lists.{IsIn}
 use Rattle.cs_schema.specs.Rows.{Row, IsRow}
@@ -9,7 +8,7 @@ use Rattle.cs_rows.specs.Survivors.{contents_of as held_by}
 use Rattle.cs_rows.specs.WalkedView.{WalkedData}
 use Rattle.cs_rows.proofs.FoundRows.{kinds_fit}
 use Rattle.cs_order.specs.Tables.{table_of}
-use Rattle.cs_recovery.specs.BuildAnswers.{every_site, no_files, IsBuildAnswer}
+use Rattle.cs_recovery.specs.BuildAnswers.{no_files, IsBuildAnswer}
 use Rattle.cs_recovery.specs.Columns.{rows_in}
 use Rattle.cs_recovery.specs.Expected.{written}
 use Rattle.cs_recovery.proofs.ColumnRows.{rows_are}

@@ -1,4 +1,4 @@
-use Rattle.std.proofs.Common.{◌≡◌, ◌++◌, ◌+◌, [], ◌∷◌, length, map, take, sym, ap, ◌∙◌, subst, arith, Some, length-append, get_or, List, Option}
+use Rattle.std.proofs.Common.{◌≡◌, ◌++◌, ◌+◌, [], ◌∷◌, length, map, take, sym, ap, ◌∙◌, subst, arith, Some, length-append, List, Option}
 use Rattle.std.proofs.lemmas.List.{map_more}
 use Rattle.cs_schema.specs.declared.cells.Cells.{Cells}
 use Rattle.cs_rows.specs.TableView.{over}

@@ -1,4 +1,4 @@
-use Rattle.std.proofs.Common.{All, List, ℕ, subst, sym, ℤ, FitsSigned, map}
+use Rattle.std.proofs.Common.{All, subst, sym, FitsSigned}
 use Rattle.std.specs.Int.{w64}
 use Rattle.cs_schema.specs.Values.{IsOfKind, kind_of, values}
 use Rattle.cs_schema.specs.declared.kinds.Kind.{Kind}

@@ -1,5 +1,4 @@
-use Rattle.std.proofs.Common.{arith, subst, sym, ℕ, List, length, ◌≤◌, get_or}
-use Rattle.std.specs.Prelude.{IsUtf8}
+use Rattle.std.proofs.Common.{arith, subst, ℕ, List}
 use Rattle.cs_rebuild.specs.Building.{IsShortText}
 use Rattle.cs_rebuild.proofs.OneKind.{one_more_meets}
 use Rattle.cs_rebuild.proofs.columns_of_rows.see_texts.Goals as goal

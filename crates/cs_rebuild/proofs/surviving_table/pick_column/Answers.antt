@@ -1,11 +1,11 @@
-use Rattle.std.proofs.Common.{◌≡◌, ℕ, ◌<◌, List, map, length, sym, ap, subst, ◌∙◌, get_or}
+use Rattle.std.proofs.Common.{◌≡◌, ◌<◌, List, map, length, sym, ap, subst, ◌∙◌}
 use Rattle.std.specs.Prelude.{slice_index}
 use Rattle.std.proofs.lemmas.List.{length-map}
 use Rattle.cs_schema.specs.declared.cells.Cells.{Cells}
 use Rattle.cs_schema.specs.declared.cells.Value.{Value}
 use Rattle.cs_schema.specs.CatalogData.{column}
 use Rattle.cs_schema.specs.Rows.{Row, cell}
-use Rattle.cs_schema.specs.Values.{values, kind_of}
+use Rattle.cs_schema.specs.Values.{kind_of}
 use Rattle.cs_order.specs.Orders.{row_at}
 use Rattle.cs_rebuild.specs.Walking.{IsColumnOf}
 use Rattle.cs_rebuild.proofs.Encodings.{kind_of_column, cells_are}

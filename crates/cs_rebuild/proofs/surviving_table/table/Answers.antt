@@ -1,4 +1,3 @@
-use Rattle.std.proofs.Common.{◌≡◌}
 use Rattle.cs_store.specs.FileSet.{contents_of}
 use Rattle.cs_order.specs.Tables.{table_of}
 use Rattle.cs_recovery.specs.Verdicts.{IsRebuildVerdict}

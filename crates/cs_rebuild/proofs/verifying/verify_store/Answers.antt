@@ -1,29 +1,25 @@
-use Rattle.std.proofs.Common.{◌≡◌, ◌∙◌, sym, subst, Some, None}
+use Rattle.std.proofs.Common.{◌≡◌, ◌∙◌, refl, subst, Some, None}
 use Rattle.cs_schema.specs.Lists.{IsIn}
 use Rattle.cs_rows.specs.Survivors.{contents_of as held_by}
 use Rattle.cs_order.specs.Tables.{table_of}
 use Rattle.cs_recovery.specs.Verdicts.{misplaced, misled}
 use Rattle.cs_recovery.proofs.Exact.{survivors_survive}
-use Rattle.cs_rebuild.specs.Steps.{AreSound}
-use Rattle.cs_rebuild.proofs.Verdicts.{memory_or, on_store, stray_row, faulty_rows, misplaced_rows, misled_rows}
+use Rattle.cs_rebuild.proofs.Verdicts.{memory_or, on_store, unordered_rows, misplaced_rows, misled_rows}
 use Rattle.cs_rebuild.proofs.verifying.verify_store.Goals as goal
 
-pub returns-in-Err-walk_all-clause-err : goal.returns-in-Err-walk_all-clause-err
-returns-in-Err-walk_all-clause-err g c F read =
-    memory_or _ c.in-Err-walk_all.ensures.err (stray_row c.args.catalog.now F c.args.loss (held_by c.args.survivors.now) read.reads _)
-
-pub returns-in-Err-orders_of-clause-err : goal.returns-in-Err-orders_of-clause-err
-returns-in-Err-orders_of-clause-err g c F read =
-    let S = held_by c.args.survivors.now in
-    memory_or _ c.in-Err-orders_of.ensures.err (faulty_rows c.args.catalog.now F c.args.loss S read.reads c.in-Ok-walk_all.walked.rows c.in-Ok-walk_all.ensures.ok.walk _)
+pub returns-in-Err-order_store-clause-err : goal.returns-in-Err-order_store-clause-err
+returns-in-Err-order_store-clause-err g c F read =
+    memory_or _ c.in-Err-order_store.ensures.err (unordered_rows c.args.catalog.now F c.args.loss (held_by c.args.survivors.now) read.reads _)
 
 pub returns-in-Err-verify_images-clause-err : goal.returns-in-Err-verify_images-clause-err
 returns-in-Err-verify_images-clause-err g c F read =
     let S = held_by c.args.survivors.now in
-    let e = c.store_of-store.ensures in
+    let store = c.in-Ok-order_store.store in
+    let ordered = c.in-Ok-order_store.ensures.ok in
+    let of = c.in-Ok-order_store.ensures.of in
     memory_or _ c.in-Err-verify_images.ensures.err (λ h.
-    misplaced_rows c.args.catalog.now F c.args.loss S read.reads c.in-Ok-walk_all.walked.rows c.in-Ok-walk_all.ensures.ok.walk c.in-Ok-orders_of.ensures.sound _
-    (on_store (λ C L v w. misplaced C L (held_by v) (table_of C w.rows) ≡ Some c.in-Err-verify_images.fault) e.catalog e.loss e.survivors e.walked h))
+    misplaced_rows c.args.catalog.now F c.args.loss S read.reads store.walked.rows ordered.walked.walk ordered.rows_sound _
+    (on_store (λ C L v w. misplaced C L (held_by v) (table_of C w.rows) ≡ Some c.in-Err-verify_images.fault) {w = store.walked} {t = store.walked} of.catalog of.loss of.survivors refl h))
 
 pub joins_of-requires-clause-exist : goal.joins_of-requires-clause-exist
 joins_of-requires-clause-exist g c a i = (survivors_survive c.args.catalog.now c.args.loss a (subst (IsIn a) (c.as_slice-2.ensures.value ∙ c.in-Ok.ensures.all) i)).0
@@ -31,23 +27,24 @@ joins_of-requires-clause-exist g c a i = (survivors_survive c.args.catalog.now c
 pub returns-in-Err-verify_joins-clause-err : goal.returns-in-Err-verify_joins-clause-err
 returns-in-Err-verify_joins-clause-err g c F read =
     let S = held_by c.args.survivors.now in
-    let e = c.store_of-store.ensures in
-    let placed = on_store (λ C L v w. misplaced C L (held_by v) (table_of C w.rows) ≡ None) e.catalog e.loss e.survivors e.walked c.in-Ok-verify_images.ensures.ok in
+    let store = c.in-Ok-order_store.store in
+    let ordered = c.in-Ok-order_store.ensures.ok in
+    let of = c.in-Ok-order_store.ensures.of in
+    let placed = on_store (λ C L v w. misplaced C L (held_by v) (table_of C w.rows) ≡ None) {w = store.walked} {t = store.walked} of.catalog of.loss of.survivors refl c.in-Ok-verify_images.ensures.ok in
     memory_or _ c.in-Err-verify_joins.ensures.err (λ h.
-    misled_rows c.args.catalog.now F c.args.loss S read.reads c.in-Ok-walk_all.walked.rows c.in-Ok-walk_all.ensures.ok.walk c.in-Ok-orders_of.ensures.sound placed _
-    (on_store (λ C L v w. misled C L (held_by v) (table_of C w.rows) ≡ Some c.in-Err-verify_joins.fault) e.catalog e.loss e.survivors e.walked h))
+    misled_rows c.args.catalog.now F c.args.loss S read.reads store.walked.rows ordered.walked.walk ordered.rows_sound placed _
+    (on_store (λ C L v w. misled C L (held_by v) (table_of C w.rows) ≡ Some c.in-Err-verify_joins.fault) {w = store.walked} {t = store.walked} of.catalog of.loss of.survivors refl h))
 
 pub returns-clause-ok : goal.returns-clause-ok
 returns-clause-ok g c F read =
-    let C = c.args.catalog.now in
-    let v = c.args.survivors.now in
-    let e = c.store_of-store.ensures in
-    let sound : AreSound C F c.args.loss v c.in-Ok-walk_all.walked c.in-Ok-orders_of.orders = record {
+    let store = c.in-Ok-order_store.store in
+    let ordered = c.in-Ok-order_store.ensures.ok in
+    let of = c.in-Ok-order_store.ensures.of in
+    record {
       read = read;
-      walked = c.in-Ok-walk_all.ensures.ok;
-      rows_sound = c.in-Ok-orders_of.ensures.sound;
-      placed = on_store (λ C L v w. misplaced C L (held_by v) (table_of C w.rows) ≡ None) e.catalog e.loss e.survivors e.walked c.in-Ok-verify_images.ensures.ok;
-      led = on_store (λ C L v w. misled C L (held_by v) (table_of C w.rows) ≡ None) e.catalog e.loss e.survivors e.walked c.in-Ok-verify_joins.ensures.ok;
-      orders = c.in-Ok-orders_of.ensures.ok;
-    } in
-    subst (λ o. AreSound C F c.args.loss v c.store_of-store.result.walked o) (sym e.orders) (subst (λ w. AreSound C F c.args.loss v w c.in-Ok-orders_of.orders) (sym e.walked) sound)
+      walked = ordered.walked;
+      rows_sound = ordered.rows_sound;
+      placed = on_store (λ C L v w. misplaced C L (held_by v) (table_of C w.rows) ≡ None) {w = store.walked} {t = store.walked} of.catalog of.loss of.survivors refl c.in-Ok-verify_images.ensures.ok;
+      led = on_store (λ C L v w. misled C L (held_by v) (table_of C w.rows) ≡ None) {w = store.walked} {t = store.walked} of.catalog of.loss of.survivors refl c.in-Ok-verify_joins.ensures.ok;
+      orders = ordered.orders;
+    }

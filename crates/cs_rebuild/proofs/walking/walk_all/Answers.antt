@@ -1,4 +1,4 @@
-use Rattle.std.proofs.Common.{◌≡◌, ◌<◌, ◌≤◌, List, length, sym, ap, ◌∙◌, subst, arith, Ok}
+use Rattle.std.proofs.Common.{sym, ap, ◌∙◌, subst, arith, Ok}
 use Rattle.cs_schema.specs.CatalogData.{CatalogData}
 use Rattle.cs_rows.specs.Survivors.{contents_of}
 use Rattle.cs_rows.specs.WalkedView.{WalkedData}

@@ -1,6 +1,6 @@
 use Rattle.std.proofs.Common.{sym, ap, ◌∙◌, subst}
 use Rattle.cs_rows.specs.WalkedView.{AreColumns, count_of}
-use Rattle.cs_file_diagnosis.proofs.RowsAlike.{row_total}
+use Rattle.cs_file_diagnosis.proofs.RowTotals.{row_total}
 use Rattle.cs_file_diagnosis.proofs.tables.FoundTable.rows.Goals as goal
 
 pub row_count-requires : goal.row_count-requires

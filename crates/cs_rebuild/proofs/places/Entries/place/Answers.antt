@@ -74,3 +74,12 @@ returns-then-index-rows-clause-exists c = let g = c.args.self.now.store.now in s
 
 pub returns-else-index-rows-clause-exists : goal.returns-else-index-rows-clause-exists
 returns-else-index-rows-clause-exists c = let g = c.args.self.now.store.now in segment_there g.catalog.now g.walked.rows g.orders g.order_room g.each c.args.self.now.q c.place-t.result.0 c.place-t.result.1 c.args.row c.args.self.now.target c.place-t.ensures
+
+pub returns-then-lost-clause-there : goal.returns-then-lost-clause-there
+returns-then-lost-clause-there c = let g = c.args.self.now.store.now in (c.place-t.result.1, row_there g.catalog.now g.walked.rows g.orders g.order_room g.each c.args.self.now.q c.place-t.result.0 c.place-t.result.1 c.args.row c.args.self.now.target c.place-t.ensures)
+
+pub returns-then-index-rows-clause-there : goal.returns-then-index-rows-clause-there
+returns-then-index-rows-clause-there c = let g = c.args.self.now.store.now in (c.place-t.result.1, row_there g.catalog.now g.walked.rows g.orders g.order_room g.each c.args.self.now.q c.place-t.result.0 c.place-t.result.1 c.args.row c.args.self.now.target c.place-t.ensures)
+
+pub returns-else-index-rows-clause-there : goal.returns-else-index-rows-clause-there
+returns-else-index-rows-clause-there c = let g = c.args.self.now.store.now in (c.place-t.result.1, row_there g.catalog.now g.walked.rows g.orders g.order_room g.each c.args.self.now.q c.place-t.result.0 c.place-t.result.1 c.args.row c.args.self.now.target c.place-t.ensures)

@@ -1,6 +1,4 @@
-use Rattle.std.proofs.Common.{◌≡◌, ℕ, List, Some, length, get_or, ap, inl, inr, ◌⊎◌}
 use Rattle.std.proofs.lemmas.Option.{slice_get-get_or}
-use Rattle.cs_store.specs.declared.fault.Fault.{Fault}
 use Rattle.cs_schema.proofs.Lists.{in_at}
 use Rattle.cs_rebuild.proofs.Verdicts.{memory_or}
 use Rattle.cs_rebuild.proofs.reading.FilesWorkTasks.task.Goals as goal

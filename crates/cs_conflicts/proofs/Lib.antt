@@ -1,0 +1,7 @@
+pub mod SiteRanges
+pub mod Keys
+pub mod EntryFacts
+pub mod JoinEntries
+pub mod ImageFacts
+pub mod Passes
+pub mod WalkedTables

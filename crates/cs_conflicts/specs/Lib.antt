@@ -1,0 +1,3 @@
+pub mod Conflicts
+pub mod Candidates
+pub mod Laws

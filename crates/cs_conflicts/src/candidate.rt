@@ -1,0 +1,34 @@
+//! A table that a store may hold.
+ghost use Rattle.std.specs.Prelude.{◌≡◌, false};
+ghost use Rattle.cs_order.specs.Tables.{is_twice};
+
+use crate::conflicts::Conflicts;
+use cs_rebuild::{OrderedStore, Run, rows_by_key};
+use cs_schema::Cells;
+use std::alloc::AllocError;
+use std::marker::Sync;
+use std::thread::Threads;
+
+/// The table to which the survivors of a loss lead, in its orders, and with what it is in conflict.
+#[derive(Drop)]
+pub struct Candidate<'a> {
+    pub store: OrderedStore<'a>,
+    pub conflicts: Conflicts,
+    pub ghost once: { is_twice store.catalog.now store.walked.rows ≡ false },
+}
+
+impl Candidate<'_> {
+    ghost use Rattle.std.specs.Prelude.{IfOk};
+    ghost use Rattle.cs_recovery.specs.Columns.{AreColumnsOf};
+    ghost use Rattle.cs_rebuild.specs.OnStore.{table_on};
+
+    /// The rows of the table by primary key, as a column of cells for each column of the table.
+    pub fn columns<R: Threads + Sync, G>(
+        &self,
+        run: &Run<'_, R, G>,
+    ) -> Result<Vec<Cells>, AllocError>
+        ensures { IfOk result (λ columns. AreColumnsOf self.now.store.catalog.now (table_on self.now.store) columns.items) }
+    {
+        rows_by_key(run, self.store.catalog, &self.store.walked)
+    }
+}

@@ -1,0 +1,109 @@
+-- Every file beside the sites of the bad ones is sound.
+use Rattle.std.proofs.Common.{◌≡◌, ◌⊎◌, inl, inr, ◌↔◌, ℕ, List, [], Some, false, refl, sym, subst, ◌∙◌}
+use Rattle.std.specs.Prelude.{IsTrue}
+use Rattle.std.specs.List.Sorted.{IsStrictlySortedBy}
+use Rattle.cs_schema.specs.declared.file_name.FileName.{FileName}
+use Rattle.cs_schema.specs.CatalogData.{CatalogData, HasSegment}
+use Rattle.cs_schema.specs.CatalogRules.{IsCatalog}
+use Rattle.cs_schema.specs.FileNames.{FileContents, HasName, Survives}
+use Rattle.cs_schema.specs.Lists.{member, IsIn}
+use Rattle.cs_schema.specs.Losses.{Sites}
+use Rattle.cs_schema.proofs.Ascending.{false≢true}
+use Rattle.std.proofs.lemmas.Option.{none-some, same_Some}
+use Rattle.cs_segment.specs.SegmentFile.{Base, IsSegmentFile}
+use Rattle.cs_segment.proofs.OneText.{one_segment}
+use Rattle.cs_delta.specs.DeltaFile.{DeltaData, IsDeltaFile, CanMerge, merged}
+use Rattle.cs_delta.proofs.HeadTexts.{one_delta}
+use Rattle.cs_rows.specs.Survivors.{SurvivorsData, contents_of}
+use Rattle.cs_store.specs.Fault.{MemoryOr}
+use Rattle.cs_store.specs.declared.fault.Fault.{Fault}
+use Rattle.cs_recovery.specs.Conflicts.{site_of}
+use Rattle.cs_recovery.specs.Verdicts.{IsSound}
+use Rattle.cs_inspection.specs.declared.badness.Badness.{Badness}
+use Rattle.cs_inspection.specs.BadFiles.{IsPair, IsGood, IsListed, AreBadFiles}
+use Rattle.cs_inspection.specs.Laws.{AreAbsent}
+use Rattle.cs_rebuild.specs.Steps.{AreRead, IsBadFile}
+use Rattle.cs_file_diagnosis.specs.Forced.{IsBadSite, AreTold}
+
+module _ (C : CatalogData) (F : FileContents) (unreadable : List FileName) (bad : List (FileName × Badness)) (list : AreBadFiles C F unreadable bad) (sites : Sites) (are : (x : ℕ) → IsTrue (member sites x) ↔ IsBadSite C bad x) where
+  good : (n : FileName) → HasName C n → member sites (site_of C n) ≡ false → IsGood C F unreadable n
+  good n h kept = go (list.others n h)
+    where
+      go : IsListed n bad ⊎ IsGood C F unreadable n → IsGood C F unreadable n
+      go (inl (why, i)) = false≢true (sym kept ∙ (are (site_of C n)).1 ((n, why), i, refl))
+      go (inr g) = g
+
+  pub sound_beside : (n : FileName) → Survives C sites n → IsSound C F n
+  sound_beside (FileName.Seg p s) (h, kept) = let g = good (FileName.Seg p s) h kept in (g.bytes, g.undamaged.file.0, g.there, g.undamaged.file.1)
+  sound_beside (FileName.Jix p s q) (h, kept) = let g = good (FileName.Jix p s q) h kept in (g.undamaged.file.0, record { bytes = g.bytes; has_file = g.there; file = g.undamaged.file.1 })
+  sound_beside (FileName.Del p s) (h, kept) =
+      let g = good (FileName.Seg p s) h kept in
+      let d = good (FileName.Del p s) h kept in
+      let base = g.undamaged.file.0 in
+      let changes = d.undamaged.file.0 in
+      let can = d.undamaged.merges p s base changes refl (record { segment_bytes = g.bytes; delta_bytes = d.bytes; has_segment = g.there; has_delta = d.there; segment_file = g.undamaged.file.1; delta_file = d.undamaged.file.1 }) in
+      (merged base changes, record { segment_bytes = g.bytes; delta_bytes = d.bytes; base = base; changes = changes; has_segment = g.there; has_delta = d.there; segment_file = g.undamaged.file.1; delta_file = d.undamaged.file.1; can_merge = can; image = refl })
+
+-- no file beside these sites is bad
+pub never_bad : (C : CatalogData) (F : FileContents) (sites : Sites) (f : Fault) → ((n : FileName) → Survives C sites n → IsSound C F n) → MemoryOr f (IsBadFile C F sites f) → (f ≡ Fault.Memory → ⊥) → ⊥
+never_bad C F sites f sound (inl memory) other = other memory
+never_bad C F sites f sound (inr (n, bad)) other = bad.bad (sound n bad.survives)
+
+-- ---- where all files were read, each is good
+
+module _ (C : CatalogData) (cat : IsCatalog C) (F : FileContents) (unreadable : List FileName) (absent : AreAbsent F unreadable) (v : SurvivorsData) (read : AreRead C F [] v) where
+  kept : (p s : ℕ) → HasSegment C p s → Survives C [] (FileName.Seg p s)
+  kept p s h = (h, refl)
+
+  -- what stands under a name can't be unreadable
+  readable : (n : FileName) (bytes : List ℕ) → F n ≡ Some bytes → IsIn n unreadable → ⊥
+  readable n bytes there i = none-some bytes (sym (absent n i) ∙ there)
+
+  merges : (p s : ℕ) → HasSegment C p s → (base : Base) (changes : DeltaData) → IsPair C F p s base changes → CanMerge base changes
+  merges p s h base changes a =
+      let i = read.reads.images p s (kept p s h) in
+      let bytes : i.segment_bytes ≡ a.segment_bytes = same_Some i.segment_bytes a.segment_bytes (sym i.has_segment ∙ a.has_segment) in
+      let texts : i.delta_bytes ≡ a.delta_bytes = same_Some i.delta_bytes a.delta_bytes (sym i.has_delta ∙ a.has_delta) in
+      let bases : i.base ≡ base = one_segment C cat p s h.0 a.segment_bytes i.base base (subst (λ x. IsSegmentFile C p s x i.base) bytes i.segment_file) a.segment_file in
+      let deltas : i.changes ≡ changes = one_delta C p s a.delta_bytes i.changes changes (subst (λ x. IsDeltaFile C p s x i.changes) texts i.delta_file) a.delta_file in
+      subst (λ b. CanMerge b changes) bases (subst (λ d. CanMerge i.base d) deltas i.can_merge)
+
+  no_delta : {A : Type 0} (p s p' s' : ℕ) → FileName.Seg p s ≡ FileName.Del p' s' → A
+  no_delta p s p' s' e = absurd (cc e)
+
+  no_join : {A : Type 0} (p s q p' s' : ℕ) → FileName.Jix p s q ≡ FileName.Del p' s' → A
+  no_join p s q p' s' e = absurd (cc e)
+
+  is_good : (n : FileName) → HasName C n → IsGood C F unreadable n
+  is_good (FileName.Seg p s) h =
+      let i = read.reads.images p s (kept p s h) in record {
+        readable = readable (FileName.Seg p s) i.segment_bytes i.has_segment;
+        bytes = i.segment_bytes;
+        there = i.has_segment;
+        undamaged = record { file = (i.base, i.segment_file); merges = λ p' s' base changes e. no_delta p s p' s' e };
+      }
+  is_good (FileName.Jix p s q) h =
+      let j = read.reads.joins p s q (h, refl) in record {
+        readable = readable (FileName.Jix p s q) j.bytes j.has_file;
+        bytes = j.bytes;
+        there = j.has_file;
+        undamaged = record { file = ((contents_of v).join p s q, j.file); merges = λ p' s' base changes e. no_join p s q p' s' e };
+      }
+  is_good (FileName.Del p s) h =
+      let i = read.reads.images p s (kept p s h) in record {
+        readable = readable (FileName.Del p s) i.delta_bytes i.has_delta;
+        bytes = i.delta_bytes;
+        there = i.has_delta;
+        undamaged = record {
+          file = (i.changes, i.delta_file);
+          merges = λ p' s' base changes e pair. merges p' s' (subst (HasName C) e h) base changes pair;
+        };
+      }
+
+  pub none_bad : AreTold C F unreadable [] []
+  unfolding IsStrictlySortedBy
+  none_bad = record {
+    absent = absent;
+    list = record { each = λ n why i. absurd i; others = λ n h. inr (is_good n h); in_order = tt };
+    sites_are = λ x. (λ m. false≢true m, λ b. absurd b.1);
+  }

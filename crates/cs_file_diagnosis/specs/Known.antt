@@ -1,0 +1,31 @@
+-- What is known while losses are tried.
+use Rattle.std.specs.Prelude.{◌≡◌, ℕ, ◌++◌, ◌∷◌, List, [], length, Some}
+use Rattle.std.specs.List.{slice_get}
+use Rattle.cs_schema.specs.CatalogData.{CatalogData}
+use Rattle.cs_schema.specs.FileNames.{FileContents}
+use Rattle.cs_schema.specs.Losses.{Sites}
+use Rattle.cs_conflicts.specs.Candidates.{AreConflictsOf}
+use Rattle.cs_conflicts.specs.Conflicts.{AreAllHit}
+use Rattle.cs_conflicts.specs.declared.conflicts.Conflicts.{Conflicts}
+use Rattle.cs_diagnosis.specs.declared.search.Findings.{Findings}
+use Rattle.cs_file_diagnosis.specs.Diagnoses.{rows_found}
+use Rattle.cs_file_diagnosis.specs.Walks.{AreWalks}
+use Rattle.cs_file_diagnosis.specs.declared.known.Known.{Known}
+use Rattle.cs_file_diagnosis.specs.declared.tables.FoundTable.{FoundTable}
+
+-- the conflicts of each table that was found, and what plans came to
+pub record IsKnown (C : CatalogData) (F : FileContents) (first : Sites) (tables : List FoundTable) (known : Known) : Type 0 where
+  pub count : length known.conflicts.items ≡ length tables
+  pub each : (n : ℕ) (t : FoundTable) (c : Conflicts) → slice_get tables n ≡ Some t → slice_get known.conflicts.items n ≡ Some c → AreConflictsOf C F first (rows_found t) c
+  pub walks : AreWalks C F first known.walks
+
+-- no table that was found explains the store by this loss
+abbrev pub NoneIsHit : List Conflicts → Sites → Type 0
+NoneIsHit conflicts L = (n : ℕ) (c : Conflicts) → slice_get conflicts n ≡ Some c → ¬ AreAllHit c L
+
+-- a table was kept with its conflicts, and a loss that explains the store by it
+pub record IsKeptTable (L : Sites) (table : FoundTable) (conflicts : Conflicts) (old new : Findings FoundTable) (before now : Known) : Type 0 where
+  pub tables : new.tables.items ≡ old.tables.items ++ table ∷ []
+  pub conflicts_too : now.conflicts.items ≡ before.conflicts.items ++ conflicts ∷ []
+  pub explanations : new.explanations.items ≡ old.explanations.items ++ (record { loss = L; table = length old.tables.items }) ∷ []
+  pub walks : now.walks ≡ before.walks
