@@ -1,8 +1,8 @@
 -- The sites of bad files.
-use Rattle.std.specs.Prelude.{◌≡◌, ◌↔◌, ℕ, List, IsTrue}
+use Rattle.std.specs.Prelude.{◌≡◌, ◌↔◌, ℕ, List, None, IsTrue}
 use Rattle.cs_schema.specs.declared.file_name.FileName.{FileName}
 use Rattle.cs_schema.specs.CatalogData.{CatalogData}
-use Rattle.cs_schema.specs.FileNames.{FileContents}
+use Rattle.cs_schema.specs.FileNames.{FileContents, HasName}
 use Rattle.cs_schema.specs.Lists.{member, IsIn}
 use Rattle.cs_schema.specs.Losses.{Sites}
 use Rattle.cs_recovery.specs.Conflicts.{site_of}
@@ -19,3 +19,7 @@ pub record AreTold (C : CatalogData) (F : FileContents) (unreadable : List FileN
   pub absent : AreAbsent F unreadable
   pub list : AreBadFiles C F unreadable bad
   pub sites_are : (x : ℕ) → IsTrue (member sites x) ↔ IsBadSite C bad x
+
+-- on each of these sites a file is missing
+abbrev pub LacksFileOn : CatalogData → FileContents → Sites → Type 0
+LacksFileOn C F sites = (x : ℕ) → IsTrue (member sites x) → (n : FileName) × HasName C n × (F n ≡ None) × (x ≡ site_of C n)

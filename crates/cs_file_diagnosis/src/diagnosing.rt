@@ -1,5 +1,5 @@
 //! The diagnosis of a store.
-ghost use Rattle.std.specs.Prelude.{◌≤◌, [], IfOk, IfSome, List};
+ghost use Rattle.std.specs.Prelude.{◌≤◌, IfOk, IfSome, List};
 ghost use Rattle.cs_schema.specs.declared.file_name.FileName.{FileName as NameData};
 ghost use Rattle.cs_store.specs.FileSet.{contents_of};
 ghost use Rattle.cs_inspection.specs.BadFiles.{AreBadFiles};
@@ -7,19 +7,19 @@ ghost use Rattle.cs_inspection.specs.Laws.{AreAbsent};
 ghost use Rattle.cs_schema.specs.FileNames.{FileContents};
 ghost use Rattle.cs_rebuild.specs.Steps.{AreRead};
 ghost use Rattle.cs_file_diagnosis.specs.Diagnoses.{IsDiagnosis};
-ghost use Rattle.cs_file_diagnosis.specs.Forced.{AreTold};
+ghost use Rattle.cs_file_diagnosis.specs.Forced.{AreTold, LacksFileOn};
 
 use crate::explaining::explain;
 use crate::forcing::bad_sites;
+use crate::missing::{missing_files, others};
 use crate::reaching::{Reach, reach_of};
 use crate::tables::FoundTable;
 use cs_conflicts::Remains;
 use cs_diagnosis::findings::{Explanation, Verdict};
 use cs_diagnosis::summary::verdict_of;
-use cs_inspection::{Badness, bad_files};
+use cs_inspection::{Badness, bad_files, bad_survivors};
 use cs_progress::Progress;
 use cs_rebuild::{Run, read_store};
-use cs_rows::Survivors;
 use cs_schema::{Catalog, FileName, Loss};
 use cs_store::{Fault, FileSet};
 use std::alloc::AllocError;
@@ -99,24 +99,27 @@ fn diagnose_bad<R: Threads + Sync, G: Progress + Sync>(
     }
 }
 
-/// What explains a store of which every file is good, and was read.
-fn diagnose_good<R: Threads + Sync, G: Progress + Sync>(
+/// What is wrong with a store of which every file beside the missing ones' sites is good, and was read: only the files of these
+/// sites are looked at once more.
+fn diagnose_beside<R: Threads + Sync, G: Progress + Sync>(
     run: &Run<'_, R, G>,
-    catalog: &Catalog,
-    survivors: &Survivors,
+    remains: &Remains<'_>,
+    files: &FileSet,
+    unreadable: &[FileName],
     at_most: Option<u8>,
 ) -> Result<Diagnosis, AllocError>
     requires at_most { IfSome at_most (λ n. n ≤ 16) }
-    requires read { (F : FileContents) × AreRead catalog.now F [] survivors.now }
-    ensures { IfOk result (λ d. (F : FileContents) (unreadable : List NameData) → AreRead catalog.now F [] survivors.now → AreAbsent F unreadable → IsDiagnosis catalog.now F unreadable at_most d) }
+    requires absent { AreAbsent (contents_of files.now) unreadable.now }
+    requires read { AreRead remains.now.catalog.now (contents_of files.now) remains.now.first remains.now.survivors.now }
+    requires missing { LacksFileOn remains.now.catalog.now (contents_of files.now) remains.now.first }
+    ensures { IfOk result (IsDiagnosis remains.now.catalog.now (contents_of files.now) unreadable.now at_most) }
 {
-    let _rules = catalog.projection_count();
-    let remains = Remains {
-        catalog,
-        first: Loss::none(),
-        survivors,
-    };
-    diagnose_read(run, &remains, Vec::new(run.alloc), at_most)
+    let _rules = remains.catalog.projection_count();
+    let rest = others(remains.first);
+    match bad_survivors(run.rt, run.alloc, remains.catalog, files, unreadable, rest) {
+        Ok(bad) => diagnose_read(run, remains, bad, at_most),
+        Err(refused) => Err(refused),
+    }
 }
 
 /// What is wrong with a store: its bad files, which losses of at most so many sites explain the rest, and whether these agree
@@ -134,14 +137,36 @@ pub fn diagnose<R: Threads + Sync, G: Progress + Sync>(
     requires absent { AreAbsent (contents_of files.now) unreadable.now }
     ensures { IfOk result (IsDiagnosis catalog.now (contents_of files.now) unreadable.now at_most) }
 {
-    // where files are missing, they needn't be read to see that some are bad
-    if files.len() == catalog.surviving(run.alloc, Loss::none())?.len() {
-        match read_store(run, catalog, files, Loss::none()) {
-            Ok(survivors) => return diagnose_good(run, catalog, &survivors, at_most),
-            Err(Fault::Memory) => return Err(AllocError),
-            Err(_) => {}
+    let missing = missing_files(run.alloc, catalog, files)?;
+    let first = bad_sites(catalog, missing.as_slice());
+    match read_store(run, catalog, files, first) {
+        Ok(survivors) => {
+            let remains = Remains {
+                catalog,
+                first,
+                survivors: &survivors,
+            };
+            diagnose_beside(run, &remains, files, unreadable, at_most)
         }
+        Err(fault) => match fault {
+            Fault::Memory => Err(AllocError),
+            _ => diagnose_damaged(run, catalog, files, unreadable, at_most),
+        },
     }
+}
+
+/// The same, of a store of which some file is damaged: each file is looked at by itself.
+fn diagnose_damaged<R: Threads + Sync, G: Progress + Sync>(
+    run: &Run<'_, R, G>,
+    catalog: &Catalog,
+    files: &FileSet,
+    unreadable: &[FileName],
+    at_most: Option<u8>,
+) -> Result<Diagnosis, AllocError>
+    requires at_most { IfSome at_most (λ n. n ≤ 16) }
+    requires absent { AreAbsent (contents_of files.now) unreadable.now }
+    ensures { IfOk result (IsDiagnosis catalog.now (contents_of files.now) unreadable.now at_most) }
+{
     match bad_files(run.rt, run.alloc, catalog, files, unreadable) {
         Ok(bad) => diagnose_bad(run, catalog, files, bad, at_most),
         Err(refused) => Err(refused),

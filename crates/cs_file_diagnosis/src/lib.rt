@@ -9,6 +9,7 @@ mod disputing;
 mod explaining;
 mod forcing;
 mod known;
+mod missing;
 mod reaching;
 mod tables;
 mod walks;
