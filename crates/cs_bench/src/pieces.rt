@@ -13,82 +13,77 @@ use std::alloc::Global;
 use std::rt::Clock;
 use std::time::Instant;
 
+/// A column of integers: how many rows it has, how many integers it goes through, and its code.
+#[derive(Drop)]
+struct Column<'a> {
+    name: &'a str,
+    code: Code,
+    rows: u32,
+    distinct: u32,
+}
+
 /// Measures columns of so many rows that are made in pieces.
 pub fn measure(rt: &(impl Print + Clock + AllocGlobal), rows: u32, timed: bool) -> Result<()>
     requires { rows ≤ 1048576 }
 {
-    cuts(
-        rt,
-        "pieces of Plain, distinct integers",
-        Code::Plain,
+    let plain = Column {
+        name: "pieces of Plain, distinct integers",
+        code: Code::Plain,
         rows,
-        1_000_000,
-        timed,
-    )?;
-    cuts(
-        rt,
-        "pieces of Runs, distinct integers",
-        Code::Runs,
+        distinct: 1_000_000,
+    };
+    cuts(rt, &plain, timed)?;
+    let runs = Column {
+        name: "pieces of Runs, distinct integers",
+        code: Code::Runs,
         rows,
-        1_000_000,
-        timed,
-    )?;
-    cuts(
-        rt,
-        "pieces of Runs, one integer",
-        Code::Runs,
+        distinct: 1_000_000,
+    };
+    cuts(rt, &runs, timed)?;
+    let one_run = Column {
+        name: "pieces of Runs, one integer",
+        code: Code::Runs,
         rows,
-        1,
-        timed,
-    )?;
-    cuts(
-        rt,
-        "pieces of Bitmaps, ten integers",
-        Code::Bitmaps,
+        distinct: 1,
+    };
+    cuts(rt, &one_run, timed)?;
+    let bitmaps = Column {
+        name: "pieces of Bitmaps, ten integers",
+        code: Code::Bitmaps,
         rows,
-        10,
-        timed,
-    )
+        distinct: 10,
+    };
+    cuts(rt, &bitmaps, timed)
 }
 
 /// Measures a column in large pieces and in pieces of one row.
-fn cuts(
-    rt: &(impl Print + Clock + AllocGlobal),
-    column: &str,
-    code: Code,
-    rows: u32,
-    distinct: u32,
-    timed: bool,
-) -> Result<()>
-    requires some { 0 < distinct }
-    requires short { rows ≤ 1048576 }
-    requires fits { (v : List CellValue) → length v ≤ 1048576 → CanEncode code Kind.Int v }
+fn cuts(rt: &(impl Print + Clock + AllocGlobal), column: &Column<'_>, timed: bool) -> Result<()>
+    requires some { 0 < column.now.distinct }
+    requires short { column.now.rows ≤ 1048576 }
+    requires fits { (v : List CellValue) → length v ≤ 1048576 → CanEncode column.now.code Kind.Int v }
 {
-    cut(rt, column, code, rows, 65_536, distinct, timed)?;
-    cut(rt, column, code, rows, 1, distinct, timed)
+    cut(rt, column, 65_536, timed)?;
+    cut(rt, column, 1, timed)
 }
 
 /// Measures a column in pieces of so many rows.
 fn cut(
     rt: &(impl Print + Clock + AllocGlobal),
-    column: &str,
-    code: Code,
-    rows: u32,
+    column: &Column<'_>,
     of: u32,
-    distinct: u32,
     timed: bool,
 ) -> Result<()>
     requires cut { 0 < of }
-    requires some { 0 < distinct }
-    requires short { rows ≤ 1048576 }
-    requires fits { (v : List CellValue) → length v ≤ 1048576 → CanEncode code Kind.Int v }
+    requires some { 0 < column.now.distinct }
+    requires short { column.now.rows ≤ 1048576 }
+    requires fits { (v : List CellValue) → length v ≤ 1048576 → CanEncode column.now.code Kind.Int v }
 {
     let start = Instant::now(rt)?;
-    let Some(whole) = joined(rt.alloc(), code, rows, of, distinct)? else {
+    let Some(whole) = joined(rt.alloc(), column.code, column.rows, of, column.distinct)? else {
         return Err(anyhow!("a column is too long"));
     };
     drop(whole);
-    tell_cut(rt, column, "cut", of as usize, start, timed)
+    tell_cut(rt, column.name, "cut", of as usize, start, timed)
 }
 
 /// The piece of a column that is made in pieces of so many rows; none where they do not fit together.

@@ -21,6 +21,18 @@ const ROUNDS: [&str; 5] = [
     "encode",
 ];
 
+/// The calls on a store of so many rows: by how many workers they are made, how many rows a piece of work has, and whether
+/// it is told how long they took.
+#[derive(Drop)]
+struct Calls {
+    rows: u32,
+    workers: u32,
+    cut: u32,
+    timed: bool,
+    ghost workers_range: { (1 ≤ workers) × (workers ≤ 64) },
+    ghost cut_range: { (1 ≤ cut) × (cut ≤ 1048576) },
+}
+
 /// Rebuilds the third projection of so many rows, and checks the whole store.
 pub fn measure(
     rt: &(impl Print + Clock + AllocGlobal + Threads + Sync),
@@ -32,14 +44,20 @@ pub fn measure(
     requires workers { (1 ≤ workers) × (workers ≤ 64) }
     requires cut { (1 ≤ cut) × (cut ≤ 1048576) }
 {
+    let calls = Calls {
+        rows,
+        workers,
+        cut,
+        timed,
+    };
     let catalog = match read_catalog(rt.alloc(), JOINED_ORDERS.as_bytes()) {
         Ok(catalog) => catalog,
         Err(fault) => return Err(anyhow!("{fault}")),
     };
     let mut files = survivors(rt.alloc(), rows)?;
     println!(rt; "store of {rows} rows, workers {workers}, cut {cut}")?;
-    rebuild_third(rt, &catalog, &mut files, rows, workers, cut, timed)?;
-    check_all(rt, &catalog, &files, rows, workers, cut, timed)
+    rebuild_third(rt, &catalog, &mut files, &calls)?;
+    check_all(rt, &catalog, &files, &calls)
 }
 
 /// Rebuilds what stands on the third site, and puts it among the files.
@@ -47,23 +65,18 @@ fn rebuild_third(
     rt: &(impl Print + Clock + AllocGlobal + Threads + Sync),
     catalog: &Catalog,
     files: &mut FileSet,
-    rows: u32,
-    workers: u32,
-    cut: u32,
-    timed: bool,
-) -> Result<()>
-    requires workers { (1 ≤ workers) × (workers ≤ 64) }
-    requires cut { (1 ≤ cut) × (cut ≤ 1048576) }
-{
+    calls: &Calls,
+) -> Result<()> {
     let alloc = rt.alloc();
     let lost = Loss::none().with(3);
+    let (workers, cut) = (calls.workers, calls.cut);
     let gate = Rounds::new(rt)?;
     let out = match rebuild_gated(rt, alloc, catalog, files, lost, workers, cut, &gate) {
         Ok(out) => out,
         Err(fault) => return Err(anyhow!("{fault}")),
     };
     let end = gate.elapsed();
-    tell(rt, "rebuild", &gate, end, rows, timed)?;
+    tell(rt, "rebuild", &gate, end, calls)?;
     for i in 0..out.len() {
         let (name, bytes) = out.at(i);
         files.put(name, Vec::from_slice(alloc, bytes)?)?;
@@ -76,20 +89,15 @@ fn check_all(
     rt: &(impl Print + Clock + AllocGlobal + Threads + Sync),
     catalog: &Catalog,
     files: &FileSet,
-    rows: u32,
-    workers: u32,
-    cut: u32,
-    timed: bool,
-) -> Result<()>
-    requires workers { (1 ≤ workers) × (workers ≤ 64) }
-    requires cut { (1 ≤ cut) × (cut ≤ 1048576) }
-{
+    calls: &Calls,
+) -> Result<()> {
+    let (workers, cut) = (calls.workers, calls.cut);
     let gate = Rounds::new(rt)?;
     if let Err(fault) = check_gated(rt, rt.alloc(), catalog, files, 1, workers, cut, &gate) {
         return Err(anyhow!("{fault}"));
     }
     let end = gate.elapsed();
-    tell(rt, "check", &gate, end, rows, timed)
+    tell(rt, "check", &gate, end, calls)
 }
 
 /// Prints a line a round, and one for the whole call.
@@ -98,30 +106,22 @@ fn tell<R: Print + Clock>(
     call: &str,
     gate: &Rounds<R>,
     end: u64,
-    rows: u32,
-    timed: bool,
+    calls: &Calls,
 ) -> Result<()> {
     for (round, what) in ROUNDS.iter().enumerate() {
         let Some(begin) = gate.begin(round) else {
             break;
         };
         let next = gate.begin(round.saturating_add(1)).unwrap_or(end);
-        line(rt, call, what, next.saturating_sub(begin), rows, timed)?;
+        line(rt, call, what, next.saturating_sub(begin), calls)?;
     }
-    line(rt, call, "in all", end, rows, timed)
+    line(rt, call, "in all", end, calls)
 }
 
 /// A line of output: how long it took, and the rows a second.
-fn line(
-    rt: &impl Print,
-    call: &str,
-    what: &str,
-    nanoseconds: u64,
-    rows: u32,
-    timed: bool,
-) -> Result<()> {
-    if timed {
-        let speed = u64::from(rows).saturating_mul(1_000_000_000) / nanoseconds.max(1);
+fn line(rt: &impl Print, call: &str, what: &str, nanoseconds: u64, calls: &Calls) -> Result<()> {
+    if calls.timed {
+        let speed = u64::from(calls.rows).saturating_mul(1_000_000_000) / nanoseconds.max(1);
         let microseconds = nanoseconds / 1000;
         println!(rt; "{call}, {what}: {microseconds} us, {speed} rows a second")?;
     } else {

@@ -4,4 +4,5 @@ pub mod EntryFacts
 pub mod JoinEntries
 pub mod ImageFacts
 pub mod Passes
+pub mod Gathered
 pub mod WalkedTables

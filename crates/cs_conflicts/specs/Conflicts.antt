@@ -1,12 +1,12 @@
 -- With which sites the files that survive a first loss are in conflict, where they have to hold a table: told by the larger
 -- losses beside which they do.
-use Rattle.std.specs.Prelude.{◌≡◌, ◌↔◌, ◌⊎◌, ℕ, false, true, List, map, Some, Option, MatchOption, IsTrue}
+use Rattle.std.specs.Prelude.{◌≡◌, ◌↔◌, ◌+◌, ℕ, false, true, List, map, Some, Option, MatchOption, IsTrue}
 use Rattle.std.specs.List.{slice_get}
 use lib.Pointwise.{pointwise}
 use Rattle.cs_schema.specs.declared.file_name.FileName.{FileName}
 use Rattle.cs_schema.specs.CatalogData.{CatalogData}
 use Rattle.cs_schema.specs.FileNames.{Survives}
-use Rattle.cs_schema.specs.Lists.{member, IsIn}
+use Rattle.cs_schema.specs.Lists.{member}
 use Rattle.cs_schema.specs.Losses.{Sites}
 use Rattle.cs_schema.specs.Order.{rows_of}
 use Rattle.cs_schema.specs.Rows.{Row, project}
@@ -17,19 +17,14 @@ use Rattle.cs_rows.specs.Walk.{Contents}
 use Rattle.cs_recovery.specs.Conflicts.{site_of}
 use Rattle.cs_recovery.specs.Holding.{agrees}
 use Rattle.cs_recovery.specs.Places.{entry_for, entries_for}
+use Rattle.cs_conflicts.specs.Pairs.{IsHit}
 use Rattle.cs_conflicts.specs.declared.conflicts.Conflicts.{Conflicts}
 
 -- ---- losses that hit conflicts
 
--- the loss has a site of each pair of the first with one of the others
-abbrev pub IsHit : Sites → ℕ × Sites → Type 0
-IsHit L c = IsTrue (member L c.0) ⊎ IsWithin c.1 L
-
-abbrev pub AreHit : List (ℕ × Sites) → Sites → Type 0
-AreHit pairs L = (c : ℕ × Sites) → IsIn c pairs → IsHit L c
-
+-- the loss has a site of each pair that is kept
 abbrev pub AreAllHit : Conflicts → Sites → Type 0
-AreAllHit k L = AreHit k.of_images.items L × AreHit k.of_joins.items L
+AreAllHit k L = (n : ℕ) (others : Sites) → slice_get k.with n ≡ Some others → IsHit L (n + 1, others)
 
 -- ---- what a file has to hold beside a loss
 

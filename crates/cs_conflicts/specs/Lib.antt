@@ -1,3 +1,4 @@
+pub mod Pairs
 pub mod Conflicts
 pub mod Candidates
 pub mod Laws

@@ -22,13 +22,21 @@ impl Candidate<'_> {
     ghost use Rattle.cs_recovery.specs.Columns.{AreColumnsOf};
     ghost use Rattle.cs_rebuild.specs.OnStore.{table_on};
 
-    /// The rows of the table by primary key, as a column of cells for each column of the table.
+    /// The rows of the table by primary key, as a column of cells for each column of the table. Its orders are let go of first,
+    /// and what was walked of a column once it is copied.
     pub fn columns<R: Threads + Sync, G>(
-        &self,
+        self,
         run: &Run<'_, R, G>,
     ) -> Result<Vec<Cells>, AllocError>
-        ensures { IfOk result (λ columns. AreColumnsOf self.now.store.catalog.now (table_on self.now.store) columns.items) }
+        ensures { IfOk result (λ columns. AreColumnsOf self.entry.store.catalog.now (table_on self.entry.store) columns.items) }
     {
-        rows_by_key(run, self.store.catalog, &self.store.walked)
+        let OrderedStore {
+            catalog,
+            walked,
+            orders,
+            ..
+        } = self.store;
+        drop(orders);
+        rows_by_key(run, catalog, walked)
     }
 }

@@ -1,6 +1,8 @@
 //! The table to which the survivors of a loss lead, with what contradicts it.
 ghost use Rattle.std.specs.Prelude.{IfOk, MatchOption};
+ghost use Rattle.cs_schema.specs.CatalogRules.{IsCatalog};
 ghost use Rattle.cs_schema.specs.FileNames.{FileContents};
+ghost use Rattle.cs_recovery.proofs.CatalogFacts.{IsCatalog-prop};
 ghost use Rattle.cs_safety.specs.Safety.{IsSafe};
 ghost use Rattle.cs_safety.specs.Within.{IsWithin};
 ghost use Rattle.cs_rebuild.specs.Steps.{AreRead};
@@ -21,7 +23,8 @@ pub struct Remains<'a> {
     pub catalog: &'a Catalog,
     /// The first loss.
     pub first: Loss,
-    pub survivors: &'a Survivors,
+    pub survivors: &'a Survivors<'a>,
+    pub ghost rules: { IsCatalog catalog.now } by { IsCatalog-prop catalog.now },
 }
 
 /// The table to which the survivors of a safe loss lead, with its conflicts; or none, where they lead to no table.
@@ -36,7 +39,6 @@ pub fn find_candidate<'a, R: Threads + Sync, G: Gate + Sync>(
     ensures { IfOk result (λ found. (F : FileContents) → AreRead remains.now.catalog.now F remains.now.first remains.now.survivors.now → MatchOption found (HasNoTable remains.now.catalog.now F remains.now.first loss) (IsCandidate remains.now.catalog.now F remains.now.first loss)) }
 {
     let catalog = remains.catalog;
-    let _rules = catalog.projection_count();
     let store = match order_store(run, catalog, loss, remains.survivors) {
         Ok(store) => store,
         Err(fault) => {

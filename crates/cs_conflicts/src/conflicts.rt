@@ -1,50 +1,59 @@
 //! The conflicts of a table.
-ghost use Rattle.std.specs.Prelude.{◌≡◌, ◌↔◌, IsTrue};
-ghost use Rattle.cs_schema.specs.Lists.{member};
-ghost use Rattle.cs_conflicts.specs.Conflicts.{AreHit, AreAllHit};
+ghost use Rattle.cs_conflicts.specs.Pairs.{AreKeptOnce};
 
 use cs_design::within::is_within;
 use cs_schema::Loss;
 
-/// With which pairs of sites a table is in conflict: for each file the site on which it stands, and the sites with whose files
-/// it is in conflict. That is its own site where it contradicts the table by itself.
-#[derive(Drop)]
+/// With which pairs of sites a table is in conflict: a loss that is accepted with it has a site of each.
+#[derive(Clone, Copy)]
 pub struct Conflicts {
-    /// Those of segments, whose rows are not the table's.
-    pub of_images: Vec<(u8, Loss)>,
-    /// Those of join indexes, whose entries are not those of the table's rows.
-    pub of_joins: Vec<(u8, Loss)>,
-}
-
-/// Whether a loss has a site of each of these pairs.
-fn are_hit(pairs: &[(u8, Loss)], loss: Loss) -> bool
-    ensures { IsTrue result ↔ AreHit pairs.now loss }
-{
-    for pair in pairs {
-        let (site, others) = *pair;
-        if !has_site(loss, site) && !is_within(others, loss) {
-            return false;
-        }
-    }
-    true
-}
-
-/// Whether a site is lost: no number but 1 to 16 is one of a site.
-fn has_site(loss: Loss, site: u8) -> bool
-    ensures { result ≡ member loss site }
-{
-    let _sites = loss.count();
-    if site < 1 || site > 16 {
-        return false;
-    }
-    loss.has(site)
+    /// For each site from 1 to 16 those from it on with whose files its own are in conflict: itself where one of its files
+    /// contradicts the table alone. So each pair is kept once, and there are 136 at most.
+    pub with: [Loss; 16],
+    pub ghost once: { AreKeptOnce with },
 }
 
 impl Conflicts {
+    ghost use Rattle.std.specs.Prelude.{◌≡◌, ◌≤◌, ◌⊎◌, ◌↔◌, IsTrue};
+    ghost use Rattle.cs_schema.specs.Lists.{member};
+    ghost use Rattle.cs_schema.specs.Losses.{Sites};
+    ghost use Rattle.cs_conflicts.specs.Conflicts.{AreAllHit};
+
+    /// No conflict.
+    pub(crate) fn none() -> Self
+        ensures { (L : Sites) → AreAllHit result L }
+    {
+        Conflicts {
+            with: [Loss::none(); 16],
+        }
+    }
+
+    /// These conflicts, and one of two sites or of a single one.
+    pub(crate) fn with_pair(&self, first: u8, second: u8) -> Self
+        requires first { (1 ≤ first) × (first ≤ 16) }
+        requires second { (1 ≤ second) × (second ≤ 16) }
+        ensures { (L : Sites) → AreAllHit result L ↔ (AreAllHit self.now L × (IsTrue (member L first) ⊎ IsTrue (member L second))) }
+    {
+        let (low, high) = if first < second {
+            (first, second)
+        } else {
+            (second, first)
+        };
+        let mut with = self.with;
+        let place = low as usize - 1;
+        with[place] = with[place].with(high);
+        Conflicts { with }
+    }
+
     /// Whether a loss has a site of each conflict.
     pub fn are_hit(&self, loss: Loss) -> bool
         ensures { IsTrue result ↔ AreAllHit self.now loss }
     {
-        are_hit(self.of_images.as_slice(), loss) && are_hit(self.of_joins.as_slice(), loss)
+        for site in 1..17u8 {
+            if !loss.has(site) && !is_within(self.with[site as usize - 1], loss) {
+                return false;
+            }
+        }
+        true
     }
 }

@@ -8,6 +8,7 @@ ghost use Rattle.cs_rebuild.specs.Steps.{AreRead};
 ghost use Rattle.cs_conflicts.specs.Candidates.{AreConflictsOf};
 
 use crate::conflicts::Conflicts;
+use crate::gathering::gather;
 use crate::images::images_conflicts;
 use crate::joins::joins_conflicts;
 use cs_rebuild::{Gate, OrderedStore, Run, joins_of, surviving_segments};
@@ -27,8 +28,7 @@ pub fn conflicts_of<R: Threads + Sync, G: Gate + Sync>(
     let _rules = store.catalog.projection_count();
     let segments = surviving_segments(run.alloc, store.catalog, store.loss)?;
     let joins = joins_of(run.alloc, store.catalog, segments.as_slice())?;
-    Ok(Conflicts {
-        of_images: images_conflicts(run, store, segments.as_slice())?,
-        of_joins: joins_conflicts(run, store, joins.as_slice())?,
-    })
+    let of_images = images_conflicts(run, store, segments.as_slice())?;
+    let of_joins = joins_conflicts(run, store, joins.as_slice())?;
+    Ok(gather(of_images.as_slice(), of_joins.as_slice()))
 }

@@ -9,10 +9,12 @@ mod delta;
 pub mod image;
 mod item;
 mod item_cell;
+mod item_list;
 mod keys;
 pub mod laws;
 mod layer;
 mod merging;
+mod reader;
 mod reading;
 mod writing;
 

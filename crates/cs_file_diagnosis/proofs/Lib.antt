@@ -3,6 +3,7 @@ pub mod Corrected
 pub mod Diagnosed
 pub mod PlansAlike
 pub mod WalkedPlans
+pub mod WalkedOnce
 pub mod Searched
 pub mod DisputedTables
 pub mod GoodFiles

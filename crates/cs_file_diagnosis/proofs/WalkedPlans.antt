@@ -1,11 +1,10 @@
 -- What is known of a plan is known of each loss that has it.
-use Rattle.std.proofs.Common.{◌≡◌, ◌∷◌, ◌++◌, [], List, Option, Some, sym, ap, subst, ◌∙◌, inl, inr}
+use Rattle.std.proofs.Common.{◌≡◌, ◌∷◌, ◌++◌, [], List, Option, sym, ap, subst, ◌∙◌, inl, inr}
 use Rattle.cs_schema.specs.CatalogData.{CatalogData}
 use Rattle.cs_schema.specs.FileNames.{FileContents}
 use Rattle.cs_schema.specs.Lists.{IsIn}
 use Rattle.cs_schema.specs.Losses.{Sites}
 use Rattle.cs_schema.specs.Rows.{Row}
-use Rattle.cs_schema.specs.declared.kinds.Safety.{Safety}
 use Rattle.cs_schema.proofs.Lists.{in_append}
 use Rattle.cs_safety.specs.PlanData.{PlanData, IsPlan}
 use Rattle.cs_safety.specs.Safety.{IsSafe}
@@ -14,25 +13,30 @@ use Rattle.cs_safety.proofs.OnePlan.{one_plan}
 use Rattle.cs_rows.specs.Walk.{walked}
 use Rattle.cs_recovery.specs.Holding.{HoldsSurvivors}
 use Rattle.cs_recovery.specs.Verdicts.{IsWalkedBy}
-use Rattle.cs_conflicts.specs.Candidates.{AreWalkedAlike}
-use Rattle.cs_conflicts.specs.Conflicts.{AreAllHit}
+use Rattle.cs_conflicts.specs.Candidates.{AreWalkedAlike, IsWalkedLike}
 use Rattle.cs_conflicts.specs.declared.conflicts.Conflicts.{Conflicts}
-use Rattle.cs_file_diagnosis.specs.Walks.{IsWalkOutcome, IsPlanOutcome, AreWalks}
+use Rattle.cs_file_diagnosis.specs.Walks.{IsWalkOutcome, HasPlan, IsPlanned, IsPlanOutcome, AreWalks, IsRefuted}
 use Rattle.cs_file_diagnosis.specs.declared.walks.Walks.{Walks}
 use Rattle.cs_file_diagnosis.specs.declared.walks.WalkedPlan.{WalkedPlan}
 
-module _ (C : CatalogData) (F : FileContents) (first L : Sites) (P : PlanData) (whole : C.safety ≡ Safety.Whole) (planned : IsPlan C L P) where
+module _ (C : CatalogData) (F : FileContents) (first L : Sites) (P : PlanData) (has : HasPlan C L P) where
   -- losses of one plan are walked alike
   alike : (M : Sites) → IsPlan C M P → AreWalkedAlike C L M
-  alike M other S w = subst (λ rule. IsWalkedBy rule C L S w → IsWalkedBy rule C M S w) (sym whole) (λ x. (P, other, x.2 ∙ ap (walked C S) (one_plan C L x.0 P x.1 planned)))
+  alike M other S w = subst (λ rule. IsWalkedBy rule C L S w → IsWalkedBy rule C M S w) (sym has.0) (λ x. (P, other, x.2 ∙ ap (walked C S) (one_plan C L x.0 P x.1 has.1)))
+
+  like : (M : Sites) → IsPlanned C first P M → IsWalkedLike C first L M
+  like M m = record { around = m.around; safe = m.safe; alike = alike M m.plan.1 }
 
   pub plan_outcome : (conflicts : Option Conflicts) → IsWalkOutcome C F first L conflicts → IsPlanOutcome C F first P conflicts
-  plan_outcome conflicts outcome M T rule around safe other held = outcome M T (record { around = around; safe = safe; alike = alike M other }) held
+  plan_outcome conflicts outcome = record {
+    held = λ M T m held. outcome.held M T (like M m) held;
+    hit = λ M c m is hit. outcome.hit M c (like M m) is hit;
+  }
 
-  pub refuted : (w : Walks) → AreWalks C F first w → IsWithin first L → IsSafe C L → (k : WalkedPlan) → IsIn k w.plans.items → k.plan ≡ P → ((c : Conflicts) → k.conflicts ≡ Some c → ¬ AreAllHit c L) → (T : List Row) → ¬ HoldsSurvivors C F L T
-  refuted w walks around safe k here same none T held =
-      let told = walks k here L T whole around safe (subst (IsPlan C L) (sym same) planned) held in
-      none told.0 told.1 told.2
+pub refuted : (C : CatalogData) (F : FileContents) (first L : Sites) (w : Walks) → AreWalks C F first w → IsWithin first L → IsSafe C L → IsRefuted C L w → (T : List Row) → ¬ HoldsSurvivors C F L T
+refuted C F first L w walks around safe r T held =
+    let told = (walks r.walked r.kept).held L T (record { around = around; safe = safe; plan = r.plan }) held in
+    r.missed told.0 told.1 told.2
 
 -- one plan more
 pub one_plan_more : (C : CatalogData) (F : FileContents) (first : Sites) (old new : Walks) (k : WalkedPlan) → new.plans.items ≡ old.plans.items ++ k ∷ [] → AreWalks C F first old → IsPlanOutcome C F first k.plan k.conflicts → AreWalks C F first new

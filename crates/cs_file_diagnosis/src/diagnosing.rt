@@ -19,7 +19,7 @@ use cs_diagnosis::findings::{Explanation, Verdict};
 use cs_diagnosis::summary::verdict_of;
 use cs_inspection::{Badness, bad_files, bad_survivors};
 use cs_progress::Progress;
-use cs_rebuild::{Run, read_store};
+use cs_rebuild::{Run, Surviving, read_store, surviving_segments};
 use cs_schema::{Catalog, FileName, Loss};
 use cs_store::{Fault, FileSet};
 use std::alloc::AllocError;
@@ -54,7 +54,6 @@ fn diagnose_read<R: Threads + Sync, G: Progress + Sync>(
     ensures { IfOk result (λ d. (F : FileContents) (unreadable : List NameData) → AreRead remains.now.catalog.now F remains.now.first remains.now.survivors.now → AreTold remains.now.catalog.now F unreadable bad.items remains.now.first → IsDiagnosis remains.now.catalog.now F unreadable at_most d) }
 {
     let forced = remains.first;
-    let _rules = remains.catalog.projection_count();
     let _sites = forced.count();
     let reach = reach_of(remains.catalog, forced, at_most);
     match explain(run, remains, reach.at_most) {
@@ -83,7 +82,13 @@ fn diagnose_bad<R: Threads + Sync, G: Progress + Sync>(
     ensures { IfOk result (λ d. (unreadable : List NameData) → AreAbsent (contents_of files.now) unreadable → AreBadFiles catalog.now (contents_of files.now) unreadable bad.items → IsDiagnosis catalog.now (contents_of files.now) unreadable at_most d) }
 {
     let first = bad_sites(catalog, bad.as_slice());
-    match read_store(run, catalog, files, first) {
+    let segments = surviving_segments(run.alloc, catalog, first)?;
+    let surviving = Surviving {
+        catalog,
+        loss: first,
+        segments,
+    };
+    match read_store(run, &surviving, files) {
         Ok(survivors) => {
             let remains = Remains {
                 catalog,
@@ -114,7 +119,6 @@ fn diagnose_beside<R: Threads + Sync, G: Progress + Sync>(
     requires missing { LacksFileOn remains.now.catalog.now (contents_of files.now) remains.now.first }
     ensures { IfOk result (IsDiagnosis remains.now.catalog.now (contents_of files.now) unreadable.now at_most) }
 {
-    let _rules = remains.catalog.projection_count();
     let rest = others(remains.first);
     match bad_survivors(run.rt, run.alloc, remains.catalog, files, unreadable, rest) {
         Ok(bad) => diagnose_read(run, remains, bad, at_most),
@@ -139,7 +143,13 @@ pub fn diagnose<R: Threads + Sync, G: Progress + Sync>(
 {
     let missing = missing_files(run.alloc, catalog, files)?;
     let first = bad_sites(catalog, missing.as_slice());
-    match read_store(run, catalog, files, first) {
+    let segments = surviving_segments(run.alloc, catalog, first)?;
+    let surviving = Surviving {
+        catalog,
+        loss: first,
+        segments,
+    };
+    match read_store(run, &surviving, files) {
         Ok(survivors) => {
             let remains = Remains {
                 catalog,

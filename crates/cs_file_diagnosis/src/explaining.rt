@@ -1,5 +1,5 @@
 //! The search for what explains a store: its files say which losses are accepted.
-ghost use Rattle.std.specs.Prelude.{◌≡◌, ◌≤◌, ◌++◌, ◌∷◌, [], IfOk, OnOk};
+ghost use Rattle.std.specs.Prelude.{◌≡◌, ◌≤◌, ◌++◌, ◌∷◌, [], IfOk, OnOk, Option};
 ghost use Rattle.cs_schema.specs.FileNames.{FileContents};
 ghost use Rattle.cs_schema.specs.Rows.{IsTable};
 ghost use Rattle.cs_safety.specs.Safety.{IsSafe};
@@ -7,11 +7,13 @@ ghost use Rattle.cs_safety.specs.Within.{IsWithin};
 ghost use Rattle.cs_recovery.specs.Holding.{HoldsSurvivors};
 ghost use Rattle.cs_rebuild.specs.OnStore.{table_on};
 ghost use Rattle.cs_rebuild.specs.Steps.{AreRead};
+ghost use Rattle.cs_conflicts.specs.declared.conflicts.Conflicts.{Conflicts as ConflictsData};
 ghost use Rattle.cs_diagnosis.specs.Explanations.{AreForced};
 ghost use Rattle.cs_diagnosis.specs.Findings.{AreExplanations};
 ghost use Rattle.cs_diagnosis.specs.Tried.{IsTried};
 ghost use Rattle.cs_file_diagnosis.specs.Diagnoses.{rows_found};
 ghost use Rattle.cs_file_diagnosis.specs.Known.{IsKnown, IsKeptTable, NoneIsHit};
+ghost use Rattle.cs_file_diagnosis.specs.Walks.{IsPlanKept, IsRefuted};
 
 use crate::known::Known;
 use crate::tables::FoundTable;
@@ -57,10 +59,10 @@ fn keep_new(
 /// The table of a candidate.
 fn table_of<R: Threads + Sync, G>(
     run: &Run<'_, R, G>,
-    candidate: &Candidate<'_>,
+    candidate: Candidate<'_>,
 ) -> Result<FoundTable, AllocError>
-    requires { IsTable candidate.now.store.catalog.now (table_on candidate.now.store) }
-    ensures { IfOk result (λ table. rows_found table ≡ table_on candidate.now.store) }
+    requires { IsTable candidate.store.catalog.now (table_on candidate.store) }
+    ensures { IfOk result (λ table. rows_found table ≡ table_on candidate.entry.store) }
 {
     let _rules = candidate.store.catalog.projection_count();
     match candidate.columns(run) {
@@ -69,7 +71,8 @@ fn table_of<R: Threads + Sync, G>(
     }
 }
 
-/// Walks what survives a loss: where it is accepted, it explains the store by a table that wasn't found before.
+/// Walks what survives a loss, and keeps what came of its plan: where the loss is accepted, it explains the store by a table that
+/// wasn't found before.
 fn walk_loss<R: Threads + Sync, G: Progress + Sync>(
     findings: &mut Findings<FoundTable>,
     known: &mut Known,
@@ -80,23 +83,26 @@ fn walk_loss<R: Threads + Sync, G: Progress + Sync>(
     requires safe { IsSafe remains.now.catalog.now loss }
     requires within { IsWithin remains.now.first loss }
     requires read { (F : FileContents) × AreRead remains.now.catalog.now F remains.now.first remains.now.survivors.now }
-    ensures { OnOk result ((F : FileContents) → AreRead remains.now.catalog.now F remains.now.first remains.now.survivors.now
+    requires unknown { NoneIsHit known.old.conflicts.items loss }
+    requires unrefuted { ¬ IsRefuted remains.now.catalog.now loss known.old.walks }
+    ensures tried { OnOk result ((F : FileContents) → AreRead remains.now.catalog.now F remains.now.first remains.now.survivors.now
         → IsKnown remains.now.catalog.now F remains.now.first findings.old.tables.items known.old
-        → NoneIsHit known.old.conflicts.items loss
         → IsTried (HoldsSurvivors remains.now.catalog.now F loss) rows_found loss findings.old findings.new
         × IsKnown remains.now.catalog.now F remains.now.first findings.new.tables.items known.new) }
+    ensures kept { OnOk result ((conflicts : Option ConflictsData) × IsPlanKept remains.now.catalog.now loss conflicts known.old.walks known.new.walks) }
 {
     run.gate.tried(loss);
     match find_candidate(run, remains, loss)? {
         None => known.walks.keep(remains.catalog, loss, None),
         Some(candidate) => {
-            if candidate.conflicts.are_hit(loss) {
-                let table = table_of(run, &candidate)?;
-                keep_new(findings, known, loss, table, candidate.conflicts)
+            let kept = candidate.conflicts;
+            let conflicts = &kept;
+            known.walks.keep(remains.catalog, loss, Some(*conflicts))?;
+            if conflicts.are_hit(loss) {
+                let table = table_of(run, candidate)?;
+                keep_new(findings, known, loss, table, *conflicts)
             } else {
-                known
-                    .walks
-                    .keep(remains.catalog, loss, Some(candidate.conflicts))
+                Ok(())
             }
         }
     }

@@ -1,5 +1,5 @@
 //! The plans that were walked, and what each came to.
-ghost use Rattle.std.specs.Prelude.{◌≡◌, ◌↔◌, List, Some, IsTrue, OnOk};
+ghost use Rattle.std.specs.Prelude.{◌≡◌, ◌↔◌, List, [], Some, IsTrue, OnOk};
 ghost use Rattle.cs_schema.specs.CatalogData.{CatalogData};
 ghost use Rattle.cs_schema.specs.FileNames.{FileContents};
 ghost use Rattle.cs_schema.specs.Lists.{IsIn};
@@ -10,7 +10,7 @@ ghost use Rattle.cs_safety.specs.Within.{IsWithin};
 ghost use Rattle.cs_recovery.specs.Holding.{HoldsSurvivors};
 ghost use Rattle.cs_conflicts.specs.Conflicts.{AreAllHit};
 ghost use Rattle.cs_conflicts.specs.declared.conflicts.Conflicts.{Conflicts as ConflictsData};
-ghost use Rattle.cs_file_diagnosis.specs.Walks.{AreWalks, IsWalkOutcome};
+ghost use Rattle.cs_file_diagnosis.specs.Walks.{AreWalks, IsPlanKept, IsRefuted, IsWalkOutcome};
 ghost use Rattle.cs_file_diagnosis.specs.declared.walks.WalkedPlan.{WalkedPlan as WalkedPlanData};
 
 use cs_conflicts::Conflicts;
@@ -33,7 +33,7 @@ pub struct Walks {
 
 /// Whether two plans are the same one.
 fn is_same(plan: &Plan, other: &Plan) -> bool
-    ensures { IsTrue result → plan.now ≡ other.now }
+    ensures { IsTrue result ↔ (plan.now ≡ other.now) }
 {
     if plan.anchor != other.anchor {
         return false;
@@ -57,7 +57,8 @@ fn is_hit(conflicts: &Option<Conflicts>, loss: Loss) -> bool
 impl Walks {
     /// Nothing was walked.
     pub fn new(alloc: Global) -> Self
-        ensures { (C : CatalogData) (F : FileContents) (first : Sites) → AreWalks C F first result }
+        ensures empty { result.plans.items ≡ [] }
+        ensures walks { (C : CatalogData) (F : FileContents) (first : Sites) → AreWalks C F first result }
     {
         Walks {
             plans: Vec::new(alloc),
@@ -66,7 +67,7 @@ impl Walks {
 
     /// Whether a plan leads to no table, or to one of which a loss misses a conflict.
     fn refutes_plan(&self, plan: &Plan, loss: Loss) -> bool
-        ensures { IsTrue result → (k : WalkedPlanData) × IsIn k self.now.plans.items × (k.plan ≡ plan.now) × ((c : ConflictsData) → k.conflicts ≡ Some c → ¬ AreAllHit c loss) }
+        ensures { IsTrue result ↔ ((k : WalkedPlanData) × IsIn k self.now.plans.items × (k.plan ≡ plan.now) × ((c : ConflictsData) → k.conflicts ≡ Some c → ¬ AreAllHit c loss)) }
     {
         for walked in &self.plans {
             if is_same(&walked.plan, plan) && !is_hit(&walked.conflicts, loss) {
@@ -78,7 +79,8 @@ impl Walks {
 
     /// Whether what survives a safe loss holds no table, by what is known of its walk.
     pub fn refutes(&self, catalog: &Catalog, loss: Loss) -> bool
-        ensures { IsTrue result → (F : FileContents) (first : Sites) → AreWalks catalog.now F first self.now → IsWithin first loss → IsSafe catalog.now loss → (T : List Row) → ¬ HoldsSurvivors catalog.now F loss T }
+        ensures refuted { IsTrue result ↔ IsRefuted catalog.now loss self.now }
+        ensures none_held { IsTrue result → (F : FileContents) (first : Sites) → AreWalks catalog.now F first self.now → IsWithin first loss → IsSafe catalog.now loss → (T : List Row) → ¬ HoldsSurvivors catalog.now F loss T }
     {
         match catalog.safety {
             Safety::Whole => match plan(catalog, loss) {
@@ -96,7 +98,8 @@ impl Walks {
         loss: Loss,
         conflicts: Option<Conflicts>,
     ) -> Result<(), AllocError>
-        ensures { OnOk result ((F : FileContents) (first : Sites) → IsWalkOutcome catalog.now F first loss conflicts → AreWalks catalog.now F first self.old → AreWalks catalog.now F first self.new) }
+        ensures kept { OnOk result (IsPlanKept catalog.now loss conflicts self.old self.new) }
+        ensures walks { OnOk result ((F : FileContents) (first : Sites) → IsWalkOutcome catalog.now F first loss conflicts → AreWalks catalog.now F first self.old → AreWalks catalog.now F first self.new) }
     {
         match catalog.safety {
             Safety::Whole => match plan(catalog, loss) {

@@ -7,15 +7,18 @@
 
 mod by_key;
 mod fault;
+mod indexes;
 mod item;
 mod lead;
 mod parallel;
 mod passes;
 mod places;
+mod ranges;
 mod rising;
 pub mod samples;
 mod segments;
 mod sort;
+mod sorter;
 mod words;
 mod writing;
 

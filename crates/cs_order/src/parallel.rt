@@ -3,13 +3,14 @@ ghost use Rattle.std.specs.Prelude.{◌≡◌, ◌<◌, ◌^◌, false, IfOk, If
 ghost use Rattle.std.specs.List.{AllZip, range_with_len};
 ghost use Rattle.cs_order.specs.Tables.{is_twice, table_of};
 ghost use Rattle.cs_order.specs.Orders.{AreOrdersOf, first_full};
+ghost use Rattle.cs_order.specs.Numbers.{AreAllRows};
 ghost use Rattle.cs_order.specs.Faults.{IsOrderFault};
-ghost use Rattle.cs_order.specs.Sides.{AreAllRows, IsOrderOrFault};
+ghost use Rattle.cs_order.specs.Sides.{IsOrderOrFault};
 
 use crate::fault::OrderFault;
 use crate::places::Orders;
-use crate::segments::{ProjectionOrder, projection_order, rows_for};
-use crate::sort::{all_rows, key_stands_twice, sort_by_key};
+use crate::segments::{ProjectionOrder, ProjectionSorter};
+use crate::sorter::Sorter;
 use cs_rows::Table;
 use cs_schema::Catalog;
 use rayon::prelude::*;
@@ -34,12 +35,18 @@ pub fn orders<R: Threads + Sync>(
     ensures fit { IfOk result (λ _. first_full catalog.now (table_of catalog.now walked.now.rows) ≡ None) }
     ensures fault { IfErr result (IsOrderFault catalog.now walked.now.rows) }
 {
-    let all = all_rows(alloc, walked)?;
-    let by_key = sort_by_key(rt, alloc, walked, catalog, &all)?;
-    if key_stands_twice(walked, catalog, &by_key) {
+    let sorter = Sorter {
+        rt,
+        alloc,
+        walked,
+        catalog,
+    };
+    let all = sorter.all_rows()?;
+    let by_key = sorter.sort_by_key(&all)?;
+    if sorter.key_stands_twice(&by_key) {
         return Err(OrderFault::Twice);
     }
-    let mut made = made_orders(rt, alloc, walked, catalog, &all, &by_key)?;
+    let mut made = made_orders(&sorter, &all, &by_key)?;
     let mut projections = Vec::new(alloc);
     for _p in 0..catalog.projection_count() {
         // they are few: so it takes no time that those behind move up
@@ -54,44 +61,43 @@ pub fn orders<R: Threads + Sync>(
 
 /// The order of each projection, or why it has none, each made in a thread of its own.
 fn made_orders<R: Threads + Sync>(
-    rt: &R,
-    alloc: Global,
-    walked: &Table<'_>,
-    catalog: &Catalog,
+    sorter: &Sorter<'_, R>,
     all: &[u32],
     by_key: &[u32],
 ) -> Result<Vec<Result<ProjectionOrder, OrderFault>>, AllocError>
-    requires rows { AreAllRows catalog.now walked.now all.now by_key.now }
-    ensures { IfOk result (λ made. AllZip (IsOrderOrFault catalog.now walked.now.rows) (range_with_len 0 (length catalog.now.projections)) made.items) }
+    requires rows { AreAllRows sorter.now.catalog.now sorter.now.walked.now.rows all.now by_key.now }
+    ensures { IfOk result (λ made. AllZip (IsOrderOrFault sorter.now.catalog.now sorter.now.walked.now.rows) (range_with_len 0 (length sorter.now.catalog.now.projections)) made.items) }
 {
-    (0..catalog.projection_count())
+    (0..sorter.catalog.projection_count())
         .into_par_iter()
         // a projection is worth a thread
         .with_min_len(1)
         .map(
             |p: u16| -> Result<ProjectionOrder, OrderFault>
-                requires rows { AreAllRows catalog.now walked.now all.now by_key.now }
-                requires projection { p < length catalog.now.projections }
-                ensures { IsOrderOrFault catalog.entry.now walked.entry.now.rows p result }
-            { order_of(rt, alloc, walked, catalog, p, all, by_key) },
+                requires rows { AreAllRows sorter.now.catalog.now sorter.now.walked.now.rows all.now by_key.now }
+                requires projection { p < length sorter.now.catalog.now.projections }
+                ensures { IsOrderOrFault sorter.entry.now.catalog.now sorter.entry.now.walked.now.rows p result }
+            { order_of(sorter, p, all, by_key) },
         )
-        .collect(rt, alloc)
+        .collect(sorter.rt, sorter.alloc)
 }
 
 /// The order of a projection, from all rows as they were walked and by key.
 fn order_of<R: Threads + Sync>(
-    rt: &R,
-    alloc: Global,
-    walked: &Table<'_>,
-    catalog: &Catalog,
+    sorter: &Sorter<'_, R>,
     p: u16,
     all: &[u32],
     by_key: &[u32],
 ) -> Result<ProjectionOrder, OrderFault>
-    requires rows { AreAllRows catalog.now walked.now all.now by_key.now }
-    requires projection { p < length catalog.now.projections }
-    ensures { IsOrderOrFault catalog.now walked.now.rows p result }
+    requires rows { AreAllRows sorter.now.catalog.now sorter.now.walked.now.rows all.now by_key.now }
+    requires projection { p < length sorter.now.catalog.now.projections }
+    ensures { IsOrderOrFault sorter.now.catalog.now sorter.now.walked.now.rows p result }
 {
-    let (rows, by) = rows_for(rt, walked, catalog, p, all, by_key);
-    projection_order(rt, alloc, walked, catalog, p, by, rows)
+    let projection_sorter = ProjectionSorter {
+        rt: sorter.rt,
+        alloc: sorter.alloc,
+        order: sorter.order(p),
+    };
+    let (rows, by) = projection_sorter.rows_for(all, by_key);
+    projection_sorter.projection_order(by, rows)
 }

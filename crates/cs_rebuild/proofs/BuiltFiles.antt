@@ -20,7 +20,6 @@ use Rattle.cs_schema.proofs.Lists.{at_in}
 use Rattle.cs_rows.specs.Columns.{ColumnsFit}
 use Rattle.cs_rows.specs.Survivors.{SurvivorsData, contents_of as held_by, no_survivors}
 use Rattle.cs_rows.specs.WalkedView.{AreColumns, WalkedData}
-use Rattle.cs_rows.proofs.PutLemmas.{room_is_empty}
 use Rattle.cs_order.specs.Tables.{table_of}
 use Rattle.cs_order.proofs.SortedNumbers.{range_more}
 use Rattle.cs_recovery.specs.BuildAnswers.{every_site, no_files, build_fault, IsBuildAnswer, BuildClauses}
@@ -63,11 +62,9 @@ module _ (C : CatalogData) (columns : List Cells) (are : AreTableColumns C colum
 module _ (C : CatalogData) (cat : IsCatalog C) where
   pub none_read : (v : SurvivorsData) → v ≡ no_survivors C → AreRead C no_files (every_site C) v
   none_read v e =
-      let empty = room_is_empty C in
       subst (AreRead C no_files (every_site C)) (sym e) (record {
         reads = nothing_read C cat no_files (held_by (no_survivors C));
-        room = empty.room;
-        made = empty.made;
+        catalog = refl;
         images_there = λ p s h. absurd (none_survives C cat (FileName.Seg p s) h);
         joins_there = λ p s q h. absurd (none_survives C cat (FileName.Jix p s q) h);
       })

@@ -65,6 +65,13 @@ piece_there C p rows numbers cut per j k out e l h =
     let here : P (i / per) (i % per) = subst (λ w. P (i / w) (i % w)) (sym e) h in
     subst (λ a. P a k) (div-mul-add j per k l) (subst (P (i / per)) (mod-mul-add j per k l) here)
 
+-- the piece that stands last, by its column and its number there
+pub piece_taken : (C : CatalogData) (p : ℕ) (rows : List Row) (numbers : List ℕ) (cut per total j k n : ℕ) (old new : List Piece) (out : Piece) → per ≡ pieces_of (length numbers) cut → k < per → n + j * per ≡ total → length old + k ≡ n → old ≡ new ++ out ∷ [] → AreLeft (EncodeAnswerAt C p rows numbers cut) total old
+    → IsPieceOf out (code_at C p j) (kind_at C p j) (values_at C p rows j (cut_at cut numbers k))
+piece_taken C p rows numbers cut per total j k n old new out e l column left taken_off h =
+    let place : length old + (j * per + k) ≡ total = omega (arith, left, column) in
+    piece_there C p rows numbers cut per j k out e l (taken (EncodeAnswerAt C p rows numbers cut) total old new out (j * per + k) taken_off place h)
+
 -- the number of a piece is one of them
 pub piece_below : (j k per width pieces : ℕ) → pieces ≡ width * per → j < width → k < per → j * per + k < pieces
 piece_below j k per width pieces e a b = let l = mul-add-lt j per k width a b in let c : per * width ≡ width * per = grind arith in omega (arith, l, c, e)

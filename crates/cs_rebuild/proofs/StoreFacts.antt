@@ -1,10 +1,10 @@
 -- What is known of a store whose rows are in order.
-use Rattle.std.proofs.Common.{◌≡◌, ℕ, ◌<◌, ◌≤◌, List, map, length, sym, ap, inl, inr, Option, Some, None, arith, get_or}
+use Rattle.std.proofs.Common.{◌≡◌, ℕ, ◌<◌, ◌≤◌, List, map, length, sym, subst, ap, inl, inr, Option, Some, None, arith, get_or}
 use Rattle.std.proofs.lemmas.List.{length-map}
 use Rattle.std.specs.Option.{option_or}
 use Rattle.std.proofs.lemmas.List.Elements.{All-get_or}
 use Rattle.std.proofs.lemmas.Option.{none-some, slice_get-get_or}
-use Rattle.cs_schema.specs.CatalogData.{CatalogData}
+use Rattle.cs_schema.specs.CatalogData.{CatalogData, HasSegment, segments}
 use Rattle.cs_schema.specs.FileNames.{FileContents}
 use Rattle.cs_schema.specs.Losses.{Sites}
 use Rattle.cs_schema.specs.Rows.{Row}
@@ -13,7 +13,7 @@ use Rattle.cs_delta.specs.DeltaFile.{key_limit}
 use Rattle.cs_jix.specs.JoinIndex.{Place, IsEntry}
 use Rattle.cs_order.specs.Orders.{OrdersData, AreOrdersOf, numbers_in, row_at}
 use Rattle.cs_order.specs.Tables.{table_of}
-use Rattle.cs_rows.specs.Survivors.{SurvivorsData, contents_of, HasRoom}
+use Rattle.cs_rows.specs.Survivors.{SurvivorsData, contents_of}
 use Rattle.cs_recovery.specs.Contents.{IsImageOf}
 use Rattle.cs_recovery.specs.Verdicts.{twice, full}
 use Rattle.cs_recovery.proofs.Judged.{full_fits}
@@ -23,23 +23,20 @@ use Rattle.cs_recovery.specs.Places.{image_after, entry_for, entries_for}
 use Rattle.cs_rebuild.specs.declared.ordered_store.OrderedStore.{OrderedStore}
 use Rattle.cs_rebuild.specs.OnStore.{held_on, table_on}
 use Rattle.cs_rebuild.specs.Steps.{AreRead, row_fault}
-use Rattle.cs_rebuild.specs.StoreFacts.{HaveImageRoom, HaveJoinRoom, HaveKinds, HaveWidths, HaveKeys, HaveTops, HaveEntries, HaveOrders, AreNumbersBelow, AreInOrder, HaveRoomInRanges}
+use Rattle.cs_rebuild.specs.StoreFacts.{HaveImageRoom, HaveJoinRoom, HaveWidths, HaveKeys, HaveTops, HaveEntries, HaveOrders, AreNumbersBelow, AreInOrder, HaveRoomInRanges}
 
-module _ (C : CatalogData) (v : SurvivorsData) (room : HasRoom C v) where
+module _ (C : CatalogData) (v : SurvivorsData) (same : v.catalog ≡ C) where
   pub image_room : HaveImageRoom C v
-  image_room p s h = (omega (arith, room.images, h.0), omega (arith, room.segments_of_images p h.0, h.1))
+  image_room p s = subst (λ (D : CatalogData). HasSegment D p s → HasSegment v.catalog p s) same (λ h. h)
 
   pub join_room : HaveJoinRoom C v
-  join_room p s q h k = (omega (arith, room.joins, h.0), omega (arith, room.segments_of_joins p h.0, h.1), omega (arith, room.targets p s h.0 h.1, k))
+  join_room p s q = subst (λ (D : CatalogData). HasSegment D p s → q < length D.projections → (p < length v.catalog.projections) × (s < segments v.catalog p) × (q < length v.catalog.projections)) same (λ h k. (h.0, h.1, k))
 
 -- the top of an image is at most the limit
 top_limit : (C : CatalogData) (F : FileContents) (p s : ℕ) (m : ImageData) → IsImageOf C F p s m → m.top ≤ key_limit
 top_limit C F p s m i = let e : m.top ≡ i.changes.top = ap (λ (x : ImageData). x.top) i.image in omega (arith, e, i.delta_file.delta.top_limit)
 
 module _ (C : CatalogData) (F : FileContents) (L : Sites) (v : SurvivorsData) (read : AreRead C F L v) where
-  pub kinds : HaveKinds C v
-  kinds p s m h e = read.made p s m h.0 h.1 e
-
   pub widths : HaveWidths C L v
   widths p s x h i = (image_kinds C F p s ((contents_of v).image p s) (read.reads.images p s h) x i).0
 

@@ -10,7 +10,7 @@ use Rattle.cs_schema.specs.Rows.{Row, IsTable}
 use Rattle.cs_store.specs.declared.fault.Fault.{Fault}
 use Rattle.cs_safety.specs.declared.ksafety.SafetyFault.{SafetyFault}
 use Rattle.cs_rows.specs.Walk.{Contents, Stray}
-use Rattle.cs_rows.specs.Survivors.{SurvivorsData, HasRoom, HoldsImages, contents_of}
+use Rattle.cs_rows.specs.Survivors.{SurvivorsData, contents_of}
 use Rattle.cs_rows.specs.WalkedView.{WalkedData}
 use Rattle.cs_rebuild.specs.StoreFacts.{AreImagesThere, AreJoinsThere}
 use Rattle.cs_order.specs.Orders.{OrdersData, AreOrdersOf}
@@ -26,8 +26,7 @@ IsBadFile C F L f = (n : FileName) × IsFirstBadFile C F L n f
 -- what the surviving files hold is kept
 pub record AreRead (C : CatalogData) (F : FileContents) (L : Sites) (v : SurvivorsData) : Type 0 where
   pub reads : Reads C F L (contents_of v)
-  pub room : HasRoom C v
-  pub made : HoldsImages C v
+  pub catalog : v.catalog ≡ C
   pub images_there : AreImagesThere C L v
   pub joins_there : AreJoinsThere C L v
 

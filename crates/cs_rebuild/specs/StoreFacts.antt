@@ -1,5 +1,5 @@
 -- What is known of a store whose rows are in order: facts that each piece of work may use.
-use Rattle.std.specs.Prelude.{◌≡◌, ◌≢◌, ℕ, ◌<◌, ◌≤◌, List, [], map, length, slice_index, slice_index_or, Some, None}
+use Rattle.std.specs.Prelude.{◌≡◌, ◌≢◌, ℕ, ◌<◌, ◌≤◌, List, [], map, length, slice_index, slice_index_or, None}
 use Rattle.cs_schema.specs.declared.cells.Value.{Value}
 use Rattle.cs_schema.specs.declared.file_name.FileName.{FileName}
 use Rattle.cs_schema.specs.CatalogData.{CatalogData, HasSegment, projection, segments}
@@ -8,32 +8,26 @@ use Rattle.cs_schema.specs.Lists.{IsIn}
 use Rattle.cs_schema.specs.Losses.{Sites}
 use Rattle.cs_schema.specs.Order.{rows_of, row_limit}
 use Rattle.cs_schema.specs.Rows.{Row}
-use Rattle.cs_segment.specs.SegmentData.{kinds_at}
 use Rattle.cs_delta.specs.DeltaFile.{key_limit}
 use Rattle.cs_delta.specs.Image.{image_keys, image_rows}
-use Rattle.cs_delta.specs.KindedImage.{KindedImage}
 use Rattle.cs_jix.specs.JoinIndex.{Place}
 use Rattle.cs_order.specs.Orders.{OrdersData, numbers_in, row_at}
 use Rattle.cs_order.specs.Tables.{table_of}
-use Rattle.cs_rows.specs.Survivors.{SurvivorsData, contents_of, image_at, images_of, join_at, joins_of}
+use Rattle.cs_rows.specs.Survivors.{SurvivorsData, contents_of, image_at, join_at}
 
 -- ---- survivors
 
 abbrev pub HaveImageRoom : CatalogData → SurvivorsData → Type 0
-HaveImageRoom C v = (p s : ℕ) → HasSegment C p s → (p < length v.images) × (s < length (images_of v p))
+HaveImageRoom C v = (p s : ℕ) → HasSegment C p s → (p < length v.catalog.projections) × (s < segments v.catalog p)
 
 abbrev pub HaveJoinRoom : CatalogData → SurvivorsData → Type 0
-HaveJoinRoom C v = (p s q : ℕ) → HasSegment C p s → q < length C.projections → (p < length v.joins) × (s < length (slice_index_or v.joins p [])) × (q < length (joins_of v p s))
+HaveJoinRoom C v = (p s q : ℕ) → HasSegment C p s → q < length C.projections → (p < length v.catalog.projections) × (s < segments v.catalog p) × (q < length v.catalog.projections)
 
 abbrev pub AreImagesThere : CatalogData → Sites → SurvivorsData → Type 0
 AreImagesThere C L v = (p s : ℕ) → Survives C L (FileName.Seg p s) → image_at v p s ≢ None
 
 abbrev pub AreJoinsThere : CatalogData → Sites → SurvivorsData → Type 0
 AreJoinsThere C L v = (p s q : ℕ) → Survives C L (FileName.Jix p s q) → join_at v p s q ≢ None
-
--- the images have the kinds of their projections
-abbrev pub HaveKinds : CatalogData → SurvivorsData → Type 0
-HaveKinds C v = (p s : ℕ) (m : KindedImage) → HasSegment C p s → image_at v p s ≡ Some m → m.kinds ≡ kinds_at C p
 
 -- each row of an image has a cell for each column of its projection
 abbrev pub HaveWidths : CatalogData → Sites → SurvivorsData → Type 0

@@ -4,24 +4,22 @@ ghost use Rattle.std.specs.Prelude.{◌≡◌, ◌<◌, ◌≤◌, ◌*◌, leng
 ghost use Rattle.cs_schema.specs.CatalogRules.{IsCatalog};
 ghost use Rattle.cs_store.specs.Fault.{MemoryOr};
 ghost use Rattle.cs_store.specs.declared.fault.Fault.{Fault as FaultData};
-ghost use Rattle.cs_rows.specs.Survivors.{HasRoom, HoldsImages, contents_of};
+ghost use Rattle.cs_rows.specs.Survivors.{contents_of};
 ghost use Rattle.cs_rows.specs.Columns.{ColumnsFit};
-ghost use Rattle.cs_rows.specs.Range.{IsPlanOf, ReadsAnchorAlone};
+ghost use Rattle.cs_rows.specs.Range.{ReadsAnchorAlone};
 ghost use Rattle.cs_rows.specs.RowSteps.{AreRows};
 ghost use Rattle.cs_rows.specs.TableView.{over};
 ghost use Rattle.cs_rows.specs.Walk.{Stray, projection_rows, walked, walked_row};
 ghost use Rattle.cs_rebuild.specs.Walking.{AreAnchorColumns, HasTableKinds, IsAnchorColumn, WalkFaultAt};
 ghost use Rattle.cs_rebuild.specs.WorkLaws.{one_value};
 
-use crate::lending::{column_count, lent_columns};
+use crate::lending::lent_columns;
 use crate::rounds::Tasks;
 use crate::run::Run;
 use cs_board::{Gate, Round};
 use cs_rows::range::WalkFault;
-use cs_rows::whole::{anchor_column, follow_range};
-use cs_rows::{Lent, Survivors, Table};
-use cs_safety::Plan;
-use cs_schema::{Catalog, Cells};
+use cs_rows::{Lent, PlanWalk, Table};
+use cs_schema::Cells;
 use cs_store::Fault;
 use rayon::prelude::*;
 use std::alloc::{AllocError, Global};
@@ -31,14 +29,9 @@ use std::thread::Threads;
 /// The following of the anchor's rows along a plan, in pieces of `cut` rows.
 #[derive(Drop)]
 struct FollowWork<'a> {
-    alloc: Global,
-    catalog: &'a Catalog,
-    plan: &'a Plan,
-    survivors: &'a Survivors,
+    walk: &'a PlanWalk<'a, 'a>,
     cut: u32,
     pieces: u32,
-    ghost planned: { ∥ IsPlanOf catalog.now plan.now ∥₁ },
-    ghost room: { HasRoom catalog.now survivors.now },
     ghost cut_range: { cut ≤ 1048576 },
 }
 
@@ -47,7 +40,7 @@ impl Tasks for FollowWork<'_> {
 
     ghost tasks = { λ work. work.pieces };
 
-    ghost fault_at = { λ work i fault. WalkFaultAt work.catalog.now (contents_of work.survivors.now) work.plan.now work.cut i fault };
+    ghost fault_at = { λ work i fault. WalkFaultAt work.walk.now.survivors.now.catalog (contents_of work.walk.now.survivors.now) work.walk.now.plan.now work.cut i fault };
 
     ghost answers = { λ work i out. Unit {0} };
 
@@ -56,17 +49,9 @@ impl Tasks for FollowWork<'_> {
     }
 
     fn task(&self, i: u32) -> Result<(), Fault> {
-        let _rules = self.catalog.projection_count();
         let from = i as usize * self.cut as usize;
         let to = from + self.cut as usize;
-        match follow_range(
-            self.alloc,
-            self.catalog,
-            self.plan,
-            self.survivors,
-            from,
-            to,
-        ) {
+        match self.walk.follow_range(from, to) {
             Ok(()) => Ok(()),
             Err(WalkFault::Memory) => Err(Fault::Memory),
             Err(WalkFault::Astray { p, s, row }) => Err(Fault::Astray { p, s, row }),
@@ -79,60 +64,45 @@ impl Tasks for FollowWork<'_> {
 /// A copy of the anchor's cells in a column, or none where the column is lent.
 fn copy_unless_lent(
     alloc: Global,
-    catalog: &Catalog,
-    plan: &Plan,
-    survivors: &Survivors,
+    walk: &PlanWalk<'_, '_>,
     lent: &Lent<'_>,
     c: usize,
 ) -> Result<Cells, AllocError>
-    requires catalog { IsCatalog catalog.now }
-    requires plan { ∥ IsPlanOf catalog.now plan.now ∥₁ }
-    requires room { HasRoom catalog.now survivors.now }
-    requires made { HoldsImages catalog.now survivors.now }
-    requires read { ReadsAnchorAlone catalog.now plan.now }
-    requires column { c < length catalog.now.columns }
-    requires lent { AreAnchorColumns catalog.now (contents_of survivors.now) plan.now lent.now }
-    ensures { IfOk result (IsAnchorColumn catalog.now (contents_of survivors.now) plan.now lent.now c) }
+    requires read { ReadsAnchorAlone walk.now.survivors.now.catalog walk.now.plan.now }
+    requires column { c < length walk.now.survivors.now.catalog.columns }
+    requires lent { AreAnchorColumns walk.now.survivors.now.catalog (contents_of walk.now.survivors.now) walk.now.plan.now lent.now }
+    ensures { IfOk result (IsAnchorColumn walk.now.survivors.now.catalog (contents_of walk.now.survivors.now) walk.now.plan.now lent.now c) }
 {
     if lent.has(c) {
-        return Ok(Cells::new(alloc, catalog.columns[c].kind));
+        return Ok(Cells::new(alloc, walk.kind(c)));
     }
-    anchor_column(alloc, catalog, plan, survivors, c)
+    walk.anchor_column(alloc, c)
 }
 
 /// The columns of the anchor's rows that are not lent, each copied in a thread of its own.
 fn copy_columns<R: Threads + Sync>(
     rt: &R,
     alloc: Global,
-    catalog: &Catalog,
-    plan: &Plan,
-    survivors: &Survivors,
+    walk: &PlanWalk<'_, '_>,
     lent: &Lent<'_>,
 ) -> Result<Vec<Cells>, AllocError>
-    requires plan { ∥ IsPlanOf catalog.now plan.now ∥₁ }
-    requires room { HasRoom catalog.now survivors.now }
-    requires made { HoldsImages catalog.now survivors.now }
-    requires read { ReadsAnchorAlone catalog.now plan.now }
-    requires lent { AreAnchorColumns catalog.now (contents_of survivors.now) plan.now lent.now }
-    ensures fit { IfOk result (λ columns. ColumnsFit catalog.now (over columns.items lent.now)) }
-    ensures rows { IfOk result (λ columns. AreRows catalog.now (map (walked_row catalog.now (contents_of survivors.now) plan.now) (projection_rows catalog.now (contents_of survivors.now) plan.now.anchor)) (over columns.items lent.now)) }
-    ensures rules { IsCatalog catalog.now }
+    requires read { ReadsAnchorAlone walk.now.survivors.now.catalog walk.now.plan.now }
+    requires lent { AreAnchorColumns walk.now.survivors.now.catalog (contents_of walk.now.survivors.now) walk.now.plan.now lent.now }
+    ensures fit { IfOk result (λ columns. ColumnsFit walk.now.survivors.now.catalog (over columns.items lent.now)) }
+    ensures rows { IfOk result (λ columns. AreRows walk.now.survivors.now.catalog (map (walked_row walk.now.survivors.now.catalog (contents_of walk.now.survivors.now) walk.now.plan.now) (projection_rows walk.now.survivors.now.catalog (contents_of walk.now.survivors.now) walk.now.plan.now.anchor)) (over columns.items lent.now)) }
+    ensures rules { IsCatalog walk.now.survivors.now.catalog }
 {
-    (0..column_count(catalog))
+    (0..walk.column_count())
         .into_par_iter()
         // a column is worth a thread
         .with_min_len(1)
         .map(
             |c: usize| -> Result<Cells, AllocError>
-                requires column { c < length catalog.now.columns }
-                requires rules { IsCatalog catalog.now }
-                requires plan { ∥ IsPlanOf catalog.now plan.now ∥₁ }
-                requires room { HasRoom catalog.now survivors.now }
-                requires made { HoldsImages catalog.now survivors.now }
-                requires read { ReadsAnchorAlone catalog.now plan.now }
-                requires lent { AreAnchorColumns catalog.now (contents_of survivors.now) plan.now lent.now }
-                ensures { IfOk result (IsAnchorColumn catalog.entry.now (contents_of survivors.entry.now) plan.entry.now lent.entry.now c) }
-            { copy_unless_lent(alloc, catalog, plan, survivors, lent, c) },
+                requires column { c < length walk.now.survivors.now.catalog.columns }
+                requires read { ReadsAnchorAlone walk.now.survivors.now.catalog walk.now.plan.now }
+                requires lent { AreAnchorColumns walk.now.survivors.now.catalog (contents_of walk.now.survivors.now) walk.now.plan.now lent.now }
+                ensures { IfOk result (IsAnchorColumn walk.entry.now.survivors.now.catalog (contents_of walk.entry.now.survivors.now) walk.entry.now.plan.now lent.entry.now c) }
+            { copy_unless_lent(alloc, walk, lent, c) },
         )
         .collect::<Result<Vec<Cells>, AllocError>>(rt, alloc)?
 }
@@ -141,19 +111,14 @@ fn copy_columns<R: Threads + Sync>(
 fn anchor_table<'a, R: Threads + Sync>(
     rt: &R,
     alloc: Global,
-    catalog: &Catalog,
-    plan: &Plan,
-    survivors: &'a Survivors,
+    walk: &PlanWalk<'_, 'a>,
 ) -> Result<Table<'a>, AllocError>
-    requires plan { ∥ IsPlanOf catalog.now plan.now ∥₁ }
-    requires room { HasRoom catalog.now survivors.now }
-    requires made { HoldsImages catalog.now survivors.now }
-    requires read { ReadsAnchorAlone catalog.now plan.now }
-    ensures kinds { IfOk result (HasTableKinds catalog.now) }
-    ensures rows { IfOk result (λ table. table.rows ≡ map (walked_row catalog.now (contents_of survivors.now) plan.now) (projection_rows catalog.now (contents_of survivors.now) plan.now.anchor)) }
+    requires read { ReadsAnchorAlone walk.now.survivors.now.catalog walk.now.plan.now }
+    ensures kinds { IfOk result (HasTableKinds walk.now.survivors.now.catalog) }
+    ensures rows { IfOk result (λ table. table.rows ≡ map (walked_row walk.now.survivors.now.catalog (contents_of walk.now.survivors.now) walk.now.plan.now) (projection_rows walk.now.survivors.now.catalog (contents_of walk.now.survivors.now) walk.now.plan.now.anchor)) }
 {
-    let lent = lent_columns(alloc, catalog, plan, survivors)?;
-    let columns = copy_columns(rt, alloc, catalog, plan, survivors, &lent)?;
+    let lent = lent_columns(alloc, walk)?;
+    let columns = copy_columns(rt, alloc, walk, &lent)?;
     Ok(Table::of_columns(columns, lent))
 }
 
@@ -161,30 +126,22 @@ fn anchor_table<'a, R: Threads + Sync>(
 /// pieces, in which the rows are followed.
 pub fn walk_anchored<'a, R: Threads + Sync, G: Gate + Sync>(
     run: &Run<'_, R, G>,
-    catalog: &Catalog,
-    plan: &Plan,
-    survivors: &'a Survivors,
+    walk: &PlanWalk<'_, 'a>,
     pieces: u32,
 ) -> Result<Table<'a>, Fault>
-    requires plan { ∥ IsPlanOf catalog.now plan.now ∥₁ }
-    requires room { HasRoom catalog.now survivors.now }
-    requires made { HoldsImages catalog.now survivors.now }
-    requires read { ReadsAnchorAlone catalog.now plan.now }
-    requires pieces { length (projection_rows catalog.now (contents_of survivors.now) plan.now.anchor) ≤ pieces * run.now.cut }
-    ensures kinds { IfOk result (HasTableKinds catalog.now) }
-    ensures rows { IfOk result (λ rows. walked catalog.now (contents_of survivors.now) plan.now ≡ Ok rows.rows) }
-    ensures err { IfErr result (λ fault. MemoryOr fault ((at : Stray) × (walked catalog.now (contents_of survivors.now) plan.now ≡ Err at) × (fault ≡ FaultData.Astray at.0 at.1 at.2))) }
+    requires read { ReadsAnchorAlone walk.now.survivors.now.catalog walk.now.plan.now }
+    requires pieces { length (projection_rows walk.now.survivors.now.catalog (contents_of walk.now.survivors.now) walk.now.plan.now.anchor) ≤ pieces * run.now.cut }
+    ensures kinds { IfOk result (HasTableKinds walk.now.survivors.now.catalog) }
+    ensures rows { IfOk result (λ rows. walked walk.now.survivors.now.catalog (contents_of walk.now.survivors.now) walk.now.plan.now ≡ Ok rows.rows) }
+    ensures err { IfErr result (λ fault. MemoryOr fault ((at : Stray) × (walked walk.now.survivors.now.catalog (contents_of walk.now.survivors.now) walk.now.plan.now ≡ Err at) × (fault ≡ FaultData.Astray at.0 at.1 at.2))) }
 {
     let work = FollowWork {
-        alloc: run.alloc,
-        catalog,
-        plan,
-        survivors,
+        walk: &*walk,
         cut: run.cut,
         pieces,
     };
     match run.round(Round::Walk, &work) {
-        Ok(_done) => match anchor_table(run.rt, run.alloc, catalog, plan, survivors) {
+        Ok(_done) => match anchor_table(run.rt, run.alloc, walk) {
             Ok(table) => Ok(table),
             Err(_) => Err(Fault::Memory),
         },

@@ -8,7 +8,8 @@ use crate::columns_of_rows::{lend_columns, see_columns};
 use crate::ordered_store::store_of;
 use crate::ordering::orders_of;
 use crate::run::Run;
-use crate::writing::write_lost;
+use crate::sound_store::SoundStore;
+use crate::writing::lost_files;
 use cs_board::Gate;
 use cs_rows::Survivors;
 use cs_schema::{Catalog, Cells, Loss};
@@ -61,5 +62,5 @@ pub fn build<R: Threads + Sync, G: Gate + Sync>(
         Err(fault) => return Err(fault),
     };
     let store = store_of(catalog, every_site(catalog), &survivors, walked, orders);
-    write_lost(run, &store)
+    lost_files(run, &SoundStore::of(store))
 }

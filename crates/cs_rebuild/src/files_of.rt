@@ -1,6 +1,7 @@
 //! Reading the files of one segment.
 ghost use Rattle.std.specs.Prelude.{◌≡◌, ◌<◌, ℕ, None, Some, List, map, IfOk, IfErr};
 ghost use Rattle.cs_schema.specs.CatalogData.{HasSegment};
+ghost use Rattle.cs_schema.specs.CatalogRules.{IsCatalog};
 ghost use Rattle.cs_schema.specs.Lists.{IsIn};
 ghost use Rattle.cs_schema.specs.declared.file_name.FileName.{FileName as NameData};
 ghost use Rattle.cs_store.specs.declared.fault.Fault.{Fault as FaultData};
@@ -18,7 +19,7 @@ use cs_segment::fault::FileFault;
 use cs_segment::{Segment, par_read_segment};
 use cs_store::{Fault, FileSet};
 use std::alloc::Global;
-use std::thread::{Threads, join};
+use std::thread::{Threads, join_mut};
 
 /// How many bytes of a segment's file are worth the start of a thread.
 const WORTH_THREADS: usize = 65_536;
@@ -44,186 +45,173 @@ fn refusal(name: FileName, fault: FileFault) -> Fault
     }
 }
 
-/// Reads the segment file of a segment.
-fn read_base<R: Threads>(
-    rt: &R,
+/// The files of one segment, to be read.
+#[derive(Clone, Copy)]
+struct SegmentSource<'a> {
     alloc: Global,
-    catalog: &Catalog,
-    files: &FileSet,
+    catalog: &'a Catalog,
+    files: &'a FileSet,
     p: u16,
     s: u16,
-) -> Result<Segment, Fault>
-    requires { HasSegment catalog.now p s }
-    ensures ok { IfOk result (HoldsBase catalog.now (contents_of files.now) p s) }
-    ensures err { IfErr result (λ fault. MemoryOr fault (IsRefused catalog.now (contents_of files.now) (NameData.Seg p s) fault)) }
-{
-    let name = FileName::Seg { p, s };
-    let bytes = match bytes_of(files, name) {
-        Ok(bytes) => bytes,
-        Err(fault) => return Err(fault),
-    };
-    match par_read_segment(rt, alloc, catalog, p, s, bytes) {
-        Ok(segment) => Ok(segment),
-        Err(fault) => Err(refusal(name, fault)),
-    }
+    ghost exists: { HasSegment catalog.now p s },
 }
 
-/// Reads the delta of a segment.
-fn read_changes(
-    alloc: Global,
-    catalog: &Catalog,
-    files: &FileSet,
-    p: u16,
-    s: u16,
-) -> Result<Delta, Fault>
-    requires { HasSegment catalog.now p s }
-    ensures ok { IfOk result (HoldsChanges catalog.now (contents_of files.now) p s) }
-    ensures err { IfErr result (λ fault. MemoryOr fault (IsRefused catalog.now (contents_of files.now) (NameData.Del p s) fault)) }
-{
-    let name = FileName::Del { p, s };
-    let bytes = match bytes_of(files, name) {
-        Ok(bytes) => bytes,
-        Err(fault) => return Err(fault),
-    };
-    match read_delta(alloc, catalog, p, s, bytes) {
-        Ok(delta) => Ok(delta),
-        Err(fault) => Err(refusal(name, fault)),
-    }
-}
-
-/// Reads the join index of a segment to a projection.
-fn read_join(
-    alloc: Global,
-    catalog: &Catalog,
-    files: &FileSet,
-    p: u16,
-    s: u16,
-    q: u16,
-) -> Result<JoinIndex, Fault>
-    ensures ok { IfOk result (IsJoinOf (contents_of files.now) p s q) }
-    ensures err { IfErr result (λ fault. MemoryOr fault (IsRefused catalog.now (contents_of files.now) (NameData.Jix p s q) fault)) }
-{
-    let name = FileName::Jix { p, s, q };
-    let bytes = match bytes_of(files, name) {
-        Ok(bytes) => bytes,
-        Err(fault) => return Err(fault),
-    };
-    match read_jix(alloc, p, s, q, bytes) {
-        Ok(join) => Ok(join),
-        Err(fault) => Err(refusal(name, fault)),
-    }
-}
-
-/// The image of a segment. A delta that cannot be merged is damaged.
-fn merge_image(
-    alloc: Global,
-    catalog: &Catalog,
-    files: &FileSet,
-    p: u16,
-    s: u16,
-    segment: Segment,
-    delta: &Delta,
-) -> Result<Image, Fault>
-    requires exists { HasSegment catalog.now p s }
-    requires base { HoldsBase catalog.now (contents_of files.now) p s segment }
-    requires changes { HoldsChanges catalog.now (contents_of files.now) p s delta.now }
-    ensures ok { IfOk result (IsKindedImageOf catalog.now (contents_of files.now) p s) }
-    ensures err { IfErr result (λ fault. MemoryOr fault (IsRefused catalog.now (contents_of files.now) (NameData.Del p s) fault)) }
-{
-    let _width = catalog.width(p);
-    match merge_owned(alloc, segment, delta) {
-        Ok(image) => Ok(image),
-        Err(fault) => Err(refusal(FileName::Del { p, s }, fault)),
-    }
-}
-
-/// The join indexes of a segment, with their targets.
-fn read_joins(
-    alloc: Global,
-    catalog: &Catalog,
-    files: &FileSet,
-    p: u16,
-    s: u16,
-) -> Result<Vec<(u16, JoinIndex)>, Fault>
-    requires { HasSegment catalog.now p s }
-    ensures targets { IfOk result (λ joins. map (λ j. j.0) joins.items ≡ joins_of catalog.now p) }
-    ensures joins { IfOk result (λ joins. (j : ℕ × List Place) → IsIn j joins.items → IsJoinOf (contents_of files.now) p s j.0 j.1) }
-    ensures err { IfErr result (λ fault. MemoryOr fault (IsFirstBadJoin catalog.now (contents_of files.now) p s fault)) }
-{
-    let mut joins = Vec::new(alloc);
-    for q in 0..catalog.projection_count() {
-        if !catalog.has_join(p, q) {
-            continue;
+impl SegmentSource<'_> {
+    /// The name of the segment file.
+    fn base_name(&self) -> FileName
+        ensures { result ≡ NameData.Seg self.now.p self.now.s }
+    {
+        FileName::Seg {
+            p: self.p,
+            s: self.s,
         }
-        let join = match read_join(alloc, catalog, files, p, s, q) {
-            Ok(join) => join,
+    }
+
+    /// The name of the delta.
+    fn delta_name(&self) -> FileName
+        ensures { result ≡ NameData.Del self.now.p self.now.s }
+    {
+        FileName::Del {
+            p: self.p,
+            s: self.s,
+        }
+    }
+
+    /// Reads the segment file.
+    fn read_base<R: Threads>(&self, rt: &R) -> Result<Segment, Fault>
+        ensures ok { IfOk result (HoldsBase self.now.catalog.now (contents_of self.now.files.now) self.now.p self.now.s) }
+        ensures err { IfErr result (λ fault. MemoryOr fault (IsRefused self.now.catalog.now (contents_of self.now.files.now) (NameData.Seg self.now.p self.now.s) fault)) }
+    {
+        let name = self.base_name();
+        let bytes = match bytes_of(self.files, name) {
+            Ok(bytes) => bytes,
             Err(fault) => return Err(fault),
         };
-        match joins.push((q, join)) {
-            Ok(()) => {}
-            Err(_) => return Err(Fault::Memory),
+        match par_read_segment(rt, self.alloc, self.catalog, self.p, self.s, bytes) {
+            Ok(segment) => Ok(segment),
+            Err(fault) => Err(refusal(name, fault)),
         }
     }
-    Ok(joins)
-}
 
-/// What the delta and the join indexes of a segment hold, each whether or not the other can be read.
-fn read_others(
-    alloc: Global,
-    catalog: &Catalog,
-    files: &FileSet,
-    p: u16,
-    s: u16,
-) -> (Result<Delta, Fault>, Result<Vec<(u16, JoinIndex)>, Fault>)
-    requires { HasSegment catalog.now p s }
-    ensures { AreOthersRead catalog.now (contents_of files.now) p s result }
-{
-    (
-        read_changes(alloc, catalog, files, p, s),
-        read_joins(alloc, catalog, files, p, s),
-    )
-}
-
-/// Whether the segment's file is worth a thread of its own.
-fn is_large(files: &FileSet, p: u16, s: u16) -> bool {
-    match files.get(FileName::Seg { p, s }) {
-        Some(bytes) => bytes.len() >= WORTH_THREADS,
-        None => false,
+    /// Reads the delta.
+    fn read_changes(&self) -> Result<Delta, Fault>
+        ensures ok { IfOk result (HoldsChanges self.now.catalog.now (contents_of self.now.files.now) self.now.p self.now.s) }
+        ensures err { IfErr result (λ fault. MemoryOr fault (IsRefused self.now.catalog.now (contents_of self.now.files.now) (NameData.Del self.now.p self.now.s) fault)) }
+    {
+        let name = self.delta_name();
+        let bytes = match bytes_of(self.files, name) {
+            Ok(bytes) => bytes,
+            Err(fault) => return Err(fault),
+        };
+        match read_delta(self.alloc, self.catalog, self.p, self.s, bytes) {
+            Ok(delta) => Ok(delta),
+            Err(fault) => Err(refusal(name, fault)),
+        }
     }
-}
 
-/// What the files of a segment hold, each whether or not another can be read. Those beside a large segment file are read by
-/// a thread of their own.
-fn read_each<R: Threads>(
-    rt: &R,
-    alloc: Global,
-    catalog: &Catalog,
-    files: &FileSet,
-    p: u16,
-    s: u16,
-) -> (
-    (Result<Delta, Fault>, Result<Vec<(u16, JoinIndex)>, Fault>),
-    Result<Segment, Fault>,
-)
-    requires { HasSegment catalog.now p s }
-    ensures others { AreOthersRead catalog.now (contents_of files.now) p s result.0 }
-    ensures base { IsBaseRead catalog.now (contents_of files.now) p s result.1 }
-{
-    if !is_large(files, p, s) {
-        let base = read_base(rt, alloc, catalog, files, p, s);
-        return (read_others(alloc, catalog, files, p, s), base);
+    /// Reads the join index to a projection.
+    fn read_join(&self, q: u16) -> Result<JoinIndex, Fault>
+        ensures ok { IfOk result (IsJoinOf (contents_of self.now.files.now) self.now.p self.now.s q) }
+        ensures err { IfErr result (λ fault. MemoryOr fault (IsRefused self.now.catalog.now (contents_of self.now.files.now) (NameData.Jix self.now.p self.now.s q) fault)) }
+    {
+        let name = FileName::Jix {
+            p: self.p,
+            s: self.s,
+            q,
+        };
+        let bytes = match bytes_of(self.files, name) {
+            Ok(bytes) => bytes,
+            Err(fault) => return Err(fault),
+        };
+        match read_jix(self.alloc, self.p, self.s, q, bytes) {
+            Ok(join) => Ok(join),
+            Err(fault) => Err(refusal(name, fault)),
+        }
     }
-    join(
-        rt,
-        || -> (Result<Delta, Fault>, Result<Vec<(u16, JoinIndex)>, Fault>)
-            requires { HasSegment catalog.now p s }
-            ensures { AreOthersRead catalog.entry.now (contents_of files.entry.now) p s result }
-        { read_others(alloc, catalog, files, p, s) },
-        || -> Result<Segment, Fault>
-            requires { HasSegment catalog.now p s }
-            ensures { IsBaseRead catalog.entry.now (contents_of files.entry.now) p s result }
-        { read_base(rt, alloc, catalog, files, p, s) },
+
+    /// The image of the segment. A delta that cannot be merged is damaged.
+    fn merge_image(&self, segment: Segment, delta: &Delta) -> Result<Image, Fault>
+        requires base { HoldsBase self.now.catalog.now (contents_of self.now.files.now) self.now.p self.now.s segment }
+        requires changes { HoldsChanges self.now.catalog.now (contents_of self.now.files.now) self.now.p self.now.s delta.now }
+        requires rules { IsCatalog self.now.catalog.now }
+        ensures ok { IfOk result (IsKindedImageOf self.now.catalog.now (contents_of self.now.files.now) self.now.p self.now.s) }
+        ensures err { IfErr result (λ fault. MemoryOr fault (IsRefused self.now.catalog.now (contents_of self.now.files.now) (NameData.Del self.now.p self.now.s) fault)) }
+    {
+        match merge_owned(self.alloc, segment, delta) {
+            Ok(image) => Ok(image),
+            Err(fault) => Err(refusal(self.delta_name(), fault)),
+        }
+    }
+
+    /// The join indexes, with their targets.
+    fn read_joins(&self) -> Result<Vec<(u16, JoinIndex)>, Fault>
+        ensures targets { IfOk result (λ joins. map (λ j. j.0) joins.items ≡ joins_of self.now.catalog.now self.now.p) }
+        ensures joins { IfOk result (λ joins. (j : ℕ × List Place) → IsIn j joins.items → IsJoinOf (contents_of self.now.files.now) self.now.p self.now.s j.0 j.1) }
+        ensures err { IfErr result (λ fault. MemoryOr fault (IsFirstBadJoin self.now.catalog.now (contents_of self.now.files.now) self.now.p self.now.s fault)) }
+        ensures rules { IsCatalog self.now.catalog.now }
+    {
+        let mut joins = Vec::new(self.alloc);
+        for q in 0..self.catalog.projection_count() {
+            if !self.catalog.has_join(self.p, q) {
+                continue;
+            }
+            let join = match self.read_join(q) {
+                Ok(join) => join,
+                Err(fault) => return Err(fault),
+            };
+            match joins.push((q, join)) {
+                Ok(()) => {}
+                Err(_) => return Err(Fault::Memory),
+            }
+        }
+        Ok(joins)
+    }
+
+    /// What the delta and the join indexes hold, each whether or not the other can be read.
+    fn read_others(&self) -> (Result<Delta, Fault>, Result<Vec<(u16, JoinIndex)>, Fault>)
+        ensures others { AreOthersRead self.now.catalog.now (contents_of self.now.files.now) self.now.p self.now.s result }
+        ensures rules { IsCatalog self.now.catalog.now }
+    {
+        (self.read_changes(), self.read_joins())
+    }
+
+    /// Whether the segment file is worth a thread of its own.
+    fn is_large(&self) -> bool {
+        match self.files.get(self.base_name()) {
+            Some(bytes) => bytes.len() >= WORTH_THREADS,
+            None => false,
+        }
+    }
+
+    /// What the files hold, each whether or not another can be read. Those beside a large segment file are read by a thread
+    /// of their own.
+    fn read_each<R: Threads>(
+        &self,
+        rt: &R,
+    ) -> (
+        (Result<Delta, Fault>, Result<Vec<(u16, JoinIndex)>, Fault>),
+        Result<Segment, Fault>,
     )
+        ensures others { AreOthersRead self.now.catalog.now (contents_of self.now.files.now) self.now.p self.now.s result.0 }
+        ensures base { IsBaseRead self.now.catalog.now (contents_of self.now.files.now) self.now.p self.now.s result.1 }
+        ensures rules { IsCatalog self.now.catalog.now }
+    {
+        if !self.is_large() {
+            let base = self.read_base(rt);
+            return (self.read_others(), base);
+        }
+        // of a closure over a struct of references `join` says nothing
+        join_mut(
+            rt,
+            &mut || -> (Result<Delta, Fault>, Result<Vec<(u16, JoinIndex)>, Fault>)
+                ensures others { AreOthersRead self.entry.now.catalog.now (contents_of self.entry.now.files.now) self.entry.now.p self.entry.now.s result }
+                ensures rules { IsCatalog self.entry.now.catalog.now }
+            { self.read_others() },
+            &mut || -> Result<Segment, Fault>
+                ensures { IsBaseRead self.entry.now.catalog.now (contents_of self.entry.now.files.now) self.entry.now.p self.entry.now.s result }
+            { self.read_base(rt) },
+        )
+    }
 }
 
 /// What the files of a segment hold, or the refusal of the least bad one.
@@ -240,8 +228,14 @@ pub fn read_files<R: Threads>(
     ensures ok { IfOk result (AreFilesOf catalog.now (contents_of files.now) (p, s)) }
     ensures err { IfErr result (λ fault. MemoryOr fault (IsFirstBadOf catalog.now (contents_of files.now) (p, s) fault)) }
 {
-    let _count = catalog.projection_count();
-    let ((delta, joins), segment) = read_each(rt, alloc, catalog, files, p, s);
+    let source = SegmentSource {
+        alloc,
+        catalog,
+        files,
+        p,
+        s,
+    };
+    let ((delta, joins), segment) = source.read_each(rt);
     let segment = match segment {
         Ok(segment) => segment,
         Err(fault) => return Err(fault),
@@ -250,7 +244,7 @@ pub fn read_files<R: Threads>(
         Ok(delta) => delta,
         Err(fault) => return Err(fault),
     };
-    let image = match merge_image(alloc, catalog, files, p, s, segment, &delta) {
+    let image = match source.merge_image(segment, &delta) {
         Ok(image) => image,
         Err(fault) => return Err(fault),
     };

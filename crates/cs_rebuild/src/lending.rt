@@ -1,13 +1,10 @@
 //! The columns that the anchor's image lends to the table.
 ghost use Rattle.std.specs.Prelude.{◌≡◌, length, IfOk};
 ghost use Rattle.cs_schema.specs.CatalogRules.{IsCatalog};
-ghost use Rattle.cs_rows.specs.Survivors.{HasRoom, HoldsImages, contents_of};
-ghost use Rattle.cs_rows.specs.Range.{IsPlanOf};
+ghost use Rattle.cs_rows.specs.Survivors.{contents_of};
 ghost use Rattle.cs_rebuild.specs.Walking.{AreAnchorColumns};
 
-use cs_rows::whole::lone_column;
-use cs_rows::{Lent, Survivors};
-use cs_safety::Plan;
+use cs_rows::{Lent, PlanWalk};
 use cs_schema::Catalog;
 use std::alloc::{AllocError, Global};
 
@@ -21,21 +18,12 @@ pub fn column_count(catalog: &Catalog) -> usize
 }
 
 /// What the anchor's image lends for each column of the table.
-pub fn lent_columns<'a>(
-    alloc: Global,
-    catalog: &Catalog,
-    plan: &Plan,
-    survivors: &'a Survivors,
-) -> Result<Lent<'a>, AllocError>
-    requires plan { ∥ IsPlanOf catalog.now plan.now ∥₁ }
-    requires room { HasRoom catalog.now survivors.now }
-    requires made { HoldsImages catalog.now survivors.now }
-    ensures { IfOk result (λ lent. AreAnchorColumns catalog.now (contents_of survivors.now) plan.now lent) }
+pub fn lent_columns<'a>(alloc: Global, walk: &PlanWalk<'_, 'a>) -> Result<Lent<'a>, AllocError>
+    ensures { IfOk result (λ lent. AreAnchorColumns walk.now.survivors.now.catalog (contents_of walk.now.survivors.now) walk.now.plan.now lent) }
 {
-    let _rules = catalog.projection_count();
     let mut lent = Lent::nothing(alloc);
-    for c in 0..column_count(catalog) {
-        lent.push(lone_column(catalog, plan, survivors, c))?;
+    for c in 0..walk.column_count() {
+        lent.push(walk.lone_column(c))?;
     }
     Ok(lent)
 }

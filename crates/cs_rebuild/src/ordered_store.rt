@@ -3,7 +3,7 @@ ghost use Rattle.std.specs.Prelude.{◌≡◌, ◌<◌, ◌^◌, length, map, No
 ghost use Rattle.cs_schema.specs.FileNames.{FileContents};
 ghost use Rattle.cs_order.specs.Orders.{AreOrdersOf};
 ghost use Rattle.cs_rebuild.specs.Steps.{AreRead, row_fault};
-ghost use Rattle.cs_rebuild.specs.StoreFacts.{HaveImageRoom, HaveJoinRoom, AreImagesThere, AreJoinsThere, HaveKinds, HaveWidths, HaveKeys, HaveTops, HaveEntries, HaveOrders, AreNumbersBelow, AreInOrder, HaveRoomInRanges};
+ghost use Rattle.cs_rebuild.specs.StoreFacts.{HaveImageRoom, HaveJoinRoom, AreImagesThere, AreJoinsThere, HaveWidths, HaveKeys, HaveTops, HaveEntries, HaveOrders, AreNumbersBelow, AreInOrder, HaveRoomInRanges};
 
 use cs_order::Orders;
 use cs_rows::{Survivors, Table};
@@ -14,14 +14,14 @@ use cs_schema::{Catalog, Loss};
 pub struct OrderedStore<'a> {
     pub catalog: &'a Catalog,
     pub loss: Loss,
-    pub survivors: &'a Survivors,
+    pub survivors: &'a Survivors<'a>,
     pub walked: Table<'a>,
     pub orders: Orders,
+    pub ghost same: { survivors.now.catalog ≡ catalog.now },
     pub ghost image_room: { HaveImageRoom catalog.now survivors.now },
     pub ghost join_room: { HaveJoinRoom catalog.now survivors.now },
     pub ghost images_there: { AreImagesThere catalog.now loss survivors.now },
     pub ghost joins_there: { AreJoinsThere catalog.now loss survivors.now },
-    pub ghost image_kinds: { HaveKinds catalog.now survivors.now },
     pub ghost widths: { HaveWidths catalog.now loss survivors.now },
     pub ghost keys: { HaveKeys catalog.now loss survivors.now },
     pub ghost tops: { HaveTops catalog.now loss survivors.now },
@@ -39,7 +39,7 @@ pub struct OrderedStore<'a> {
 pub fn store_of<'a>(
     catalog: &'a Catalog,
     loss: Loss,
-    survivors: &'a Survivors,
+    survivors: &'a Survivors<'a>,
     walked: Table<'a>,
     orders: Orders,
 ) -> OrderedStore<'a>

@@ -31,6 +31,7 @@ pub struct Entries<'a> {
     ghost numbers_are: { numbers.now ≡ numbers_in store.now.orders p s },
     ghost kept_is: { MatchOption kept (lost store.now.catalog.now store.now.loss p s ≡ true) (λ m. (lost store.now.catalog.now store.now.loss p s ≡ false) × (image_at store.now.survivors.now p s ≡ Some m.now)) } by { Prim.hlevel props },
     ghost targets_are: { targets.now ≡ images_of store.now.survivors.now q },
+    ghost targets_count: { length (images_of store.now.survivors.now q) ≡ segments store.now.survivors.now.catalog q },
 }
 
 /// The image of a segment, where it isn't lost.

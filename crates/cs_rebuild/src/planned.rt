@@ -2,8 +2,7 @@
 ghost use Rattle.std.specs.Prelude.{◌≡◌, ◌<◌, ◌≤◌, ◌^◌, ℕ, length, Ok, Err, IfOk, IfErr};
 ghost use Rattle.cs_store.specs.Fault.{MemoryOr};
 ghost use Rattle.cs_store.specs.declared.fault.Fault.{Fault as FaultData};
-ghost use Rattle.cs_rows.specs.Survivors.{HasRoom, HoldsImages, contents_of};
-ghost use Rattle.cs_rows.specs.Range.{IsPlanOf};
+ghost use Rattle.cs_rows.specs.Survivors.{contents_of};
 ghost use Rattle.cs_rows.specs.Walk.{Stray, projection_rows, walked};
 ghost use Rattle.cs_rebuild.specs.Walking.{HasTableKinds, WalkFaultAt, WalkAnswerAt};
 ghost use Rattle.cs_rebuild.specs.WorkLaws.{one_value};
@@ -15,12 +14,8 @@ use crate::rounds::Tasks;
 use crate::run::Run;
 use crate::walking::count_pieces;
 use cs_board::{Gate, Round};
-use cs_rows::counts::anchor_rows;
-use cs_rows::range::{WalkFault, walk_range};
-use cs_rows::whole::reads_anchor_alone;
-use cs_rows::{Survivors, Table, Walked};
-use cs_safety::Plan;
-use cs_schema::Catalog;
+use cs_rows::range::WalkFault;
+use cs_rows::{PlanWalk, Table, Walked};
 use cs_store::Fault;
 use std::alloc::Global;
 use std::marker::Sync;
@@ -30,14 +25,9 @@ use std::thread::Threads;
 #[derive(Drop)]
 struct PlannedWork<'a> {
     alloc: Global,
-    catalog: &'a Catalog,
-    plan: &'a Plan,
-    survivors: &'a Survivors,
+    walk: &'a PlanWalk<'a, 'a>,
     cut: u32,
     pieces: u32,
-    ghost planned: { ∥ IsPlanOf catalog.now plan.now ∥₁ },
-    ghost room: { HasRoom catalog.now survivors.now },
-    ghost made: { HoldsImages catalog.now survivors.now },
     ghost cut_range: { cut ≤ 1048576 },
 }
 
@@ -46,26 +36,18 @@ impl Tasks for PlannedWork<'_> {
 
     ghost tasks = { λ work. work.pieces };
 
-    ghost fault_at = { λ work i fault. WalkFaultAt work.catalog.now (contents_of work.survivors.now) work.plan.now work.cut i fault };
+    ghost fault_at = { λ work i fault. WalkFaultAt work.walk.now.survivors.now.catalog (contents_of work.walk.now.survivors.now) work.walk.now.plan.now work.cut i fault };
 
-    ghost answers = { λ work i walked. WalkAnswerAt work.catalog.now (contents_of work.survivors.now) work.plan.now work.cut i walked };
+    ghost answers = { λ work i walked. WalkAnswerAt work.walk.now.survivors.now.catalog (contents_of work.walk.now.survivors.now) work.walk.now.plan.now work.cut i walked };
 
     fn count(&self) -> u32 {
         self.pieces
     }
 
     fn task(&self, i: u32) -> Result<Walked, Fault> {
-        let _rules = self.catalog.projection_count();
         let from = i as usize * self.cut as usize;
         let to = from + self.cut as usize;
-        match walk_range(
-            self.alloc,
-            self.catalog,
-            self.plan,
-            self.survivors,
-            from,
-            to,
-        ) {
+        match self.walk.range(self.alloc, from, to) {
             Ok(walked) => Ok(walked),
             Err(WalkFault::Memory) => Err(Fault::Memory),
             Err(WalkFault::Astray { p, s, row }) => Err(Fault::Astray { p, s, row }),
@@ -78,38 +60,31 @@ impl Tasks for PlannedWork<'_> {
 /// The rows to which all rows of a plan's anchor lead.
 pub fn walk_planned<'a, R: Threads + Sync, G: Gate + Sync>(
     run: &Run<'_, R, G>,
-    catalog: &Catalog,
-    plan: &Plan,
-    survivors: &'a Survivors,
+    walk: &PlanWalk<'_, 'a>,
 ) -> Result<Table<'a>, Fault>
-    requires plan { IsPlanOf catalog.now plan.now }
-    requires room { HasRoom catalog.now survivors.now }
-    requires made { HoldsImages catalog.now survivors.now }
-    requires few { length (projection_rows catalog.now (contents_of survivors.now) plan.now.anchor) < 2 ^ 32 }
-    ensures kinds { IfOk result (HasTableKinds catalog.now) }
-    ensures rows { IfOk result (λ rows. walked catalog.now (contents_of survivors.now) plan.now ≡ Ok rows.rows) }
-    ensures err { IfErr result (λ fault. MemoryOr fault ((at : Stray) × (walked catalog.now (contents_of survivors.now) plan.now ≡ Err at) × (fault ≡ FaultData.Astray at.0 at.1 at.2))) }
+    requires few { length (projection_rows walk.now.survivors.now.catalog (contents_of walk.now.survivors.now) walk.now.plan.now.anchor) < 2 ^ 32 }
+    ensures kinds { IfOk result (HasTableKinds walk.now.survivors.now.catalog) }
+    ensures rows { IfOk result (λ rows. walked walk.now.survivors.now.catalog (contents_of walk.now.survivors.now) walk.now.plan.now ≡ Ok rows.rows) }
+    ensures err { IfErr result (λ fault. MemoryOr fault ((at : Stray) × (walked walk.now.survivors.now.catalog (contents_of walk.now.survivors.now) walk.now.plan.now ≡ Err at) × (fault ≡ FaultData.Astray at.0 at.1 at.2))) }
 {
-    let rows = anchor_rows(catalog, plan, survivors);
-    let pieces = count_pieces(rows, run.cut);
-    if reads_anchor_alone(catalog, plan) {
-        return walk_anchored(run, catalog, plan, survivors, pieces);
+    let survivors = walk.survivors;
+    let pieces = count_pieces(walk.anchor_rows(), run.cut);
+    if walk.reads_anchor_alone() {
+        return walk_anchored(run, walk, pieces);
     }
     let work = PlannedWork {
         alloc: run.alloc,
-        catalog,
-        plan,
-        survivors,
+        walk: &*walk,
         cut: run.cut,
         pieces,
     };
     match run.round(Round::Walk, &work) {
         Ok(all) => {
-            let lent = match lent_columns(run.alloc, catalog, plan, survivors) {
+            let lent = match lent_columns(run.alloc, walk) {
                 Ok(lent) => lent,
                 Err(_) => return Err(Fault::Memory),
             };
-            match join_table(run.rt, run.alloc, catalog, all, lent) {
+            match join_table(run.rt, run.alloc, survivors.catalog(), all, lent) {
                 Ok(table) => Ok(table),
                 Err(_) => Err(Fault::Memory),
             }

@@ -1,14 +1,15 @@
 //! Recovery and the check of a store.
-ghost use Rattle.std.specs.Prelude.{◌≡◌, ◌≤◌, []};
-ghost use Rattle.cs_safety.specs.Safety.{IsSafe, IsKSafe};
+ghost use Rattle.std.specs.Prelude.{◌≡◌, ◌≤◌};
 ghost use Rattle.cs_store.specs.FileSet.{contents_of};
 ghost use Rattle.cs_recovery.specs.Claims.{IsRebuildAnswer, IsCheckAnswer};
 ghost use Rattle.cs_recovery.specs.Laws.{RebuildClauses, CheckClauses};
 ghost use Rattle.cs_rebuild.specs.Steps.{safety_refusal as refusal_of};
 
+use crate::reading::read_store;
 use crate::run::Run;
-use crate::verifying::{read_store, verify_store};
-use crate::writing::write_lost;
+use crate::surviving::{Surviving, surviving_segments};
+use crate::verifying::verify;
+use crate::writing::lost_files;
 use cs_board::{Gate, OpenGate};
 use cs_safety::{SafetyFault, ksafe, safe};
 use cs_schema::{Catalog, Loss};
@@ -71,12 +72,21 @@ pub fn rebuild_gated<R: Threads + Sync, G: Gate + Sync>(
         cut,
         gate,
     };
-    let survivors = match read_store(&run, catalog, files, loss) {
+    let segments = match surviving_segments(alloc, catalog, loss) {
+        Ok(segments) => segments,
+        Err(_) => return Err(Fault::Memory),
+    };
+    let surviving = Surviving {
+        catalog,
+        loss,
+        segments,
+    };
+    let survivors = match read_store(&run, &surviving, files) {
         Ok(survivors) => survivors,
         Err(fault) => return Err(fault),
     };
-    match verify_store(&run, catalog, loss, &survivors) {
-        Ok(store) => write_lost(&run, &store),
+    match verify(&run, &surviving, &survivors) {
+        Ok(store) => lost_files(&run, &store),
         Err(fault) => Err(fault),
     }
 }
@@ -129,13 +139,22 @@ pub fn check_gated<R: Threads + Sync, G: Gate + Sync>(
         cut,
         gate,
     };
-    let loss = no_loss(catalog, k);
-    let survivors = match read_store(&run, catalog, files, loss) {
+    let loss = Loss::none();
+    let segments = match surviving_segments(alloc, catalog, loss) {
+        Ok(segments) => segments,
+        Err(_) => return Err(Fault::Memory),
+    };
+    let surviving = Surviving {
+        catalog,
+        loss,
+        segments,
+    };
+    let survivors = match read_store(&run, &surviving, files) {
         Ok(survivors) => survivors,
         Err(fault) => return Err(fault),
     };
-    match verify_store(&run, catalog, loss, &survivors) {
-        Ok(store) => Ok(store.walked.rows() as u64),
+    match verify(&run, &surviving, &survivors) {
+        Ok(store) => Ok(store.ordered().walked.rows() as u64),
         Err(fault) => Err(fault),
     }
 }
@@ -148,13 +167,4 @@ fn safety_refusal(fault: SafetyFault) -> Fault
         SafetyFault::BadK => Fault::BadK,
         SafetyFault::Unsafe(loss) => Fault::Unsafe(loss),
     }
-}
-
-/// The loss of no site, which is safe where any is.
-fn no_loss(catalog: &Catalog, k: u8) -> Loss
-    requires { IsKSafe catalog.now k }
-    ensures none { result ≡ [] }
-    ensures safe { IsSafe catalog.now result }
-{
-    Loss::none()
 }

@@ -2,7 +2,7 @@
 ghost use Rattle.std.specs.Prelude.{◌≡◌, ◌<◌, ◌≤◌, ◌^◌, ℕ, length, Ok, Err, IfOk, IfErr};
 ghost use Rattle.cs_store.specs.Fault.{MemoryOr};
 ghost use Rattle.cs_store.specs.declared.fault.Fault.{Fault as FaultData};
-ghost use Rattle.cs_rows.specs.Survivors.{HasRoom, HoldsImages, contents_of};
+ghost use Rattle.cs_rows.specs.Survivors.{contents_of};
 ghost use Rattle.cs_rows.specs.Walk.{Stray};
 ghost use Rattle.cs_rows.specs.WalkByRows.{surviving_rows, walked_by_rows};
 ghost use Rattle.cs_rebuild.specs.Walking.{HasTableKinds, RowsFaultAt, RowsAnswerAt};
@@ -29,11 +29,10 @@ struct RowsWork<'a> {
     alloc: Global,
     catalog: &'a Catalog,
     loss: Loss,
-    survivors: &'a Survivors,
+    survivors: &'a Survivors<'a>,
     cut: u32,
     pieces: u32,
-    ghost room: { HasRoom catalog.now survivors.now },
-    ghost made: { HoldsImages catalog.now survivors.now },
+    ghost same: { survivors.now.catalog ≡ catalog.now },
     ghost cut_range: { cut ≤ 1048576 },
 }
 
@@ -51,7 +50,6 @@ impl Tasks for RowsWork<'_> {
     }
 
     fn task(&self, i: u32) -> Result<Walked, Fault> {
-        let _rules = self.catalog.projection_count();
         let from = i as usize * self.cut as usize;
         let to = from + self.cut as usize;
         match walk_rows(
@@ -76,16 +74,15 @@ pub fn walk_rowwise<'a, R: Threads + Sync, G: Gate + Sync>(
     run: &Run<'_, R, G>,
     catalog: &Catalog,
     loss: Loss,
-    survivors: &'a Survivors,
+    survivors: &'a Survivors<'a>,
 ) -> Result<Table<'a>, Fault>
-    requires room { HasRoom catalog.now survivors.now }
-    requires made { HoldsImages catalog.now survivors.now }
+    requires same { survivors.now.catalog ≡ catalog.now }
     requires few { length (surviving_rows catalog.now loss (contents_of survivors.now)) < 2 ^ 32 }
     ensures kinds { IfOk result (HasTableKinds catalog.now) }
     ensures rows { IfOk result (λ rows. walked_by_rows catalog.now loss (contents_of survivors.now) ≡ Ok rows.rows) }
     ensures err { IfErr result (λ fault. MemoryOr fault ((at : Stray) × (walked_by_rows catalog.now loss (contents_of survivors.now) ≡ Err at) × (fault ≡ FaultData.Astray at.0 at.1 at.2))) }
 {
-    let rows = surviving_row_count(catalog, loss, survivors);
+    let rows = surviving_row_count(survivors, loss);
     let pieces = count_pieces(rows, run.cut);
     let work = RowsWork {
         alloc: run.alloc,

@@ -1,84 +1,87 @@
 //! The table that the survivors of a loss hold.
-ghost use Rattle.std.specs.Prelude.{◌≡◌, ◌<◌, ◌^◌, All, false, length, map, IfOk};
-ghost use Rattle.cs_schema.specs.CatalogRules.{IsCatalog};
+ghost use Rattle.std.specs.Prelude.{◌≡◌, ◌<◌, ◌^◌, ℕ, All, false, length, map, slice_index, IfOk};
+ghost use Rattle.std.specs.Option.{option_map, unwrap_or};
+ghost use Rattle.cs_schema.specs.Rows.{cell};
+ghost use Rattle.cs_schema.specs.Values.{kind_of, values};
 ghost use Rattle.cs_store.specs.FileSet.{contents_of};
+ghost use Rattle.cs_rows.specs.TableView.{over};
+ghost use Rattle.cs_rows.specs.WalkedView.{AreColumns, count_of, rows_of};
 ghost use Rattle.cs_order.specs.Orders.{row_at};
 ghost use Rattle.cs_order.specs.Tables.{is_twice, table_of};
 ghost use Rattle.cs_recovery.specs.Columns.{AreColumnsOf};
 ghost use Rattle.cs_recovery.specs.TableAnswers.{IsTableAnswer, TableClauses};
-ghost use Rattle.cs_rebuild.specs.Walking.{IsColumnOf};
 
 use crate::columns::cells_at;
 use crate::lending::column_count;
+use crate::ordered_store::OrderedStore;
+use crate::reading::read_store;
 use crate::run::Run;
-use crate::verifying::{read_store, verify_store};
+use crate::surviving::{Surviving, surviving_segments};
+use crate::verifying::verify;
 use cs_board::Gate;
 use cs_order::key_order;
-use cs_rows::Table;
+use cs_rows::{Lent, Table};
 use cs_safety::safe;
-use cs_schema::{Catalog, Cells, Loss};
+use cs_schema::{Catalog, Cells, Kind, Loss};
 use cs_store::{Fault, FileSet};
-use rayon::prelude::*;
 use std::alloc::{AllocError, Global};
 use std::marker::Sync;
+use std::mem::replace;
 use std::thread::Threads;
 
-/// Copies of the cells that rows have in a column, in their order.
+/// Copies of the cells at some places of a column: of what is lent in its place, or else of what was made, which is let go of.
 fn pick_column(
     alloc: Global,
-    catalog: &Catalog,
-    walked: &Table<'_>,
+    made: Cells,
+    lent: Option<&Cells>,
     numbers: &[u32],
-    c: usize,
 ) -> Result<Cells, AllocError>
-    requires column { c < length catalog.now.columns }
-    requires kinds { walked.now.kinds ≡ map (λ c. c.kind) catalog.now.columns }
-    requires below { All (λ i. i < length walked.now.rows) numbers.now }
-    ensures { IfOk result (IsColumnOf catalog.now (map (row_at walked.now.rows) numbers.now) c) }
+    requires { (k : ℕ) → k < length numbers.now → slice_index numbers.now k < length (values (unwrap_or (option_map (λ cells. cells.now) lent) made)) }
+    ensures kind { IfOk result (λ cells. kind_of cells ≡ kind_of (unwrap_or (option_map (λ cells. cells.now) lent.entry) made)) }
+    ensures cells { IfOk result (λ cells. values cells ≡ map (cell (values (unwrap_or (option_map (λ cells. cells.now) lent.entry) made))) numbers.now) }
 {
-    cells_at(alloc, walked.column(c), numbers)
+    match lent {
+        Some(column) => cells_at(alloc, column, numbers),
+        None => cells_at(alloc, &made, numbers),
+    }
 }
 
-/// Rows of the table by their numbers, each column copied by a thread of its own.
-fn pick_columns<R: Threads + Sync>(
-    rt: &R,
+/// Rows of columns by their numbers. What was made of a column is let go of before the next one is copied.
+fn pick_columns(
     alloc: Global,
     catalog: &Catalog,
-    walked: &Table<'_>,
+    made: Vec<Cells>,
+    lent: &Lent<'_>,
     numbers: &[u32],
 ) -> Result<Vec<Cells>, AllocError>
-    requires kinds { walked.now.kinds ≡ map (λ c. c.kind) catalog.now.columns }
-    requires below { All (λ i. i < length walked.now.rows) numbers.now }
-    ensures { IfOk result (λ columns. AreColumnsOf catalog.now (map (row_at walked.now.rows) numbers.now) columns.items) }
+    requires columns { AreColumns (over made.items lent.now) }
+    requires kinds { map kind_of (over made.items lent.now) ≡ map (λ c. c.kind) catalog.now.columns }
+    requires below { All (λ i. i < count_of (over made.items lent.now)) numbers.now }
+    ensures { IfOk result (λ columns. AreColumnsOf catalog.now (map (row_at (rows_of (over made.items lent.now) (count_of (over made.items lent.now)))) numbers.now) columns.items) }
 {
-    (0..column_count(catalog))
-        .into_par_iter()
-        // a column is worth a thread
-        .with_min_len(1)
-        .map(
-            |c: usize| -> Result<Cells, AllocError>
-                requires column { c < length catalog.now.columns }
-                requires kinds { walked.now.kinds ≡ map (λ c. c.kind) catalog.now.columns }
-                requires below { All (λ i. i < length walked.now.rows) numbers.now }
-                ensures { IfOk result (IsColumnOf catalog.entry.now (map (row_at walked.entry.now.rows) numbers.entry.now) c) }
-            { pick_column(alloc, catalog, walked, numbers, c) },
-        )
-        .collect::<Result<Vec<Cells>, AllocError>>(rt, alloc)?
+    let mut made = made;
+    let mut columns = Vec::new(alloc);
+    for c in 0..column_count(catalog) {
+        let own = replace(&mut made[c], Cells::new(alloc, Kind::Int));
+        columns.push(pick_column(alloc, own, lent.column(c), numbers)?)?;
+    }
+    Ok(columns)
 }
 
 /// The rows of the table by primary key, which no two of them have in common.
 pub fn rows_by_key<R: Threads + Sync, G>(
     run: &Run<'_, R, G>,
     catalog: &Catalog,
-    walked: &Table<'_>,
+    walked: Table<'_>,
 ) -> Result<Vec<Cells>, AllocError>
-    requires kinds { walked.now.kinds ≡ map (λ c. c.kind) catalog.now.columns }
-    requires few { length walked.now.rows < 2 ^ 32 }
-    requires once { is_twice catalog.now walked.now.rows ≡ false }
-    ensures { IfOk result (λ columns. AreColumnsOf catalog.now (table_of catalog.now walked.now.rows) columns.items) }
+    requires kinds { walked.kinds ≡ map (λ c. c.kind) catalog.now.columns }
+    requires few { length walked.rows < 2 ^ 32 }
+    requires once { is_twice catalog.now walked.rows ≡ false }
+    ensures { IfOk result (λ columns. AreColumnsOf catalog.now (table_of catalog.now walked.entry.rows) columns.items) }
 {
-    let numbers = key_order(run.rt, run.alloc, walked, catalog)?;
-    pick_columns(run.rt, run.alloc, catalog, walked, numbers.as_slice())
+    let numbers = key_order(run.rt, run.alloc, &walked, catalog)?;
+    let (made, lent) = walked.into_columns();
+    pick_columns(run.alloc, catalog, made, &lent, numbers.as_slice())
 }
 
 /// The rows of the table that the survivors of a loss hold, by primary key, as a column of cells for each column of the table.
@@ -103,15 +106,26 @@ pub fn table<R: Threads + Sync, G: Gate + Sync>(
     if !safe(catalog, loss) {
         return Err(Fault::Unsafe(loss));
     }
-    let survivors = match read_store(run, catalog, files, loss) {
+    let segments = match surviving_segments(run.alloc, catalog, loss) {
+        Ok(segments) => segments,
+        Err(_) => return Err(Fault::Memory),
+    };
+    let surviving = Surviving {
+        catalog,
+        loss,
+        segments,
+    };
+    let survivors = match read_store(run, &surviving, files) {
         Ok(survivors) => survivors,
         Err(fault) => return Err(fault),
     };
-    let store = match verify_store(run, catalog, loss, &survivors) {
+    let store = match verify(run, &surviving, &survivors) {
         Ok(store) => store,
         Err(fault) => return Err(fault),
     };
-    match rows_by_key(run, catalog, &store.walked) {
+    // the orders are let go of before the rows are copied
+    let OrderedStore { walked, .. } = store.into_ordered();
+    match rows_by_key(run, catalog, walked) {
         Ok(columns) => Ok(columns),
         Err(_) => Err(Fault::Memory),
     }

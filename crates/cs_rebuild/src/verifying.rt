@@ -1,56 +1,34 @@
 //! What the surviving files of a store come to.
 ghost use Rattle.std.specs.Prelude.{Err, IfOk, IfErr};
 ghost use Rattle.cs_schema.specs.FileNames.{FileContents};
-ghost use Rattle.cs_store.specs.FileSet.{contents_of};
 ghost use Rattle.cs_store.specs.Fault.{MemoryOr};
 ghost use Rattle.cs_safety.specs.Safety.{IsSafe};
 ghost use Rattle.cs_recovery.specs.Verdicts.{IsVerdict};
 ghost use Rattle.cs_rows.specs.Survivors.{contents_of as held_by};
 ghost use Rattle.cs_rebuild.specs.OnStore.{IsStoreOf};
-ghost use Rattle.cs_rebuild.specs.Steps.{AreRead, AreOrdered, AreSound, IsBadFile, IsUnordered};
+ghost use Rattle.cs_rebuild.specs.Steps.{AreRead, AreOrdered, AreSound, IsUnordered};
 
 use crate::joined::verify_joins;
 use crate::ordered_store::{OrderedStore, store_of};
 use crate::ordering::orders_of;
 use crate::placed::verify_images;
-use crate::reading::read_survivors;
 use crate::run::Run;
-use crate::survey::{joins_of, surviving_segments};
+use crate::sound_store::SoundStore;
+use crate::surviving::{Surviving, joins_of};
 use crate::walking::walk_all;
 use cs_board::Gate;
 use cs_rows::Survivors;
 use cs_schema::{Catalog, Loss};
-use cs_store::{Fault, FileSet};
+use cs_store::Fault;
 use std::marker::Sync;
 use std::thread::Threads;
-
-/// What the surviving files hold, or the refusal of the least bad one.
-pub fn read_store<R: Threads + Sync, G: Gate + Sync>(
-    run: &Run<'_, R, G>,
-    catalog: &Catalog,
-    files: &FileSet,
-    loss: Loss,
-) -> Result<Survivors, Fault>
-    ensures ok { IfOk result (AreRead catalog.now (contents_of files.now) loss) }
-    ensures bad { IfErr result (λ fault. MemoryOr fault (IsBadFile catalog.now (contents_of files.now) loss fault)) }
-    ensures err { IfErr result (λ fault. MemoryOr fault (IsVerdict catalog.now (contents_of files.now) loss (Err fault))) }
-{
-    let segments = match surviving_segments(run.alloc, catalog, loss) {
-        Ok(segments) => segments,
-        Err(_) => return Err(Fault::Memory),
-    };
-    match read_survivors(run, catalog, files, loss, segments.as_slice()) {
-        Ok(survivors) => Ok(survivors),
-        Err(fault) => Err(fault),
-    }
-}
 
 /// The rows of the table to which what was read leads, in their orders; or the first refusal of the walk, a key or a range.
 pub fn order_store<'a, R: Threads + Sync, G: Gate + Sync>(
     run: &Run<'_, R, G>,
     catalog: &'a Catalog,
     loss: Loss,
-    survivors: &'a Survivors,
+    survivors: &'a Survivors<'a>,
 ) -> Result<OrderedStore<'a>, Fault>
     requires safe { IsSafe catalog.now loss }
     requires read { (F : FileContents) × AreRead catalog.now F loss survivors.now }
@@ -68,32 +46,27 @@ pub fn order_store<'a, R: Threads + Sync, G: Gate + Sync>(
     }
 }
 
-/// What a store comes to of which this was read: the first refusal that applies, or the table's rows in their orders.
-pub fn verify_store<'a, R: Threads + Sync, G: Gate + Sync>(
+/// What a store comes to of which this was read: the first refusal that applies, or the sound store.
+pub fn verify<'a, R: Threads + Sync, G: Gate + Sync>(
     run: &Run<'_, R, G>,
-    catalog: &'a Catalog,
-    loss: Loss,
-    survivors: &'a Survivors,
-) -> Result<OrderedStore<'a>, Fault>
-    requires safe { IsSafe catalog.now loss }
-    requires read { (F : FileContents) × AreRead catalog.now F loss survivors.now }
-    ensures ok { IfOk result (λ store. (F : FileContents) → AreRead catalog.now F loss survivors.now → AreSound catalog.now F loss survivors.now store.walked store.orders) }
-    ensures of { IfOk result (IsStoreOf catalog.now loss survivors.now) }
-    ensures err { IfErr result (λ fault. (F : FileContents) → AreRead catalog.now F loss survivors.now → MemoryOr fault (IsVerdict catalog.now F loss (Err fault))) }
+    surviving: &Surviving<'a>,
+    survivors: &'a Survivors<'a>,
+) -> Result<SoundStore<'a>, Fault>
+    requires safe { IsSafe surviving.now.catalog.now surviving.now.loss }
+    requires read { (F : FileContents) × AreRead surviving.now.catalog.now F surviving.now.loss survivors.now }
+    ensures ok { IfOk result (λ store. (F : FileContents) → AreRead surviving.now.catalog.now F surviving.now.loss survivors.now → AreSound surviving.now.catalog.now F surviving.now.loss survivors.now store.walked store.orders) }
+    ensures of { IfOk result (IsStoreOf surviving.now.catalog.now surviving.now.loss survivors.now) }
+    ensures err { IfErr result (λ fault. (F : FileContents) → AreRead surviving.now.catalog.now F surviving.now.loss survivors.now → MemoryOr fault (IsVerdict surviving.now.catalog.now F surviving.now.loss (Err fault))) }
 {
-    let segments = match surviving_segments(run.alloc, catalog, loss) {
-        Ok(segments) => segments,
-        Err(_) => return Err(Fault::Memory),
-    };
-    let store = match order_store(run, catalog, loss, survivors) {
+    let store = match order_store(run, surviving.catalog, surviving.loss, survivors) {
         Ok(store) => store,
         Err(fault) => return Err(fault),
     };
-    match verify_images(run, &store, segments.as_slice()) {
+    match verify_images(run, &store, surviving.segments.as_slice()) {
         Ok(()) => {}
         Err(fault) => return Err(fault),
     }
-    let joins = match joins_of(run.alloc, catalog, segments.as_slice()) {
+    let joins = match joins_of(run.alloc, surviving.catalog, surviving.segments.as_slice()) {
         Ok(joins) => joins,
         Err(_) => return Err(Fault::Memory),
     };
@@ -101,5 +74,5 @@ pub fn verify_store<'a, R: Threads + Sync, G: Gate + Sync>(
         Ok(()) => {}
         Err(fault) => return Err(fault),
     }
-    Ok(store)
+    Ok(SoundStore::of(store))
 }

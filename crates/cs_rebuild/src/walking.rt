@@ -1,17 +1,22 @@
 //! Walking the surviving rows, by the catalog's rule.
-ghost use Rattle.std.specs.Prelude.{◌≡◌, ◌<◌, ◌≤◌, ◌+◌, ◌*◌, ◌^◌, IfOk, IfErr};
+ghost use Rattle.std.specs.Prelude.{◌≡◌, ◌<◌, ◌≤◌, ◌+◌, ◌*◌, ◌^◌, length, Ok, Err, IfOk, IfErr};
+ghost use Rattle.cs_schema.specs.CatalogRules.{IsCatalog};
 ghost use Rattle.cs_schema.specs.FileNames.{FileContents};
 ghost use Rattle.cs_store.specs.Fault.{MemoryOr};
 ghost use Rattle.cs_safety.specs.Safety.{IsSafe};
+ghost use Rattle.cs_store.specs.declared.fault.Fault.{Fault as FaultData};
+ghost use Rattle.cs_rows.specs.Range.{IsPlanOf};
 ghost use Rattle.cs_rows.specs.Survivors.{contents_of};
+ghost use Rattle.cs_rows.specs.Walk.{Stray, projection_rows, walked};
+ghost use Rattle.cs_rebuild.specs.Walking.{HasTableKinds};
 ghost use Rattle.cs_rebuild.specs.Steps.{AreRead, AreWalkedRows, IsStray};
 
 use crate::planned::walk_planned;
 use crate::rowwise::walk_rowwise;
 use crate::run::Run;
 use cs_board::Gate;
-use cs_rows::{Survivors, Table};
-use cs_safety::plan;
+use cs_rows::{PlanWalk, Survivors, Table};
+use cs_safety::{Plan, plan};
 use cs_schema::{Catalog, Loss, Safety};
 use cs_store::Fault;
 use std::marker::Sync;
@@ -29,12 +34,33 @@ pub fn count_pieces(rows: usize, cut: u32) -> u32
     ((rows - 1) / cut as usize) as u32 + 1
 }
 
+/// The rows to which the walk of a plan leads.
+fn walk_plan<'a, R: Threads + Sync, G: Gate + Sync>(
+    run: &Run<'_, R, G>,
+    catalog: &Catalog,
+    plan: &Plan,
+    survivors: &'a Survivors<'a>,
+) -> Result<Table<'a>, Fault>
+    requires rules { IsCatalog catalog.now }
+    requires plan { IsPlanOf catalog.now plan.now }
+    requires same { survivors.now.catalog ≡ catalog.now }
+    requires few { length (projection_rows catalog.now (contents_of survivors.now) plan.now.anchor) < 2 ^ 32 }
+    ensures kinds { IfOk result (HasTableKinds catalog.now) }
+    ensures rows { IfOk result (λ rows. walked catalog.now (contents_of survivors.now) plan.now ≡ Ok rows.rows) }
+    ensures err { IfErr result (λ fault. MemoryOr fault ((at : Stray) × (walked catalog.now (contents_of survivors.now) plan.now ≡ Err at) × (fault ≡ FaultData.Astray at.0 at.1 at.2))) }
+{
+    match PlanWalk::new(run.alloc, catalog, plan, survivors) {
+        Ok(walk) => walk_planned(run, &walk),
+        Err(_) => Err(Fault::Memory),
+    }
+}
+
 /// The rows to which the walk leads, by the catalog's rule.
 pub fn walk_all<'a, R: Threads + Sync, G: Gate + Sync>(
     run: &Run<'_, R, G>,
     catalog: &Catalog,
     loss: Loss,
-    survivors: &'a Survivors,
+    survivors: &'a Survivors<'a>,
 ) -> Result<Table<'a>, Fault>
     requires safe { IsSafe catalog.now loss }
     requires read { (F : FileContents) × AreRead catalog.now F loss survivors.now }
@@ -44,7 +70,7 @@ pub fn walk_all<'a, R: Threads + Sync, G: Gate + Sync>(
     let _rules = catalog.projection_count();
     match catalog.safety {
         Safety::Whole => match plan(catalog, loss) {
-            Some(plan) => walk_planned(run, catalog, &plan, survivors),
+            Some(plan) => walk_plan(run, catalog, &plan, survivors),
             None => unreachable!(),
         },
         Safety::Rows => walk_rowwise(run, catalog, loss, survivors),

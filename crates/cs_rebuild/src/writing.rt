@@ -14,6 +14,7 @@ ghost use Rattle.cs_rebuild.specs.Unwritten.{IsToWrite, IsFileOf, name_of};
 
 use crate::ordered_store::OrderedStore;
 use crate::run::Run;
+use crate::sound_store::SoundStore;
 use crate::unwritten::{Unwritten, unwritten_files};
 use crate::writing_joins::{join_bytes, least_entries};
 use cs_board::Gate;
@@ -129,15 +130,14 @@ fn write_files<R: Threads + Sync, G: Gate + Sync>(
 }
 
 /// The files of the lost segments, and the join indexes that the loss affects.
-pub fn write_lost<R: Threads + Sync, G: Gate + Sync>(
+pub fn lost_files<R: Threads + Sync, G: Gate + Sync>(
     run: &Run<'_, R, G>,
-    store: &OrderedStore<'_>,
+    store: &SoundStore<'_>,
 ) -> Result<FileSet, Fault>
-    requires sound { IsSound store.now }
     ensures ok { IfOk result (λ out. (n : NameData) → contents_of out n ≡ written_on store.now n) }
     ensures err { IfErr result (λ fault. fault ≡ FaultData.Memory) }
 {
-    match write_files(run, store) {
+    match write_files(run, store.ordered()) {
         Ok(files) => Ok(files),
         Err(_) => Err(Fault::Memory),
     }

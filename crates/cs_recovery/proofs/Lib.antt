@@ -2,6 +2,7 @@ pub mod Accepted
 pub mod Afresh
 pub mod Agreeing
 pub mod Built
+pub mod CatalogFacts
 pub mod ChangedSites
 pub mod CheckClauses
 pub mod Checked

@@ -1,7 +1,6 @@
 //! The walk by rows of what survives, and leaving out the rows of a key that come again.
 ghost use Rattle.std.specs.Prelude.{◌≡◌, ◌<◌, length, map, IfOk};
 ghost use Rattle.cs_segment.specs.SegmentData.{kinds_at};
-ghost use Rattle.cs_rows.specs.Survivors.{HasRoom, HoldsImages};
 
 use crate::attempt::{Answer, Report, allocate};
 use crate::catalogs::catalog_of;
@@ -39,13 +38,19 @@ const ALL: usize = 8;
 /// The same without a key's later rows.
 const ONCE: [[i64; 2]; 4] = [[3, 20], [4, 10], [1, 30], [2, 10]];
 
-/// A catalog, and what survives of its store.
+/// What survives of a store.
 #[derive(Drop)]
-struct Rows {
-    catalog: Catalog,
-    survivors: Survivors,
-    ghost room: { HasRoom catalog survivors },
-    ghost made: { HoldsImages catalog survivors },
+struct Rows<'a> {
+    survivors: Survivors<'a>,
+}
+
+/// The catalog of three projections, which is safe where rows are.
+fn three_projections(alloc: Global) -> Result<Catalog> {
+    let (_, text) = THREE_PROJECTIONS
+        .split_once('\n')
+        .ok_or(anyhow!("no version"))?;
+    let text = format!(in alloc; "version = 2\nsafety = \"rows\"\n{text}")?;
+    catalog_of(alloc, text.as_str())
 }
 
 /// The image of a segment, from its two files.
@@ -85,45 +90,49 @@ fn text_of(name: FileName) -> Result<&'static str> {
     Err(anyhow!("no such file"))
 }
 
-impl Rows {
+impl<'a> Rows<'a> {
     /// One segment of each of three projections.
-    fn of(alloc: Global) -> Result<Rows> {
-        let (_, text) = THREE_PROJECTIONS
-            .split_once('\n')
-            .ok_or(anyhow!("no version"))?;
-        let text = format!(in alloc; "version = 2\nsafety = \"rows\"\n{text}")?;
-        let catalog = catalog_of(alloc, text.as_str())?;
-        let survivors = Survivors::new(alloc, &catalog)?;
-        let mut rows = Rows { catalog, survivors };
+    fn of(alloc: Global, catalog: &'a Catalog) -> Result<Rows<'a>> {
+        let survivors = Survivors::new(alloc, catalog)?;
+        let mut rows = Rows { survivors };
         rows.put(alloc, 0, 1)?;
         rows.put(alloc, 1, 1)?;
         rows.put(alloc, 2, 0)?;
         Ok(rows)
     }
 
+    /// Their catalog.
+    fn catalog(&self) -> &'a Catalog
+        ensures { result.now ≡ self.now.survivors.catalog }
+    {
+        self.survivors.catalog()
+    }
+
     /// Puts the image of a segment there.
     fn put(&mut self, alloc: Global, p: u16, s: u16) -> Result<()> {
-        if p >= self.catalog.projection_count() || s >= self.catalog.segments(p) {
+        let catalog = self.survivors.catalog();
+        if p >= catalog.projection_count() || s >= catalog.segments(p) {
             return Err(anyhow!("no such segment"));
         }
         let segment = text_of(FileName::Seg { p, s })?;
         let delta = text_of(FileName::Del { p, s })?;
-        let image = image_of(alloc, &self.catalog, p, s, segment, delta)?;
+        let image = image_of(alloc, catalog, p, s, segment, delta)?;
         self.survivors.put_image(p as usize, s as usize, image);
         Ok(())
     }
 
     /// The rows numbered so, or all where there are fewer.
     fn walk(&self, alloc: Global, from: usize, to: usize) -> Result<Walked, WalkFault>
-        ensures { IfOk result (λ walked. walked.kinds ≡ map (λ c. c.kind) self.now.catalog.columns) }
+        ensures { IfOk result (λ walked. walked.kinds ≡ map (λ c. c.kind) self.now.survivors.catalog.columns) }
     {
         let loss = loss_of(&LOST);
-        let to = surviving_row_count(&self.catalog, loss, &self.survivors).min(to);
+        let survivors = &self.survivors;
+        let to = surviving_row_count(survivors, loss).min(to);
         walk_rows(
             alloc,
-            &self.catalog,
+            survivors.catalog(),
             loss,
-            &self.survivors,
+            survivors,
             from.min(to),
             to,
         )
@@ -152,14 +161,15 @@ fn shows(walked: &Walked, catalog: &Catalog, rows: &[[i64; 2]]) -> bool
 
 /// Walks the surviving rows. What survives is walked once more to see that it is as it was.
 pub fn walk(alloc: Global, before: u64) -> Result<Report> {
-    let rows = Rows::of(alloc)?;
+    let catalog = three_projections(alloc)?;
+    let rows = Rows::of(alloc, &catalog)?;
     let granted = allocate(alloc, before);
     if granted < before {
         return Ok(Report::Before(granted));
     }
     let answer = match rows.walk(alloc, 0, ALL) {
         Ok(walked) => {
-            if shows(&walked, &rows.catalog, &WALKED) {
+            if shows(&walked, rows.catalog(), &WALKED) {
                 Answer::Complete
             } else {
                 Answer::Wrong
@@ -170,7 +180,7 @@ pub fn walk(alloc: Global, before: u64) -> Result<Report> {
     };
     let report = Report::made(alloc, answer);
     let same = match rows.walk(alloc, 0, ALL) {
-        Ok(walked) => shows(&walked, &rows.catalog, &WALKED),
+        Ok(walked) => shows(&walked, rows.catalog(), &WALKED),
         Err(_) => false,
     };
     Ok(report.unless_changed(same))
@@ -178,7 +188,8 @@ pub fn walk(alloc: Global, before: u64) -> Result<Report> {
 
 /// Leaves out the later rows of each key.
 pub fn once(alloc: Global, before: u64) -> Result<Report> {
-    let rows = Rows::of(alloc)?;
+    let catalog = three_projections(alloc)?;
+    let rows = Rows::of(alloc, &catalog)?;
     let Ok(mut walked) = rows.walk(alloc, 0, ALL) else {
         return Err(anyhow!("the rows are not walked"));
     };
@@ -186,16 +197,17 @@ pub fn once(alloc: Global, before: u64) -> Result<Report> {
     if granted < before {
         return Ok(Report::Before(granted));
     }
-    let (answer, left): (Answer, &[[i64; 2]]) = match walked.once(&rows.catalog) {
+    let (answer, left): (Answer, &[[i64; 2]]) = match walked.once(rows.catalog()) {
         Ok(()) => (Answer::Complete, &ONCE),
         Err(_) => (Answer::Memory, &WALKED),
     };
-    Ok(Report::made(alloc, answer).unless_changed(shows(&walked, &rows.catalog, left)))
+    Ok(Report::made(alloc, answer).unless_changed(shows(&walked, rows.catalog(), left)))
 }
 
 /// Joins the rows of two parts of the walk.
 pub fn append(alloc: Global, before: u64) -> Result<Report> {
-    let rows = Rows::of(alloc)?;
+    let catalog = three_projections(alloc)?;
+    let rows = Rows::of(alloc, &catalog)?;
     let (Ok(mut walked), Ok(rest)) = (rows.walk(alloc, 0, 3), rows.walk(alloc, 3, ALL)) else {
         return Err(anyhow!("the rows are not walked"));
     };
@@ -207,5 +219,5 @@ pub fn append(alloc: Global, before: u64) -> Result<Report> {
         Ok(()) => (Answer::Complete, &WALKED),
         Err(_) => (Answer::Memory, &WALKED[..3]),
     };
-    Ok(Report::made(alloc, answer).unless_changed(shows(&walked, &rows.catalog, left)))
+    Ok(Report::made(alloc, answer).unless_changed(shows(&walked, rows.catalog(), left)))
 }

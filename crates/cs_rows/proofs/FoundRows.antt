@@ -27,7 +27,7 @@ use Rattle.cs_rows.specs.WalkByRows.{Reached, Found, found_from, source_in, is_f
 use Rattle.cs_rows.specs.RangeByRows.{is_stray_row, row_from, found_among}
 use Rattle.cs_rows.specs.Range.{IsWalkFault}
 use Rattle.cs_rows.specs.Columns.{ColumnsFit}
-use Rattle.cs_rows.specs.Survivors.{SurvivorsData, HoldsImages, contents_of, image_at, image_row, held}
+use Rattle.cs_rows.specs.Survivors.{SurvivorsData, contents_of, image_at, image_row, held}
 use Rattle.cs_rows.specs.RowSteps.{Stands, AllStand, IsSource, RowPushed, AreRows, IsStrayFault}
 use Rattle.cs_rows.specs.WalkedView.{row_of, rows_of, count_of, AreColumns}
 use Rattle.cs_rows.proofs.FirstLemmas.{first_at, none_before, first_holds, found_in, missing_in}
@@ -61,7 +61,7 @@ pub record SourceThere (C : CatalogData) (S : SurvivorsData) (F : Found) (c : �
 abbrev found_cell : CatalogData → Contents → ℕ → Reached → Value
 found_cell C S c r = image_cell C S r.0 c r.1
 
-module _ (C : CatalogData) (S : SurvivorsData) (F : Found) (made : HoldsImages C S) (stand : AllStand C (contents_of S) F) (c : ℕ) (there : c < length C.columns) (s : Source) (source : IsSource C F c s) where
+module _ (C : CatalogData) (S : SurvivorsData) (F : Found) (stand : AllStand C (contents_of S) F) (c : ℕ) (there : c < length C.columns) (s : Source) (source : IsSource C F c s) where
   pub source_stands : Stands C (contents_of S) s.row
   source_stands = first_holds (holds C F c) (Stands C (contents_of S)) F.reached s.row stand.reached source.first
 
@@ -71,11 +71,10 @@ module _ (C : CatalogData) (S : SurvivorsData) (F : Found) (made : HoldsImages C
       let first = position_first (λ e. e == c) (projection C s.row.0).columns 0 (found_in c (projection C s.row.0).columns below) in
       ap (slice_index (projection C s.row.0).columns) source.place ∙ eqb-true _ c first.1
 
-  pub source_there : (m : KindedImage) → image_at S s.row.0 s.row.1.0 ≡ Some m → SourceThere C S F c s m
-  source_there m e =
+  pub source_there : (m : KindedImage) → image_at S s.row.0 s.row.1.0 ≡ Some m → m.kinds ≡ kinds_at C s.row.0 → SourceThere C S F c s m
+  source_there m e kinds =
       let q : ℕ = s.row.0 in
       let st = source_stands in
-      let kinds : m.kinds ≡ kinds_at C q = made q s.row.1.0 m st.0 st.1.0 e in
       let wide : length m.kinds ≡ length (projection C q).columns = ap length kinds ∙ length-map-range_with_len (kind_at C q) 0 (length (projection C q).columns) in
       let read : Option Reached → Value = λ o. option_map_or (found_cell C (contents_of S) c) o (Value.Int (pos 0)) in
       record {
@@ -89,8 +88,12 @@ module _ (C : CatalogData) (S : SurvivorsData) (F : Found) (made : HoldsImages C
 
 -- ---- cells at the ends of columns
 
-pub pushed_more : (before now : List Cells) (row : Row) (i : ℕ) (cells new : Cells) → i < length now → RowPushed row before now i → ((k : ℕ) (d : Cells) → i ≤ k → get_or now k d ≡ get_or before k d) → cells ≡ get_or now i cells → kind_of new ≡ kind_of cells → values new ≡ values cells ++ cell row i ∷ [] → RowPushed row before (set now i new) (i + 1)
-pushed_more before now row i cells new h pushed rest read kind ok k d l =
+-- values stand at the end of each of the first n columns
+abbrev AreAdded : (ℕ → List Value) → List Cells → List Cells → ℕ → Type 0
+AreAdded added before after n = (c : ℕ) (d : Cells) → c < n → (kind_of (get_or after c d) ≡ kind_of (get_or before c d)) × (values (get_or after c d) ≡ values (get_or before c d) ++ added c)
+
+pub added_more : (added : ℕ → List Value) (before now : List Cells) (i : ℕ) (cells new : Cells) → i < length now → AreAdded added before now i → ((k : ℕ) (d : Cells) → i ≤ k → get_or now k d ≡ get_or before k d) → cells ≡ get_or now i cells → kind_of new ≡ kind_of cells → values new ≡ values cells ++ added i → AreAdded added before (set now i new) (i + 1)
+added_more added before now i cells new h pushed rest read kind ok k d l =
     ⊎_elim
     (λ (lt : k < i).
     let ne : k ≢ i = omega arith in
@@ -100,8 +103,11 @@ pushed_more before now row i cells new h pushed rest read kind ok k d l =
     let e : k ≡ i = omega arith in
     let at : get_or (set now i new) k d ≡ new = ap (λ (n : ℕ). get_or (set now i new) n d) e ∙ get_or-set_same now i new d h in
     let old : cells ≡ get_or before k d = get_or_read now i cells h read d ∙ ap (λ (n : ℕ). get_or now n d) (sym e) ∙ rest k d ge in
-    (ap kind_of at ∙ kind ∙ ap kind_of old, ap values at ∙ ok ∙ (λ j. values (old j) ++ cell row (sym e j) ∷ [])))
+    (ap kind_of at ∙ kind ∙ ap kind_of old, ap values at ∙ ok ∙ (λ j. values (old j) ++ added (sym e j))))
     (cases_lt k i)
+
+pub pushed_more : (before now : List Cells) (row : Row) (i : ℕ) (cells new : Cells) → i < length now → RowPushed row before now i → ((k : ℕ) (d : Cells) → i ≤ k → get_or now k d ≡ get_or before k d) → cells ≡ get_or now i cells → kind_of new ≡ kind_of cells → values new ≡ values cells ++ cell row i ∷ [] → RowPushed row before (set now i new) (i + 1)
+pushed_more before now row = added_more (λ c. cell row c ∷ []) before now
 
 pub fit_pushed : (C : CatalogData) (row : Row) (before after : List Cells) → length after ≡ length before → ColumnsFit C before → RowPushed row before after (length C.columns) → ColumnsFit C after
 fit_pushed C row before after e fit pushed = record { count = e ∙ fit.count; kinds = λ c d h. (pushed c d h).0 ∙ fit.kinds c d h }

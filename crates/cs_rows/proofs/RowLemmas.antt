@@ -18,7 +18,7 @@ use Rattle.cs_schema.proofs.Lists.{in_range, range_in}
 use Rattle.cs_delta.specs.KindedImage.{KindedImage, image_column}
 use Rattle.cs_segment.specs.SegmentData.{kinds_at}
 use Rattle.std.proofs.lemmas.List.FromFn.{get_or-map-range_with_len, length-map-range_with_len}
-use Rattle.cs_rows.specs.Survivors.{SurvivorsData, HoldsImages, contents_of, image_at, image_row, held}
+use Rattle.cs_rows.specs.Survivors.{SurvivorsData, contents_of, image_at, image_row, held}
 use Rattle.cs_rows.specs.Steps.{PlanFits}
 use Rattle.cs_rows.specs.Columns.{PlacesAre, read_of}
 
@@ -72,21 +72,20 @@ pub record ReadThere (C : CatalogData) (S : SurvivorsData) (P : PlanData) (row :
   pub kind : slice_index_or m.kinds j Kind.Int ≡ (column C c).kind
   pub value : cell (image_row m.image place.1) j ≡ walked_cell C (contents_of S) P row c
 
-module _ (C : CatalogData) (S : SurvivorsData) (P : PlanData) (row : At) (fits : PlanFits C P) (made : HoldsImages C S) where
+module _ (C : CatalogData) (S : SurvivorsData) (P : PlanData) (row : At) (fits : PlanFits C P) where
   column_at : (c : ℕ) → c < length C.columns → (read_of C P c).1 < length (projection C (read_of C P c).0).columns
   column_at c h = (position_first (λ d. d == c) (projection C (slice_index P.source c)).columns 0 (fits.holds c h)).0
 
   column_is : (c : ℕ) → c < length C.columns → slice_index (projection C (read_of C P c).0).columns (read_of C P c).1 ≡ c
   column_is c h = eqb-true _ c (position_first (λ d. d == c) (projection C (slice_index P.source c)).columns 0 (fits.holds c h)).1
 
-  pub read_there : (c : ℕ) → c < length C.columns → (places : List At) → PlacesAre C (contents_of S) P row places (length C.projections) → (m : KindedImage) → image_at S (read_of C P c).0 (slice_index_or places (read_of C P c).0 (0, 0)).0 ≡ Some m → ReadThere C S P row c (slice_index_or places (read_of C P c).0 (0, 0)) m (read_of C P c).1
-  read_there c h places are m e =
+  pub read_there : (c : ℕ) → c < length C.columns → (places : List At) → PlacesAre C (contents_of S) P row places (length C.projections) → (m : KindedImage) → image_at S (read_of C P c).0 (slice_index_or places (read_of C P c).0 (0, 0)).0 ≡ Some m → m.kinds ≡ kinds_at C (read_of C P c).0 → ReadThere C S P row c (slice_index_or places (read_of C P c).0 (0, 0)) m (read_of C P c).1
+  read_there c h places are m e kinds =
       let q : ℕ = slice_index P.source c in
       let j : ℕ = (read_of C P c).1 in
       let place : At = slice_index_or places q (0, 0) in
       let a = are q (fits.source c h) (fits.planned c h) in
       let i : place.1 < length m.image.pairs = subst (λ (o : Option KindedImage). place.1 < length (held o).pairs) e a.1.1 in
-      let kinds : m.kinds ≡ kinds_at C q = made q place.0 m (fits.source c h) a.1.0 e in
       let l : j < length (projection C q).columns = column_at c h in
       let wide : length m.kinds ≡ length (projection C q).columns = ap length kinds ∙ length-map-range_with_len (kind_at C q) 0 (length (projection C q).columns) in
       record {
@@ -96,6 +95,6 @@ module _ (C : CatalogData) (S : SurvivorsData) (P : PlanData) (row : At) (fits :
         value = sym (ap (λ (o : Option At). image_cell C (contents_of S) q c (unwrap_or o (0, 0))) a.0 ∙ ap (λ (o : Option KindedImage). cell (image_row (held o) place.1) j) e);
       }
 
-  pub read_there_as : (r : ℕ × ℕ) (c : ℕ) → r ≡ read_of C P c → c < length C.columns → (places : List At) → PlacesAre C (contents_of S) P row places (length C.projections) → (m : KindedImage) → image_at S r.0 (slice_index_or places r.0 (0, 0)).0 ≡ Some m → ReadThere C S P row c (slice_index_or places r.0 (0, 0)) m r.1
+  pub read_there_as : (r : ℕ × ℕ) (c : ℕ) → r ≡ read_of C P c → c < length C.columns → (places : List At) → PlacesAre C (contents_of S) P row places (length C.projections) → (m : KindedImage) → image_at S r.0 (slice_index_or places r.0 (0, 0)).0 ≡ Some m → m.kinds ≡ kinds_at C r.0 → ReadThere C S P row c (slice_index_or places r.0 (0, 0)) m r.1
   read_there_as r c e h places are =
-      subst (λ (x : ℕ × ℕ). (m : KindedImage) → image_at S x.0 (slice_index_or places x.0 (0, 0)).0 ≡ Some m → ReadThere C S P row c (slice_index_or places x.0 (0, 0)) m x.1) (sym e) (read_there c h places are)
+      subst (λ (x : ℕ × ℕ). (m : KindedImage) → image_at S x.0 (slice_index_or places x.0 (0, 0)).0 ≡ Some m → m.kinds ≡ kinds_at C x.0 → ReadThere C S P row c (slice_index_or places x.0 (0, 0)) m x.1) (sym e) (read_there c h places are)

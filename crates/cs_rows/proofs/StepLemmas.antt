@@ -15,7 +15,7 @@ use Rattle.cs_jix.specs.JoinIndex.{Place, entry_at}
 use Rattle.cs_rows.specs.Walk.{Contents, At, landed, entry_of, follow, stands}
 use Rattle.cs_safety.specs.PlanData.{PlanData, prev_of}
 use Rattle.cs_jix.specs.Follow.{landed_in, followed}
-use Rattle.cs_rows.specs.Survivors.{SurvivorsData, HasRoom, contents_of, images_of, image_at, join_at, held}
+use Rattle.cs_rows.specs.Survivors.{SurvivorsData, contents_of, images_of, image_at, join_at, held}
 use Rattle.cs_rows.specs.Steps.{IsAt}
 
 abbrev at_position : Place → ℕ → At
@@ -31,10 +31,9 @@ at_image : (o : Option KindedImage) (e : Place) → option_and_then (placed_at e
 at_image None e = refl
 at_image (Some m) e = refl
 
-module _ (C : CatalogData) (S : SurvivorsData) (room : HasRoom C S) where
-  pub landed_same : (q : ℕ) → q < length C.projections → (e : Place) → landed_in (images_of S q) e ≡ landed C (contents_of S) q e
-  landed_same q h e =
-      let n : length (images_of S q) ≡ segments C q = room.segments_of_images q h in
+module _ (C : CatalogData) (S : SurvivorsData) where
+  pub landed_same : (q : ℕ) → length (images_of S q) ≡ segments C q → (e : Place) → landed_in (images_of S q) e ≡ landed C (contents_of S) q e
+  landed_same q n e =
       let there : Option KindedImage → Option (ℕ × ℕ) = λ o. option_and_then (placed_at e) o in
       let inside : Option (ℕ × ℕ) = placed_in e (held (image_at S q e.0)) in
       ⊎_elim
@@ -48,11 +47,11 @@ module _ (C : CatalogData) (S : SurvivorsData) (room : HasRoom C S) where
       ∙ sym (ap (λ (t : Bool). cond t inside None) (le-ltb e.0 (segments C q) ge)))
       (cases_lt e.0 (segments C q))
 
-  both_landed : (q : ℕ) → q < length C.projections → (o : Option Place) → option_and_then (landed_in (images_of S q)) o ≡ option_and_then (landed C (contents_of S) q) o
+  both_landed : (q : ℕ) → length (images_of S q) ≡ segments C q → (o : Option Place) → option_and_then (landed_in (images_of S q)) o ≡ option_and_then (landed C (contents_of S) q) o
   both_landed q h None = refl
   both_landed q h (Some e) = landed_same q h e
 
-  pub follow_is : (p q : ℕ) (at : At) (m : KindedImage) (es : List Place) → q < length C.projections → image_at S p at.0 ≡ Some m → join_at S p at.0 q ≡ Some es → followed es (slice_index (image_keys m.image) at.1) (images_of S q) ≡ follow C (contents_of S) p q at
+  pub follow_is : (p q : ℕ) (at : At) (m : KindedImage) (es : List Place) → length (images_of S q) ≡ segments C q → image_at S p at.0 ≡ Some m → join_at S p at.0 q ≡ Some es → followed es (slice_index (image_keys m.image) at.1) (images_of S q) ≡ follow C (contents_of S) p q at
   follow_is p q at m es h i j =
       both_landed q h (entry_at es (slice_index (image_keys m.image) at.1))
       ∙ sym (λ k. option_and_then (landed C (contents_of S) q) (entry_at (unwrap_or (j k) []) (slice_index (image_keys (held (i k))) at.1)))

@@ -7,7 +7,7 @@ use Rattle.std.proofs.lemmas.List.{length-map, get_or-map}
 use Rattle.std.proofs.lemmas.List.FromFn.{fill_by_all, get_or-map-range_with_len, length-map-range_with_len}
 use Rattle.cs_schema.specs.declared.cells.Value.{Value}
 use Rattle.cs_schema.specs.declared.kinds.Kind.{Kind}
-use Rattle.cs_schema.specs.CatalogData.{CatalogData, column, projection, segments, kind_at}
+use Rattle.cs_schema.specs.CatalogData.{CatalogData, column, projection, kind_at}
 use Rattle.cs_schema.specs.Rows.{Row, cell}
 use Rattle.cs_schema.proofs.Lists.{flat_more}
 use Rattle.cs_segment.specs.SegmentData.{kinds_at}
@@ -16,7 +16,7 @@ use Rattle.cs_delta.specs.KindedImage.{KindedImage, image_column}
 use Rattle.cs_safety.specs.PlanData.{PlanData, is_planned}
 use Rattle.cs_safety.specs.Paths.{holds_column}
 use Rattle.cs_rows.specs.Walk.{Contents, At, stand, is_astray, image_cell, walked_cell, walked_row, segment_rows}
-use Rattle.cs_rows.specs.Survivors.{SurvivorsData, HoldsImages, contents_of, image_at, held}
+use Rattle.cs_rows.specs.Survivors.{SurvivorsData, contents_of, image_at, held}
 use Rattle.cs_rows.specs.Steps.{PlanFits}
 use Rattle.cs_rows.specs.Routes.{IsRoute}
 use Rattle.cs_rows.proofs.RangeLemmas.{in_segment, done, map_append}
@@ -82,28 +82,27 @@ module _ (C : CatalogData) (S : Contents) (P : PlanData) (c : ℕ) where
         ∙ sym (ap (map f) (flat_more (segment_rows S P.anchor) 0 s ∙ ap (λ (k : ℕ). done S P.anchor s ++ segment_rows S P.anchor k) z) ∙ map_append f (done S P.anchor s) (segment_rows S P.anchor s))
 
 -- the column of the table stands at its place in each image of the anchor
-module _ (C : CatalogData) (S : SurvivorsData) (P : PlanData) (fits : PlanFits C P) (made : HoldsImages C S) (c : ℕ) (h : c < length C.columns) (here : slice_index P.source c ≡ P.anchor) where
+module _ (C : CatalogData) (S : SurvivorsData) (P : PlanData) (fits : PlanFits C P) (c : ℕ) (h : c < length C.columns) (here : slice_index P.source c ≡ P.anchor) where
   found : (place C P c < length (projection C P.anchor).columns) × ((get_or (projection C P.anchor).columns (place C P c) 0 == c) ≡ true)
   found = position_first (λ d. d == c) (projection C P.anchor).columns 0 (subst (λ (q : ℕ). IsTrue (holds_column C q c)) here (fits.holds c h))
 
-  pub column_there : (s : ℕ) (m : KindedImage) → s < segments C P.anchor → image_at S P.anchor s ≡ Some m
+  pub column_there : (m : KindedImage) → m.kinds ≡ kinds_at C P.anchor
       → (place C P c < length m.kinds) × (slice_index_or m.kinds (place C P c) Kind.Int ≡ (column C c).kind)
-  column_there s m l e =
+  column_there m kinds =
       let j : ℕ = place C P c in
       let n : ℕ = length (projection C P.anchor).columns in
       let b : j < n = found.0 in
-      let kinds : m.kinds ≡ kinds_at C P.anchor = made P.anchor s m fits.anchor l e in
       let wide : length m.kinds ≡ n = ap length kinds ∙ length-map-range_with_len (kind_at C P.anchor) 0 n in (
         omega (arith, wide, b),
         ap (λ (ks : List Kind). slice_index_or ks j Kind.Int) kinds ∙ get_or-map-range_with_len (kind_at C P.anchor) 0 n j j Kind.Int b (zero-add j) ∙ ap (λ (x : ℕ). (column C x).kind) (eqb-true _ c found.1),
       )
 
   -- the same by the names that a copy has for the anchor and the place
-  pub column_of_image : (q j s : ℕ) (m : KindedImage) → q ≡ P.anchor → j ≡ place C P c → s < segments C P.anchor → image_at S q s ≡ Some m
+  pub column_of_image : (q j s : ℕ) (m : KindedImage) → q ≡ P.anchor → j ≡ place C P c → image_at S q s ≡ Some m → m.kinds ≡ kinds_at C q
       → (j < length m.kinds) × (slice_index_or m.kinds j Kind.Int ≡ (column C c).kind) × (image_column m.image j ≡ image_column ((contents_of S).image P.anchor s) (place C P c))
-  column_of_image q j s m a b l e =
+  column_of_image q j s m a b e kinds =
       let f : image_at S P.anchor s ≡ Some m = subst (λ (p : ℕ). image_at S p s ≡ Some m) a e in
-      let there = column_there s m l f in (
+      let there = column_there m (kinds ∙ ap (kinds_at C) a) in (
         subst (λ (k : ℕ). k < length m.kinds) (sym b) there.0,
         ap (λ (k : ℕ). slice_index_or m.kinds k Kind.Int) b ∙ there.1,
         ap (image_column m.image) b ∙ ap (λ (o : Option KindedImage). image_column (held o) (place C P c)) (sym f),

@@ -8,9 +8,7 @@ use Rattle.cs_safety.specs.PlanData.{PlanData}
 use Rattle.cs_rows.specs.Walk.{Contents, At, is_astray, stand, walked_cell}
 use Rattle.cs_safety.specs.PlanData.{is_planned}
 use Rattle.cs_rows.specs.Steps.{IsAt}
-use Rattle.cs_rows.specs.Routes.{IsRoute}
 use Rattle.cs_rows.specs.declared.range.WalkFault.{WalkFault}
-use Rattle.cs_rows.specs.declared.range.Desk.{Desk}
 
 -- where the walk of a row stands in each of the first n projections that the plan reaches
 abbrev pub PlacesAre : CatalogData → Contents → PlanData → At → List At → ℕ → Type 0
@@ -20,15 +18,18 @@ PlacesAre C S P row places n = (q : ℕ) → q < n → is_planned P q ≡ true �
 abbrev pub ArePlaces : CatalogData → Contents → PlanData → ℕ → ℕ → List (List At) → Type 0
 ArePlaces C S P s start block = (k : ℕ) → k < length block → PlacesAre C S P (s, start + k) (slice_index_or block k []) (length C.projections)
 
+-- the places of some rows of a segment
+abbrev pub AreSomePlaces : CatalogData → Contents → PlanData → List (List At) → Type 0
+AreSomePlaces C S P block = (first : At) × ArePlaces C S P first.0 first.1 block
+
 -- the projection from which a column is read, and its number there
 abbrev pub read_of : CatalogData → PlanData → ℕ → ℕ × ℕ
 read_of C P c = (slice_index P.source c, position_or_len (λ d. d == c) (projection C (slice_index P.source c)).columns)
 
--- where each column is read, and the route of the plan
-pub record IsDesk (C : CatalogData) (P : PlanData) (desk : Desk) : Type 0 where
-  pub count : length desk.reads.items ≡ length C.columns
-  pub reads : (c : ℕ) → c < length C.columns → slice_index_or desk.reads.items c (0, 0) ≡ read_of C P c
-  pub route : IsRoute C P desk.route.items
+-- where each column of the table is read
+pub record AreReads (C : CatalogData) (P : PlanData) (reads : List (ℕ × ℕ)) : Type 0 where
+  pub count : length reads ≡ length C.columns
+  pub each : (c : ℕ) → c < length C.columns → slice_index_or reads c (0, 0) ≡ read_of C P c
 
 -- the cells of some rows stand at the end of each of the first n columns
 abbrev pub Pushed : CatalogData → Contents → PlanData → List At → List Cells → List Cells → ℕ → Type 0

@@ -62,6 +62,16 @@ pub record IsSource (C : CatalogData) (F : Found) (c : ℕ) (source : Source) : 
 abbrev pub AreSources : CatalogData → Found → List Source → ℕ → Type 0
 AreSources C F sources n = (c : ℕ) (d : Source) → c < n → IsSource C F c (slice_index_or sources c d)
 
+-- where each column of a full row is read, which was found through rows that stand in images
+pub record AreSourcesOf (C : CatalogData) (S : Contents) (F : Found) (sources : List Source) : Type 0 where
+  pub count : length sources ≡ length C.columns
+  pub stand : AllStand C S F
+  pub each : AreSources C F sources (length C.columns)
+
+-- where the columns of some full row are read
+abbrev pub AreSomeSources : CatalogData → Contents → List Source → Type 0
+AreSomeSources C S sources = (F : Found) × AreSourcesOf C S F sources
+
 -- the cells of a row stand at the end of each of the first n columns
 abbrev pub RowPushed : Row → List Cells → List Cells → ℕ → Type 0
 RowPushed row before after n = (c : ℕ) (d : Cells) → c < n → (kind_of (slice_index_or after c d) ≡ kind_of (slice_index_or before c d)) × (values (slice_index_or after c d) ≡ values (slice_index_or before c d) ++ cell row c ∷ [])

@@ -1,4 +1,4 @@
--- What has been read of the surviving segments: images and join indexes, where they are there.
+-- What has been read of the surviving segments of a catalog's store: images and join indexes, where they are there.
 use Rattle.std.specs.Prelude.{ℕ, ◌≡◌, ◌+◌, ◌<◌, List, [], map, length, replicate, slice_index_or, slice_set, Option, Some, None}
 use Rattle.std.specs.Option.{unwrap_or}
 use Rattle.cs_schema.specs.declared.cells.Value.{Value}
@@ -10,6 +10,7 @@ use Rattle.cs_jix.specs.JoinIndex.{Place}
 use Rattle.cs_rows.specs.Walk.{Contents}
 
 pub record SurvivorsData : Type 0 where
+  pub catalog : CatalogData
   pub images : List (List (Option KindedImage))
   pub joins : List (List (List (Option (List Place))))
 
@@ -55,6 +56,11 @@ pub record HasRoom (C : CatalogData) (S : SurvivorsData) : Type 0 where
 abbrev pub HoldsImages : CatalogData → SurvivorsData → Type 0
 HoldsImages C S = (p s : ℕ) (m : KindedImage) → p < length C.projections → s < segments C p → image_at S p s ≡ Some m → m.kinds ≡ kinds_at C p
 
+-- what is true of all survivors
+pub record AreSurvivors (S : SurvivorsData) : Type 0 where
+  pub room : HasRoom S.catalog S
+  pub kinds : HoldsImages S.catalog S
+
 abbrev pub no_images : ProjectionData → List (Option KindedImage)
 no_images P = replicate (length P.cuts + 1) None
 
@@ -63,7 +69,7 @@ no_joins count P = replicate (length P.cuts + 1) (replicate count None)
 
 -- room for each name of a catalog, and nothing there
 abbrev pub no_survivors : CatalogData → SurvivorsData
-no_survivors C = record { images = map no_images C.projections; joins = map (no_joins (length C.projections)) C.projections }
+no_survivors C = record { catalog = C; images = map no_images C.projections; joins = map (no_joins (length C.projections)) C.projections }
 
 abbrev pub with_image : SurvivorsData → ℕ → ℕ → KindedImage → SurvivorsData
 with_image S p s m = record S { images = slice_set S.images p (slice_set (images_of S p) s (Some m)) }

@@ -4,16 +4,18 @@ ghost use Rattle.std.specs.List.{find, filter_map};
 ghost use Rattle.cs_schema.specs.CatalogData.{segments};
 ghost use Rattle.cs_schema.specs.CatalogRules.{IsCatalog};
 ghost use Rattle.cs_schema.specs.Rows.{Row};
-ghost use Rattle.cs_rows.specs.Survivors.{HasRoom, HoldsImages, contents_of};
+ghost use Rattle.cs_rows.specs.Survivors.{contents_of};
 ghost use Rattle.cs_rows.specs.Columns.{ColumnsFit};
 ghost use Rattle.cs_rows.specs.Range.{IsWalkFault};
-ghost use Rattle.cs_rows.specs.WalkByRows.{source_in, is_full, found_row};
+ghost use Rattle.cs_rows.specs.WalkByRows.{Found, source_in, is_full, found_row};
 ghost use Rattle.cs_rows.specs.RangeByRows.{is_stray_row, row_from, surviving_between, found_among};
-ghost use Rattle.cs_rows.specs.RowSteps.{Stands, AllStand, IsSource, AreSources, RowPushed, AreRows, reached_from, projection_kept, IsStrayFault};
+ghost use Rattle.cs_rows.specs.RowSteps.{Stands, IsSource, AreSources, AreSourcesOf, AreSomeSources, RowPushed, AreRows, reached_from, projection_kept, IsStrayFault};
 
+use crate::catalog_of;
+use crate::catalog_of::columns_of;
 use crate::counts::{kept_in_projection, kept_in_segment};
-use crate::levels::{Finding, Landed, walk_from};
-use crate::numbers::{column_count, columns_of, projection_count};
+use crate::levels::{Finding, Landed, RowWalk, walk_from};
+use crate::numbers::{column_count, projection_count};
 use crate::range::{WalkFault, new_columns, place_in, push_cell};
 use crate::survivors::Survivors;
 use crate::walked::Walked;
@@ -57,12 +59,12 @@ fn new_desk(alloc: Global, catalog: &Catalog) -> Result<Desk, AllocError>
 }
 
 /// Where a column of a found row is read, if a projection with it is reached.
-fn first_source(catalog: &Catalog, finding: &Finding, c: usize) -> Option<Source>
-    requires { All (λ row. row.0 < length catalog.now.projections) finding.now.reached }
-    ensures { MatchOption result (source_in catalog.now finding.now c ≡ None) (IsSource catalog.now finding.now c) }
+fn first_source(survivors: &Survivors<'_>, finding: &Finding, c: usize) -> Option<Source>
+    requires { All (λ row. row.0 < length survivors.now.catalog.projections) finding.now.reached }
+    ensures { MatchOption result (source_in survivors.now.catalog finding.now c ≡ None) (IsSource survivors.now.catalog finding.now c) }
 {
     for row in finding.reached() {
-        let columns = columns_of(catalog, row.0 as usize);
+        let columns = columns_of(survivors, row.0 as usize);
         let place = place_in(columns, c);
         if place < columns.len() {
             return Some(Source { row: *row, place });
@@ -72,14 +74,14 @@ fn first_source(catalog: &Catalog, finding: &Finding, c: usize) -> Option<Source
 }
 
 /// Finds where each column of a found row is read. Tells whether the row is full.
-fn find_sources(catalog: &Catalog, finding: &Finding, sources: &mut [Source]) -> bool
-    requires there { All (λ row. row.0 < length catalog.now.projections) finding.now.reached }
-    requires room { length sources.old ≡ length catalog.now.columns }
-    ensures full { result ≡ is_full catalog.now finding.now }
-    ensures sources { result ≡ true → AreSources catalog.now finding.now sources.new (length catalog.now.columns) }
+fn find_sources(survivors: &Survivors<'_>, finding: &Finding, sources: &mut [Source]) -> bool
+    requires there { All (λ row. row.0 < length survivors.now.catalog.projections) finding.now.reached }
+    requires room { length sources.old ≡ length survivors.now.catalog.columns }
+    ensures full { result ≡ is_full survivors.now.catalog finding.now }
+    ensures sources { result ≡ true → AreSources survivors.now.catalog finding.now sources.new (length survivors.now.catalog.columns) }
 {
     for c in 0..sources.len() {
-        match first_source(catalog, finding, c) {
+        match first_source(survivors, finding, c) {
             Some(source) => sources[c] = source,
             None => return false,
         }
@@ -89,20 +91,14 @@ fn find_sources(catalog: &Catalog, finding: &Finding, sources: &mut [Source]) ->
 
 /// Puts the cells of a full row at the ends of the columns.
 fn push_row(
-    catalog: &Catalog,
-    survivors: &Survivors,
-    finding: &Finding,
+    survivors: &Survivors<'_>,
     sources: &[Source],
     columns: &mut Vec<Cells>,
 ) -> Result<(), AllocError>
-    requires room { HasRoom catalog.now survivors.now }
-    requires made { HoldsImages catalog.now survivors.now }
-    requires stand { AllStand catalog.now (contents_of survivors.now) finding.now }
-    requires count { length sources.now ≡ length catalog.now.columns }
-    requires sources { AreSources catalog.now finding.now sources.now (length catalog.now.columns) }
-    requires columns { ColumnsFit catalog.now columns.old.items }
+    requires sources { AreSomeSources survivors.now.catalog (contents_of survivors.now) sources.now }
+    requires columns { ColumnsFit survivors.now.catalog columns.old.items }
     ensures count { length columns.new.items ≡ length columns.old.items }
-    ensures ok { OnOk result (RowPushed (found_row catalog.now (contents_of survivors.now) finding.now) columns.old.items columns.new.items (length catalog.now.columns)) }
+    ensures ok { OnOk result ((finding : Found) → AreSourcesOf survivors.now.catalog (contents_of survivors.now) finding sources.now → RowPushed (found_row survivors.now.catalog (contents_of survivors.now) finding) columns.old.items columns.new.items (length survivors.now.catalog.columns)) }
 {
     for c in 0..columns.len() {
         let source = sources[c];
@@ -115,159 +111,124 @@ fn push_row(
     Ok(())
 }
 
-/// Walks from one row, and adds what it finds if that is full.
-fn walk_row(
-    catalog: &Catalog,
-    loss: Loss,
-    survivors: &Survivors,
-    row: (u16, (u16, u32)),
-    desk: &mut Desk,
-    columns: &mut Vec<Cells>,
-) -> Result<(), WalkFault>
-    requires room { HasRoom catalog.now survivors.now }
-    requires made { HoldsImages catalog.now survivors.now }
-    requires row { Stands catalog.now (contents_of survivors.now) row }
-    requires desk { length desk.old.sources.items ≡ length catalog.now.columns }
-    requires columns { ColumnsFit catalog.now columns.old.items }
-    ensures desk { length desk.new.sources.items ≡ length catalog.now.columns }
-    ensures fit { OnOk result (ColumnsFit catalog.now columns.new.items) }
-    ensures sound { OnOk result (find (is_stray_row catalog.now loss (contents_of survivors.now)) (row ∷ []) ≡ None) }
-    ensures cells { OnOk result ((rows : List Row) → AreRows catalog.now rows columns.old.items → AreRows catalog.now (rows ++ filter_map (row_from catalog.now loss (contents_of survivors.now)) (row ∷ [])) columns.new.items) }
-    ensures fault { IfErr result (IsStrayFault catalog.now loss (contents_of survivors.now) (row ∷ [])) }
-{
-    if !walk_from(
-        catalog,
-        loss,
-        survivors,
-        row,
-        &mut desk.finding,
-        &mut desk.landings,
-    )? {
-        return Err(WalkFault::Astray {
-            p: row.0,
-            s: row.1.0,
-            row: row.1.1,
-        });
-    }
-    if find_sources(catalog, &desk.finding, desk.sources.as_mut_slice()) {
-        push_row(
-            catalog,
-            survivors,
-            &desk.finding,
-            desk.sources.as_slice(),
-            columns,
-        )?;
-    }
-    Ok(())
-}
-
-/// Walks from the rows of a segment, from the first number up to the second.
-fn walk_segment(
-    catalog: &Catalog,
-    loss: Loss,
-    survivors: &Survivors,
-    segment: (u16, u16),
-    rows: (u32, u32),
-    desk: &mut Desk,
-    columns: &mut Vec<Cells>,
-) -> Result<(), WalkFault>
-    requires room { HasRoom catalog.now survivors.now }
-    requires made { HoldsImages catalog.now survivors.now }
-    requires desk { length desk.old.sources.items ≡ length catalog.now.columns }
-    requires columns { ColumnsFit catalog.now columns.old.items }
-    requires projection { segment.0 < length catalog.now.projections }
-    requires segment { segment.1 < segments catalog.now segment.0 }
-    requires order { rows.0 ≤ rows.1 }
-    requires within { rows.1 ≤ length ((contents_of survivors.now).image segment.0 segment.1).pairs }
-    ensures desk { length desk.new.sources.items ≡ length catalog.now.columns }
-    ensures fit { OnOk result (ColumnsFit catalog.now columns.new.items) }
-    ensures sound { OnOk result (find (is_stray_row catalog.now loss (contents_of survivors.now)) (reached_from segment.0 segment.1 rows.0 (rows.1 - rows.0)) ≡ None) }
-    ensures cells { OnOk result ((found : List Row) → AreRows catalog.now found columns.old.items → AreRows catalog.now (found ++ filter_map (row_from catalog.now loss (contents_of survivors.now)) (reached_from segment.0 segment.1 rows.0 (rows.1 - rows.0))) columns.new.items) }
-    ensures fault { IfErr result (IsStrayFault catalog.now loss (contents_of survivors.now) (reached_from segment.0 segment.1 rows.0 (rows.1 - rows.0))) }
-{
-    for i in rows.0..rows.1 {
-        let row = (segment.0, (segment.1, i));
-        match walk_row(catalog, loss, survivors, row, desk, columns) {
-            Ok(()) => {}
-            Err(fault) => return Err(fault),
+impl RowWalk<'_> {
+    /// Walks from one row, and adds what it finds if that is full.
+    fn walk_row(
+        &self,
+        row: (u16, (u16, u32)),
+        desk: &mut Desk,
+        columns: &mut Vec<Cells>,
+    ) -> Result<(), WalkFault>
+        requires row { Stands self.now.survivors.now.catalog (contents_of self.now.survivors.now) row }
+        requires desk { length desk.old.sources.items ≡ length self.now.survivors.now.catalog.columns }
+        requires columns { ColumnsFit self.now.survivors.now.catalog columns.old.items }
+        ensures desk { length desk.new.sources.items ≡ length self.now.survivors.now.catalog.columns }
+        ensures fit { OnOk result (ColumnsFit self.now.survivors.now.catalog columns.new.items) }
+        ensures sound { OnOk result (find (is_stray_row self.now.survivors.now.catalog self.now.loss (contents_of self.now.survivors.now)) (row ∷ []) ≡ None) }
+        ensures cells { OnOk result ((rows : List Row) → AreRows self.now.survivors.now.catalog rows columns.old.items → AreRows self.now.survivors.now.catalog (rows ++ filter_map (row_from self.now.survivors.now.catalog self.now.loss (contents_of self.now.survivors.now)) (row ∷ [])) columns.new.items) }
+        ensures fault { IfErr result (IsStrayFault self.now.survivors.now.catalog self.now.loss (contents_of self.now.survivors.now) (row ∷ [])) }
+    {
+        if !walk_from(self, row, &mut desk.finding, &mut desk.landings)? {
+            return Err(WalkFault::Astray {
+                p: row.0,
+                s: row.1.0,
+                row: row.1.1,
+            });
         }
-    }
-    Ok(())
-}
-
-/// Walks from the surviving rows of a projection numbered from..to.
-fn walk_projection(
-    catalog: &Catalog,
-    loss: Loss,
-    survivors: &Survivors,
-    p: u16,
-    range: (usize, usize),
-    desk: &mut Desk,
-    columns: &mut Vec<Cells>,
-) -> Result<(), WalkFault>
-    requires room { HasRoom catalog.now survivors.now }
-    requires made { HoldsImages catalog.now survivors.now }
-    requires desk { length desk.old.sources.items ≡ length catalog.now.columns }
-    requires columns { ColumnsFit catalog.now columns.old.items }
-    requires projection { p < length catalog.now.projections }
-    requires order { range.0 ≤ range.1 }
-    ensures desk { length desk.new.sources.items ≡ length catalog.now.columns }
-    ensures fit { OnOk result (ColumnsFit catalog.now columns.new.items) }
-    ensures sound { OnOk result (find (is_stray_row catalog.now loss (contents_of survivors.now)) (drop range.0 (take range.1 (projection_kept catalog.now loss (contents_of survivors.now) p))) ≡ None) }
-    ensures cells { OnOk result ((found : List Row) → AreRows catalog.now found columns.old.items → AreRows catalog.now (found ++ filter_map (row_from catalog.now loss (contents_of survivors.now)) (drop range.0 (take range.1 (projection_kept catalog.now loss (contents_of survivors.now) p)))) columns.new.items) }
-    ensures fault { IfErr result (IsStrayFault catalog.now loss (contents_of survivors.now) (drop range.0 (take range.1 (projection_kept catalog.now loss (contents_of survivors.now) p)))) }
-{
-    let mut first: usize = 0;
-    for s in 0..catalog.segments(p) {
-        let count = kept_in_segment(catalog, loss, survivors, p, s) as usize;
-        let start = range.0.saturating_sub(first).min(count);
-        let end = range.1.saturating_sub(first).min(count);
-        match walk_segment(
-            catalog,
-            loss,
-            survivors,
-            (p, s),
-            (start as u32, end as u32),
-            desk,
-            columns,
-        ) {
-            Ok(()) => {}
-            Err(fault) => return Err(fault),
+        if find_sources(self.survivors, &desk.finding, desk.sources.as_mut_slice()) {
+            push_row(self.survivors, desk.sources.as_slice(), columns)?;
         }
-        first += count;
+        Ok(())
     }
-    Ok(())
-}
 
-/// Walks from the surviving rows numbered from..to, through all projections.
-fn walk_projections(
-    catalog: &Catalog,
-    loss: Loss,
-    survivors: &Survivors,
-    range: (usize, usize),
-    desk: &mut Desk,
-    columns: &mut Vec<Cells>,
-) -> Result<(), WalkFault>
-    requires room { HasRoom catalog.now survivors.now }
-    requires made { HoldsImages catalog.now survivors.now }
-    requires desk { length desk.old.sources.items ≡ length catalog.now.columns }
-    requires columns { ColumnsFit catalog.now columns.old.items }
-    requires order { range.0 ≤ range.1 }
-    ensures fit { OnOk result (ColumnsFit catalog.now columns.new.items) }
-    ensures sound { OnOk result (find (is_stray_row catalog.now loss (contents_of survivors.now)) (surviving_between catalog.now loss (contents_of survivors.now) range.0 range.1) ≡ None) }
-    ensures cells { OnOk result ((found : List Row) → AreRows catalog.now found columns.old.items → AreRows catalog.now (found ++ filter_map (row_from catalog.now loss (contents_of survivors.now)) (surviving_between catalog.now loss (contents_of survivors.now) range.0 range.1)) columns.new.items) }
-    ensures fault { IfErr result (IsStrayFault catalog.now loss (contents_of survivors.now) (surviving_between catalog.now loss (contents_of survivors.now) range.0 range.1)) }
-{
-    let mut first: usize = 0;
-    for p in 0..catalog.projection_count() {
-        let within = (range.0.saturating_sub(first), range.1.saturating_sub(first));
-        match walk_projection(catalog, loss, survivors, p, within, desk, columns) {
-            Ok(()) => {}
-            Err(fault) => return Err(fault),
+    /// Walks from the rows of a segment, from the first number up to the second.
+    fn walk_segment(
+        &self,
+        segment: (u16, u16),
+        rows: (u32, u32),
+        desk: &mut Desk,
+        columns: &mut Vec<Cells>,
+    ) -> Result<(), WalkFault>
+        requires desk { length desk.old.sources.items ≡ length self.now.survivors.now.catalog.columns }
+        requires columns { ColumnsFit self.now.survivors.now.catalog columns.old.items }
+        requires projection { segment.0 < length self.now.survivors.now.catalog.projections }
+        requires segment { segment.1 < segments self.now.survivors.now.catalog segment.0 }
+        requires order { rows.0 ≤ rows.1 }
+        requires within { rows.1 ≤ length ((contents_of self.now.survivors.now).image segment.0 segment.1).pairs }
+        ensures desk { length desk.new.sources.items ≡ length self.now.survivors.now.catalog.columns }
+        ensures fit { OnOk result (ColumnsFit self.now.survivors.now.catalog columns.new.items) }
+        ensures sound { OnOk result (find (is_stray_row self.now.survivors.now.catalog self.now.loss (contents_of self.now.survivors.now)) (reached_from segment.0 segment.1 rows.0 (rows.1 - rows.0)) ≡ None) }
+        ensures cells { OnOk result ((found : List Row) → AreRows self.now.survivors.now.catalog found columns.old.items → AreRows self.now.survivors.now.catalog (found ++ filter_map (row_from self.now.survivors.now.catalog self.now.loss (contents_of self.now.survivors.now)) (reached_from segment.0 segment.1 rows.0 (rows.1 - rows.0))) columns.new.items) }
+        ensures fault { IfErr result (IsStrayFault self.now.survivors.now.catalog self.now.loss (contents_of self.now.survivors.now) (reached_from segment.0 segment.1 rows.0 (rows.1 - rows.0))) }
+    {
+        for i in rows.0..rows.1 {
+            let row = (segment.0, (segment.1, i));
+            match self.walk_row(row, desk, columns) {
+                Ok(()) => {}
+                Err(fault) => return Err(fault),
+            }
         }
-        first += kept_in_projection(catalog, loss, survivors, p);
+        Ok(())
     }
-    Ok(())
+
+    /// Walks from the surviving rows of a projection numbered from..to.
+    fn walk_projection(
+        &self,
+        p: u16,
+        range: (usize, usize),
+        desk: &mut Desk,
+        columns: &mut Vec<Cells>,
+    ) -> Result<(), WalkFault>
+        requires desk { length desk.old.sources.items ≡ length self.now.survivors.now.catalog.columns }
+        requires columns { ColumnsFit self.now.survivors.now.catalog columns.old.items }
+        requires projection { p < length self.now.survivors.now.catalog.projections }
+        requires order { range.0 ≤ range.1 }
+        ensures desk { length desk.new.sources.items ≡ length self.now.survivors.now.catalog.columns }
+        ensures fit { OnOk result (ColumnsFit self.now.survivors.now.catalog columns.new.items) }
+        ensures sound { OnOk result (find (is_stray_row self.now.survivors.now.catalog self.now.loss (contents_of self.now.survivors.now)) (drop range.0 (take range.1 (projection_kept self.now.survivors.now.catalog self.now.loss (contents_of self.now.survivors.now) p))) ≡ None) }
+        ensures cells { OnOk result ((found : List Row) → AreRows self.now.survivors.now.catalog found columns.old.items → AreRows self.now.survivors.now.catalog (found ++ filter_map (row_from self.now.survivors.now.catalog self.now.loss (contents_of self.now.survivors.now)) (drop range.0 (take range.1 (projection_kept self.now.survivors.now.catalog self.now.loss (contents_of self.now.survivors.now) p)))) columns.new.items) }
+        ensures fault { IfErr result (IsStrayFault self.now.survivors.now.catalog self.now.loss (contents_of self.now.survivors.now) (drop range.0 (take range.1 (projection_kept self.now.survivors.now.catalog self.now.loss (contents_of self.now.survivors.now) p)))) }
+    {
+        let mut first: usize = 0;
+        for s in 0..catalog_of::segments(self.survivors, p) {
+            let count = kept_in_segment(self.survivors, self.loss, p, s) as usize;
+            let start = range.0.saturating_sub(first).min(count);
+            let end = range.1.saturating_sub(first).min(count);
+            match self.walk_segment((p, s), (start as u32, end as u32), desk, columns) {
+                Ok(()) => {}
+                Err(fault) => return Err(fault),
+            }
+            first += count;
+        }
+        Ok(())
+    }
+
+    /// Walks from the surviving rows numbered from..to, through all projections.
+    fn walk_projections(
+        &self,
+        range: (usize, usize),
+        desk: &mut Desk,
+        columns: &mut Vec<Cells>,
+    ) -> Result<(), WalkFault>
+        requires desk { length desk.old.sources.items ≡ length self.now.survivors.now.catalog.columns }
+        requires columns { ColumnsFit self.now.survivors.now.catalog columns.old.items }
+        requires order { range.0 ≤ range.1 }
+        ensures fit { OnOk result (ColumnsFit self.now.survivors.now.catalog columns.new.items) }
+        ensures sound { OnOk result (find (is_stray_row self.now.survivors.now.catalog self.now.loss (contents_of self.now.survivors.now)) (surviving_between self.now.survivors.now.catalog self.now.loss (contents_of self.now.survivors.now) range.0 range.1) ≡ None) }
+        ensures cells { OnOk result ((found : List Row) → AreRows self.now.survivors.now.catalog found columns.old.items → AreRows self.now.survivors.now.catalog (found ++ filter_map (row_from self.now.survivors.now.catalog self.now.loss (contents_of self.now.survivors.now)) (surviving_between self.now.survivors.now.catalog self.now.loss (contents_of self.now.survivors.now) range.0 range.1)) columns.new.items) }
+        ensures fault { IfErr result (IsStrayFault self.now.survivors.now.catalog self.now.loss (contents_of self.now.survivors.now) (surviving_between self.now.survivors.now.catalog self.now.loss (contents_of self.now.survivors.now) range.0 range.1)) }
+    {
+        let mut first: usize = 0;
+        for p in 0..catalog_of::projection_count(self.survivors) {
+            let within = (range.0.saturating_sub(first), range.1.saturating_sub(first));
+            match self.walk_projection(p, within, desk, columns) {
+                Ok(()) => {}
+                Err(fault) => return Err(fault),
+            }
+            first += kept_in_projection(self.survivors, self.loss, p);
+        }
+        Ok(())
+    }
 }
 
 /// The full rows that the walks from the surviving rows numbered from..to find, a row of the table once for each of these.
@@ -278,12 +239,11 @@ pub fn walk_rows(
     alloc: Global,
     catalog: &Catalog,
     loss: Loss,
-    survivors: &Survivors,
+    survivors: &Survivors<'_>,
     from: usize,
     to: usize,
 ) -> Result<Walked, WalkFault>
-    requires room { HasRoom catalog.now survivors.now }
-    requires made { HoldsImages catalog.now survivors.now }
+    requires same { survivors.now.catalog ≡ catalog.now }
     requires order { from ≤ to }
     ensures kinds { IfOk result (λ walked. walked.kinds ≡ map (λ c. c.kind) catalog.now.columns) }
     ensures rows { IfOk result (λ walked. Ok walked.rows ≡ found_among catalog.now loss (contents_of survivors.now) (surviving_between catalog.now loss (contents_of survivors.now) from to)) }
@@ -297,14 +257,8 @@ pub fn walk_rows(
         Ok(desk) => desk,
         Err(_) => return Err(WalkFault::Memory),
     };
-    match walk_projections(
-        catalog,
-        loss,
-        survivors,
-        (from, to),
-        &mut desk,
-        &mut columns,
-    ) {
+    let walk = RowWalk { survivors, loss };
+    match walk.walk_projections((from, to), &mut desk, &mut columns) {
         Ok(()) => Ok(Walked::from_columns(columns)),
         Err(fault) => Err(fault),
     }

@@ -3,83 +3,80 @@ ghost use Rattle.std.specs.Prelude.{◌≡◌, ◌<◌, ◌≤◌, length};
 ghost use Rattle.cs_schema.specs.CatalogData.{segments};
 ghost use Rattle.cs_rows.specs.Walk.{projection_rows};
 ghost use Rattle.cs_rows.specs.WalkByRows.{surviving_rows};
-ghost use Rattle.cs_rows.specs.Survivors.{HasRoom, contents_of};
-ghost use Rattle.cs_rows.specs.Range.{IsPlanOf};
+ghost use Rattle.cs_rows.specs.Survivors.{contents_of};
 ghost use Rattle.cs_rows.specs.RowSteps.{kept_count, projection_kept};
 
-use crate::range::row_count;
+use crate::catalog_of::{is_lost, projection_count, segments};
+use crate::numbers::anchor;
+use crate::plan_walk::PlanWalk;
 use crate::survivors::Survivors;
-use cs_safety::Plan;
-use cs_schema::{Catalog, Loss};
+use cs_schema::Loss;
+
+/// The number of rows of a segment's image, 0 where it isn't there.
+pub(crate) fn row_count(survivors: &Survivors<'_>, p: u16, s: u16) -> u32
+    requires projection { p < length survivors.now.catalog.projections }
+    requires segment { s < segments survivors.now.catalog p }
+    ensures { result ≡ length ((contents_of survivors.now).image p s).pairs }
+{
+    match survivors.image(p as usize, s as usize) {
+        Some(image) => image.rows(),
+        None => 0,
+    }
+}
 
 /// How many rows the images of a projection have.
-pub(crate) fn rows_in_projection(catalog: &Catalog, survivors: &Survivors, p: u16) -> usize
-    requires room { HasRoom catalog.now survivors.now }
-    requires projection { p < length catalog.now.projections }
-    ensures { result ≡ length (projection_rows catalog.now (contents_of survivors.now) p) }
+pub(crate) fn rows_in_projection(survivors: &Survivors<'_>, p: u16) -> usize
+    requires { p < length survivors.now.catalog.projections }
+    ensures { result ≡ length (projection_rows survivors.now.catalog (contents_of survivors.now) p) }
 {
     let mut count = 0;
-    for s in 0..catalog.segments(p) {
-        count += row_count(catalog, survivors, p as usize, s as usize) as usize;
+    for s in 0..segments(survivors, p) {
+        count += row_count(survivors, p, s) as usize;
     }
     count
 }
 
-/// How many rows the anchor of a plan has, in all its segments: those that `walk_range` numbers.
-pub fn anchor_rows(catalog: &Catalog, plan: &Plan, survivors: &Survivors) -> usize
-    requires plan { IsPlanOf catalog.now plan.now }
-    requires room { HasRoom catalog.now survivors.now }
-    ensures { result ≡ length (projection_rows catalog.now (contents_of survivors.now) plan.now.anchor) }
-{
-    rows_in_projection(catalog, survivors, u16::from(plan.anchor))
+impl PlanWalk<'_, '_> {
+    /// How many rows the anchor has, in all its segments: those that a range of the walk numbers.
+    pub fn anchor_rows(&self) -> usize
+        ensures { result ≡ length (projection_rows self.now.survivors.now.catalog (contents_of self.now.survivors.now) self.now.plan.now.anchor) }
+    {
+        rows_in_projection(self.survivors, anchor(self.plan))
+    }
 }
 
 /// How many rows survive in all projections: those that `walk_rows` numbers.
-pub fn surviving_row_count(catalog: &Catalog, loss: Loss, survivors: &Survivors) -> usize
-    requires room { HasRoom catalog.now survivors.now }
-    ensures { result ≡ length (surviving_rows catalog.now loss (contents_of survivors.now)) }
+pub fn surviving_row_count(survivors: &Survivors<'_>, loss: Loss) -> usize
+    ensures { result ≡ length (surviving_rows survivors.now.catalog loss (contents_of survivors.now)) }
 {
     let mut count = 0;
-    for p in 0..catalog.projection_count() {
-        count += kept_in_projection(catalog, loss, survivors, p);
+    for p in 0..projection_count(survivors) {
+        count += kept_in_projection(survivors, loss, p);
     }
     count
 }
 
 /// How many rows survive in a segment.
-pub(crate) fn kept_in_segment(
-    catalog: &Catalog,
-    loss: Loss,
-    survivors: &Survivors,
-    p: u16,
-    s: u16,
-) -> u32
-    requires room { HasRoom catalog.now survivors.now }
-    requires projection { p < length catalog.now.projections }
-    requires segment { s < segments catalog.now p }
-    ensures { result ≡ kept_count catalog.now loss (contents_of survivors.now) p s }
+pub(crate) fn kept_in_segment(survivors: &Survivors<'_>, loss: Loss, p: u16, s: u16) -> u32
+    requires projection { p < length survivors.now.catalog.projections }
+    requires segment { s < segments survivors.now.catalog p }
+    ensures { result ≡ kept_count survivors.now.catalog loss (contents_of survivors.now) p s }
 {
-    if catalog.lost(p, s, loss) {
+    if is_lost(survivors, loss, p, s) {
         return 0;
     }
-    row_count(catalog, survivors, p as usize, s as usize)
+    row_count(survivors, p, s)
 }
 
 /// How many rows survive in a projection: at most 16 times 2^32.
-pub(crate) fn kept_in_projection(
-    catalog: &Catalog,
-    loss: Loss,
-    survivors: &Survivors,
-    p: u16,
-) -> usize
-    requires room { HasRoom catalog.now survivors.now }
-    requires projection { p < length catalog.now.projections }
-    ensures count { result ≡ length (projection_kept catalog.now loss (contents_of survivors.now) p) }
+pub(crate) fn kept_in_projection(survivors: &Survivors<'_>, loss: Loss, p: u16) -> usize
+    requires { p < length survivors.now.catalog.projections }
+    ensures count { result ≡ length (projection_kept survivors.now.catalog loss (contents_of survivors.now) p) }
     ensures few { result ≤ 68719476736 }
 {
     let mut count = 0;
-    for s in 0..catalog.segments(p) {
-        count += kept_in_segment(catalog, loss, survivors, p, s) as usize;
+    for s in 0..segments(survivors, p) {
+        count += kept_in_segment(survivors, loss, p, s) as usize;
     }
     count
 }

@@ -7,11 +7,12 @@ ghost use Rattle.cs_schema.specs.CatalogData.{segments, has_join};
 ghost use Rattle.cs_delta.specs.Image.{position_of_key};
 ghost use Rattle.cs_rows.specs.Walk.{entry_of};
 ghost use Rattle.cs_rows.specs.WalkByRows.{numbers_of, landing, looked_at, is_stray_landing, row_landing, lost_landing, level, with_level, found_from};
-ghost use Rattle.cs_rows.specs.Survivors.{HasRoom, contents_of};
+ghost use Rattle.cs_rows.specs.Survivors.{contents_of};
 ghost use Rattle.cs_rows.specs.RowSteps.{landing_of, landing_at, landings_of, started, Stands, LandsWell, AllLandWell, AllStand};
 
+use crate::catalog_of::{has_join, is_lost, projection_count, segments};
 use crate::survivors::Survivors;
-use cs_schema::{Catalog, Loss};
+use cs_schema::Loss;
 use std::alloc::{AllocError, Global};
 use std::marker::Model;
 
@@ -44,16 +45,17 @@ impl Model for Finding {
     ghost invariant = { λ f. f.last ≤ length f.reached.items };
 }
 
+/// What survives a loss, for the walk by rows.
+#[derive(Drop)]
+pub(crate) struct RowWalk<'a> {
+    pub(crate) survivors: &'a Survivors<'a>,
+    pub(crate) loss: Loss,
+}
+
 /// The entry of a row in the join index to a projection.
-fn entry(
-    catalog: &Catalog,
-    survivors: &Survivors,
-    from: (u16, (u16, u32)),
-    q: u16,
-) -> Option<(u16, u32)>
-    requires room { HasRoom catalog.now survivors.now }
-    requires from { Stands catalog.now (contents_of survivors.now) from }
-    requires projection { q < length catalog.now.projections }
+fn entry(survivors: &Survivors<'_>, from: (u16, (u16, u32)), q: u16) -> Option<(u16, u32)>
+    requires from { Stands survivors.now.catalog (contents_of survivors.now) from }
+    requires projection { q < length survivors.now.catalog.projections }
     ensures { result ≡ entry_of (contents_of survivors.now) from.0 q from.1 }
 {
     let p = from.0 as usize;
@@ -69,10 +71,9 @@ fn entry(
 }
 
 /// The position of a live key in a segment's image.
-fn position(catalog: &Catalog, survivors: &Survivors, q: u16, segment: u16, key: u32) -> Option<u32>
-    requires room { HasRoom catalog.now survivors.now }
-    requires projection { q < length catalog.now.projections }
-    requires segment { segment < segments catalog.now q }
+fn position(survivors: &Survivors<'_>, q: u16, segment: u16, key: u32) -> Option<u32>
+    requires projection { q < length survivors.now.catalog.projections }
+    requires segment { segment < segments survivors.now.catalog q }
     ensures position { result ≡ position_of_key ((contents_of survivors.now).image q segment) key }
     ensures there { IfSome result (λ i. i < length ((contents_of survivors.now).image q segment).pairs) }
 {
@@ -83,28 +84,21 @@ fn position(catalog: &Catalog, survivors: &Survivors, q: u16, segment: u16, key:
 }
 
 /// How the entry of a row to a projection ends.
-fn land(
-    catalog: &Catalog,
-    loss: Loss,
-    survivors: &Survivors,
-    from: (u16, (u16, u32)),
-    q: u16,
-) -> Landed
-    requires room { HasRoom catalog.now survivors.now }
-    requires from { Stands catalog.now (contents_of survivors.now) from }
-    requires projection { q < length catalog.now.projections }
-    ensures leads { landing_of result ≡ landing catalog.now loss (contents_of survivors.now) q (entry_of (contents_of survivors.now) from.0 q from.1) }
-    ensures there { LandsWell catalog.now (contents_of survivors.now) q result }
+fn land(walk: &RowWalk<'_>, from: (u16, (u16, u32)), q: u16) -> Landed
+    requires from { Stands walk.now.survivors.now.catalog (contents_of walk.now.survivors.now) from }
+    requires projection { q < length walk.now.survivors.now.catalog.projections }
+    ensures leads { landing_of result ≡ landing walk.now.survivors.now.catalog walk.now.loss (contents_of walk.now.survivors.now) q (entry_of (contents_of walk.now.survivors.now) from.0 q from.1) }
+    ensures there { LandsWell walk.now.survivors.now.catalog (contents_of walk.now.survivors.now) q result }
 {
-    match entry(catalog, survivors, from, q) {
+    match entry(walk.survivors, from, q) {
         Some((segment, key)) => {
-            if segment >= catalog.segments(q) {
+            if segment >= segments(walk.survivors, q) {
                 return Landed::Astray;
             }
-            if catalog.lost(q, segment, loss) {
+            if is_lost(walk.survivors, walk.loss, q, segment) {
                 return Landed::Lost;
             }
-            match position(catalog, survivors, q, segment, key) {
+            match position(walk.survivors, q, segment, key) {
                 Some(i) => Landed::Row((segment, i)),
                 None => Landed::Astray,
             }
@@ -114,12 +108,16 @@ fn land(
 }
 
 /// The first row whose projection has a declared join to `q`.
-fn first_joined(catalog: &Catalog, rows: &[(u16, (u16, u32))], q: u16) -> Option<(u16, (u16, u32))>
-    requires { All (λ r. r.0 < length catalog.now.projections) rows.now }
-    ensures { result ≡ find (λ r. has_join catalog.now r.0 q) rows.now }
+fn first_joined(
+    survivors: &Survivors<'_>,
+    rows: &[(u16, (u16, u32))],
+    q: u16,
+) -> Option<(u16, (u16, u32))>
+    requires { All (λ r. r.0 < length survivors.now.catalog.projections) rows.now }
+    ensures { result ≡ find (λ r. has_join survivors.now.catalog r.0 q) rows.now }
 {
     for row in rows {
-        if catalog.has_join(row.0, q) {
+        if has_join(survivors, row.0, q) {
             return Some(*row);
         }
     }
@@ -211,18 +209,17 @@ impl Finding {
     }
 
     /// The landing at a projection, where the next level looks at it.
-    fn look(&self, catalog: &Catalog, loss: Loss, survivors: &Survivors, q: u16) -> Option<Landed>
-        requires room { HasRoom catalog.now survivors.now }
-        requires stand { AllStand catalog.now (contents_of survivors.now) self.now }
-        requires projection { q < length catalog.now.projections }
-        ensures looked { option_map (landing_at q) result ≡ looked_at catalog.now loss (contents_of survivors.now) self.now q }
-        ensures there { IfSome result (LandsWell catalog.now (contents_of survivors.now) q) }
+    fn look(&self, walk: &RowWalk<'_>, q: u16) -> Option<Landed>
+        requires stand { AllStand walk.now.survivors.now.catalog (contents_of walk.now.survivors.now) self.now }
+        requires projection { q < length walk.now.survivors.now.catalog.projections }
+        ensures looked { option_map (landing_at q) result ≡ looked_at walk.now.survivors.now.catalog walk.now.loss (contents_of walk.now.survivors.now) self.now q }
+        ensures there { IfSome result (LandsWell walk.now.survivors.now.catalog (contents_of walk.now.survivors.now) q) }
     {
         if self.is_seen(q) {
             return None;
         }
-        match first_joined(catalog, self.last_level(), q) {
-            Some(from) => Some(land(catalog, loss, survivors, from, q)),
+        match first_joined(walk.survivors, self.last_level(), q) {
+            Some(from) => Some(land(walk, from, q)),
             None => None,
         }
     }
@@ -230,19 +227,16 @@ impl Finding {
     /// The landings of the next level.
     fn look_ahead(
         &self,
-        catalog: &Catalog,
-        loss: Loss,
-        survivors: &Survivors,
+        walk: &RowWalk<'_>,
         landings: &mut Vec<(u16, Landed)>,
     ) -> Result<(), AllocError>
-        requires room { HasRoom catalog.now survivors.now }
-        requires stand { AllStand catalog.now (contents_of survivors.now) self.now }
-        ensures level { OnOk result (landings_of landings.new.items ≡ level catalog.now loss (contents_of survivors.now) self.now) }
-        ensures there { OnOk result (AllLandWell catalog.now (contents_of survivors.now) landings.new.items) }
+        requires stand { AllStand walk.now.survivors.now.catalog (contents_of walk.now.survivors.now) self.now }
+        ensures level { OnOk result (landings_of landings.new.items ≡ level walk.now.survivors.now.catalog walk.now.loss (contents_of walk.now.survivors.now) self.now) }
+        ensures there { OnOk result (AllLandWell walk.now.survivors.now.catalog (contents_of walk.now.survivors.now) landings.new.items) }
     {
         landings.clear();
-        for q in 0..catalog.projection_count() {
-            match self.look(catalog, loss, survivors, q) {
+        for q in 0..projection_count(walk.survivors) {
+            match self.look(walk, q) {
                 Some(landed) => landings.push((q, landed))?,
                 None => {}
             }
@@ -264,24 +258,21 @@ impl Finding {
 
 /// Walks from a row until a level reaches nothing. Tells whether the walk is not astray.
 pub(crate) fn walk_from(
-    catalog: &Catalog,
-    loss: Loss,
-    survivors: &Survivors,
+    walk: &RowWalk<'_>,
     row: (u16, (u16, u32)),
     finding: &mut Finding,
     landings: &mut Vec<(u16, Landed)>,
 ) -> Result<bool, AllocError>
-    requires room { HasRoom catalog.now survivors.now }
-    requires row { Stands catalog.now (contents_of survivors.now) row }
-    ensures found { IfOk result (λ sound. found_from catalog.now loss (contents_of survivors.now) row.0 row.1 ≡ (if sound then Some finding.new else None)) }
-    ensures stand { IfOk result (λ sound. sound ≡ true → AllStand catalog.now (contents_of survivors.now) finding.new) }
+    requires row { Stands walk.now.survivors.now.catalog (contents_of walk.now.survivors.now) row }
+    ensures found { IfOk result (λ sound. found_from walk.now.survivors.now.catalog walk.now.loss (contents_of walk.now.survivors.now) row.0 row.1 ≡ (if sound then Some finding.new else None)) }
+    ensures stand { IfOk result (λ sound. sound ≡ true → AllStand walk.now.survivors.now.catalog (contents_of walk.now.survivors.now) finding.new) }
 {
     finding.start(row)?;
-    for _step in 0..catalog.projection_count() {
+    for _step in 0..projection_count(walk.survivors) {
         if finding.is_ended() {
             return Ok(true);
         }
-        finding.look_ahead(catalog, loss, survivors, landings)?;
+        finding.look_ahead(walk, landings)?;
         if !finding.enter(landings.as_slice())? {
             return Ok(false);
         }

@@ -8,11 +8,13 @@
 
 mod block;
 pub mod by_rows;
+mod catalog_of;
 pub mod counts;
 pub mod laws;
 pub mod lent;
 mod levels;
 mod numbers;
+pub mod plan_walk;
 pub mod range;
 mod repeats;
 mod route;
@@ -23,6 +25,7 @@ pub mod walked;
 pub mod whole;
 
 pub use lent::Lent;
+pub use plan_walk::PlanWalk;
 pub use survivors::Survivors;
 pub use table::Table;
 pub use walked::Walked;

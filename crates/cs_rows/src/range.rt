@@ -8,15 +8,15 @@ ghost use Rattle.cs_schema.specs.CatalogRules.{IsCatalog};
 ghost use Rattle.cs_rows.specs.Walk.{At, is_astray};
 ghost use Rattle.cs_schema.specs.declared.kinds.Kind.{Kind as KindValue};
 ghost use Rattle.cs_rows.specs.declared.range.WalkFault.TheVariants.{Memory};
-ghost use Rattle.cs_rows.specs.Survivors.{HasRoom, HoldsImages, contents_of, image_row};
-ghost use Rattle.cs_rows.specs.Steps.{PlanFits};
-ghost use Rattle.cs_rows.specs.Columns.{read_of, IsDesk, ColumnsFit, AreWalked, IsRowFault, rows_from};
+ghost use Rattle.cs_rows.specs.Survivors.{contents_of, image_row};
+ghost use Rattle.cs_rows.specs.Columns.{ColumnsFit, AreWalked, IsRowFault, rows_from};
 ghost use Rattle.cs_rows.specs.Range.{walked_among, rows_between, IsPlanOf, IsWalkFault};
 
-use crate::block::{BLOCK_ROWS, Places, walk_block};
-use crate::counts::rows_in_projection;
-use crate::numbers::{anchor, column_count, columns_of, kind, segments, source};
-use crate::route::find_route;
+use crate::block::{BLOCK_ROWS, Places};
+use crate::catalog_of::segments;
+use crate::counts::row_count;
+use crate::numbers::{anchor, column_count, kind};
+use crate::plan_walk::PlanWalk;
 use crate::survivors::Survivors;
 use crate::walked::Walked;
 use cs_delta::image::Image;
@@ -49,15 +49,6 @@ impl<T: Drop> From<AllocFailed<T>> for WalkFault {
     }
 }
 
-/// What the walk of a plan's rows needs, made once for all rows: where each column is read, the steps of
-/// the walk, and room for the places of a block.
-#[derive(Drop)]
-pub(crate) struct Desk {
-    pub(crate) reads: Vec<(usize, usize)>,
-    pub(crate) route: Vec<(usize, usize)>,
-    pub(crate) block: Vec<Places>,
-}
-
 /// Puts the cell of an image's row at the end of a column.
 pub(crate) fn push_cell(
     cells: &mut Cells,
@@ -74,99 +65,88 @@ pub(crate) fn push_cell(
     cells.push_cell(image.column(j), row as usize)
 }
 
-/// Walks the rows of one of the anchor's segments, from the first number up to the second.
-fn walk_segment(
-    catalog: &Catalog,
-    plan: &Plan,
-    survivors: &Survivors,
-    s: u16,
-    rows: (u32, u32),
-    desk: &mut Desk,
-    columns: &mut Vec<Cells>,
-) -> Result<(), WalkFault>
-    requires room { HasRoom catalog.now survivors.now }
-    requires made { HoldsImages catalog.now survivors.now }
-    requires fits { PlanFits catalog.now plan.now }
-    requires desk { IsDesk catalog.now plan.now desk.old }
-    requires columns { ColumnsFit catalog.now columns.old.items }
-    requires segment { s < segments catalog.now plan.now.anchor }
-    requires order { rows.0 ≤ rows.1 }
-    requires within { rows.1 ≤ length ((contents_of survivors.now).image plan.now.anchor s).pairs }
-    ensures desk { IsDesk catalog.now plan.now desk.new }
-    ensures fit { OnOk result (ColumnsFit catalog.now columns.new.items) }
-    ensures sound { OnOk result (find (is_astray catalog.now (contents_of survivors.now) plan.now) (rows_from s rows.0 (rows.1 - rows.0)) ≡ None) }
-    ensures cells { OnOk result ((ats : List At) → AreWalked catalog.now (contents_of survivors.now) plan.now ats columns.old.items → AreWalked catalog.now (contents_of survivors.now) plan.now (ats ++ rows_from s rows.0 (rows.1 - rows.0)) columns.new.items) }
-    ensures fault { IfErr result (IsRowFault catalog.now (contents_of survivors.now) plan.now (rows_from s rows.0 (rows.1 - rows.0))) }
-{
-    let mut from = rows.0;
-    while from < rows.1 {
-        let to = from.saturating_add(BLOCK_ROWS).min(rows.1);
-        match walk_block(catalog, plan, survivors, s, (from, to), desk, columns) {
-            Ok(()) => {}
-            Err(fault) => return Err(fault),
+impl PlanWalk<'_, '_> {
+    /// Walks the rows of one of the anchor's segments, from the first number up to the second, with room for places.
+    fn walk_segment(
+        &self,
+        s: u16,
+        rows: (u32, u32),
+        block: &mut Vec<Places>,
+        columns: &mut Vec<Cells>,
+    ) -> Result<(), WalkFault>
+        requires columns { ColumnsFit self.now.survivors.now.catalog columns.old.items }
+        requires segment { s < segments self.now.survivors.now.catalog self.now.plan.now.anchor }
+        requires order { rows.0 ≤ rows.1 }
+        requires within { rows.1 ≤ length ((contents_of self.now.survivors.now).image self.now.plan.now.anchor s).pairs }
+        ensures fit { OnOk result (ColumnsFit self.now.survivors.now.catalog columns.new.items) }
+        ensures sound { OnOk result (find (is_astray self.now.survivors.now.catalog (contents_of self.now.survivors.now) self.now.plan.now) (rows_from s rows.0 (rows.1 - rows.0)) ≡ None) }
+        ensures cells { OnOk result ((ats : List At) → AreWalked self.now.survivors.now.catalog (contents_of self.now.survivors.now) self.now.plan.now ats columns.old.items → AreWalked self.now.survivors.now.catalog (contents_of self.now.survivors.now) self.now.plan.now (ats ++ rows_from s rows.0 (rows.1 - rows.0)) columns.new.items) }
+        ensures fault { IfErr result (IsRowFault self.now.survivors.now.catalog (contents_of self.now.survivors.now) self.now.plan.now (rows_from s rows.0 (rows.1 - rows.0))) }
+    {
+        let mut from = rows.0;
+        while from < rows.1 {
+            let to = from.saturating_add(BLOCK_ROWS).min(rows.1);
+            match self.walk_block(s, (from, to), block, columns) {
+                Ok(()) => {}
+                Err(fault) => return Err(fault),
+            }
+            from = to;
         }
-        from = to;
+        Ok(())
     }
-    Ok(())
-}
 
-/// The number of rows of a segment's image, 0 where it isn't there.
-pub(crate) fn row_count(catalog: &Catalog, survivors: &Survivors, p: usize, s: usize) -> u32
-    requires room { HasRoom catalog.now survivors.now }
-    requires projection { p < length catalog.now.projections }
-    requires segment { s < segments catalog.now p }
-    ensures { result ≡ length ((contents_of survivors.now).image p s).pairs }
-{
-    match survivors.image(p, s) {
-        Some(image) => image.rows(),
-        None => 0,
-    }
-}
-
-/// Walks the rows numbered from `from` up to `to` of the anchor, through all its segments.
-fn walk_segments(
-    catalog: &Catalog,
-    plan: &Plan,
-    survivors: &Survivors,
-    from: usize,
-    to: usize,
-    desk: &mut Desk,
-    columns: &mut Vec<Cells>,
-) -> Result<(), WalkFault>
-    requires room { HasRoom catalog.now survivors.now }
-    requires made { HoldsImages catalog.now survivors.now }
-    requires fits { PlanFits catalog.now plan.now }
-    requires desk { IsDesk catalog.now plan.now desk.old }
-    requires columns { ColumnsFit catalog.now columns.old.items }
-    requires order { from ≤ to }
-    ensures desk { IsDesk catalog.now plan.now desk.new }
-    ensures fit { OnOk result (ColumnsFit catalog.now columns.new.items) }
-    ensures sound { OnOk result (find (is_astray catalog.now (contents_of survivors.now) plan.now) (rows_between catalog.now (contents_of survivors.now) plan.now from to) ≡ None) }
-    ensures cells { OnOk result ((ats : List At) → AreWalked catalog.now (contents_of survivors.now) plan.now ats columns.old.items → AreWalked catalog.now (contents_of survivors.now) plan.now (ats ++ rows_between catalog.now (contents_of survivors.now) plan.now from to) columns.new.items) }
-    ensures fault { IfErr result (IsRowFault catalog.now (contents_of survivors.now) plan.now (rows_between catalog.now (contents_of survivors.now) plan.now from to)) }
-{
-    let anchor = anchor(plan);
-    // the number of the first row of the segment
-    let mut first: usize = 0;
-    for s in 0..segments(catalog, anchor) {
-        let count = row_count(catalog, survivors, anchor, s) as usize;
-        let start = from.saturating_sub(first).min(count);
-        let end = to.saturating_sub(first).min(count);
-        match walk_segment(
-            catalog,
-            plan,
-            survivors,
-            s as u16,
-            (start as u32, end as u32),
-            desk,
-            columns,
-        ) {
-            Ok(()) => {}
-            Err(fault) => return Err(fault),
+    /// Walks the rows numbered from `from` up to `to` of the anchor, through all its segments, with room for places.
+    fn walk_segments(
+        &self,
+        from: usize,
+        to: usize,
+        block: &mut Vec<Places>,
+        columns: &mut Vec<Cells>,
+    ) -> Result<(), WalkFault>
+        requires columns { ColumnsFit self.now.survivors.now.catalog columns.old.items }
+        requires order { from ≤ to }
+        ensures fit { OnOk result (ColumnsFit self.now.survivors.now.catalog columns.new.items) }
+        ensures sound { OnOk result (find (is_astray self.now.survivors.now.catalog (contents_of self.now.survivors.now) self.now.plan.now) (rows_between self.now.survivors.now.catalog (contents_of self.now.survivors.now) self.now.plan.now from to) ≡ None) }
+        ensures cells { OnOk result ((ats : List At) → AreWalked self.now.survivors.now.catalog (contents_of self.now.survivors.now) self.now.plan.now ats columns.old.items → AreWalked self.now.survivors.now.catalog (contents_of self.now.survivors.now) self.now.plan.now (ats ++ rows_between self.now.survivors.now.catalog (contents_of self.now.survivors.now) self.now.plan.now from to) columns.new.items) }
+        ensures fault { IfErr result (IsRowFault self.now.survivors.now.catalog (contents_of self.now.survivors.now) self.now.plan.now (rows_between self.now.survivors.now.catalog (contents_of self.now.survivors.now) self.now.plan.now from to)) }
+    {
+        let anchor = anchor(self.plan);
+        // the number of the first row of the segment
+        let mut first: usize = 0;
+        for s in 0..segments(self.survivors, anchor) {
+            let count = row_count(self.survivors, anchor, s) as usize;
+            let start = from.saturating_sub(first).min(count);
+            let end = to.saturating_sub(first).min(count);
+            match self.walk_segment(s, (start as u32, end as u32), block, columns) {
+                Ok(()) => {}
+                Err(fault) => return Err(fault),
+            }
+            first += count;
         }
-        first += count;
+        Ok(())
     }
-    Ok(())
+
+    /// The rows that the walk gives for the anchor's rows numbered from `from` up to `to`.
+    ///
+    /// Refuses with `Astray` the first of these that the join indexes lead astray, and with `Memory` for want of memory alone.
+    pub fn range(&self, alloc: Global, from: usize, to: usize) -> Result<Walked, WalkFault>
+        requires { from ≤ to }
+        ensures kinds { IfOk result (λ walked. walked.kinds ≡ map (λ c. c.kind) self.now.survivors.now.catalog.columns) }
+        ensures rows { IfOk result (λ walked. Ok walked.rows ≡ walked_among self.now.survivors.now.catalog (contents_of self.now.survivors.now) self.now.plan.now (rows_between self.now.survivors.now.catalog (contents_of self.now.survivors.now) self.now.plan.now from to)) }
+        ensures fault { IfErr result (IsWalkFault (walked_among self.now.survivors.now.catalog (contents_of self.now.survivors.now) self.now.plan.now (rows_between self.now.survivors.now.catalog (contents_of self.now.survivors.now) self.now.plan.now from to))) }
+    {
+        let survivors = self.survivors;
+        let room = to.min(self.anchor_rows()).saturating_sub(from);
+        let mut columns = match new_columns(alloc, survivors.catalog(), room) {
+            Ok(columns) => columns,
+            Err(_) => return Err(WalkFault::Memory),
+        };
+        let mut block = Vec::new(alloc);
+        match self.walk_segments(from, to, &mut block, &mut columns) {
+            Ok(()) => Ok(Walked::from_columns(columns)),
+            Err(fault) => Err(fault),
+        }
+    }
 }
 
 /// An empty column for each column of the table, each with room for so many cells.
@@ -200,90 +180,25 @@ pub(crate) fn place_in(columns: &[u8], c: usize) -> usize
     columns.len()
 }
 
-/// Where each column of the table is read.
-fn find_reads(
-    alloc: Global,
-    catalog: &Catalog,
-    plan: &Plan,
-) -> Result<Vec<(usize, usize)>, AllocError>
-    requires { PlanFits catalog.now plan.now }
-    ensures count { IfOk result (λ reads. length reads.items ≡ length catalog.now.columns) }
-    ensures reads { IfOk result (λ reads. (c : ℕ) → c < length catalog.now.columns → slice_index_or reads.items c (0, 0) ≡ read_of catalog.now plan.now c) }
-{
-    let mut reads: Vec<(usize, usize)> = Vec::new(alloc);
-    for c in 0..column_count(catalog) {
-        let q = source(plan, c) as usize;
-        reads.push((q, place_in(columns_of(catalog, q), c)))?;
-    }
-    Ok(reads)
-}
-
-/// What the walk of a plan's rows needs.
-fn new_desk(alloc: Global, catalog: &Catalog, plan: &Plan) -> Result<Desk, AllocError>
-    requires { PlanFits catalog.now plan.now }
-    ensures { IfOk result (IsDesk catalog.now plan.now) }
-{
-    let reads = find_reads(alloc, catalog, plan)?;
-    let route = find_route(alloc, catalog, plan)?;
-    Ok(Desk {
-        reads,
-        route,
-        block: Vec::new(alloc),
-    })
-}
-
-/// Walks the anchor's rows numbered from `from` up to `to` into new columns.
-fn walk_planned(
-    alloc: Global,
-    catalog: &Catalog,
-    plan: &Plan,
-    survivors: &Survivors,
-    from: usize,
-    to: usize,
-) -> Result<Walked, WalkFault>
-    requires catalog { IsCatalog catalog.now }
-    requires fits { PlanFits catalog.now plan.now }
-    requires room { HasRoom catalog.now survivors.now }
-    requires made { HoldsImages catalog.now survivors.now }
-    requires order { from ≤ to }
-    ensures kinds { IfOk result (λ walked. walked.kinds ≡ map (λ c. c.kind) catalog.now.columns) }
-    ensures rows { IfOk result (λ walked. Ok walked.rows ≡ walked_among catalog.now (contents_of survivors.now) plan.now (rows_between catalog.now (contents_of survivors.now) plan.now from to)) }
-    ensures fault { IfErr result (IsWalkFault (walked_among catalog.now (contents_of survivors.now) plan.now (rows_between catalog.now (contents_of survivors.now) plan.now from to))) }
-{
-    let rows = rows_in_projection(catalog, survivors, u16::from(plan.anchor));
-    let mut columns = match new_columns(alloc, catalog, to.min(rows).saturating_sub(from)) {
-        Ok(columns) => columns,
-        Err(_) => return Err(WalkFault::Memory),
-    };
-    let mut desk = match new_desk(alloc, catalog, plan) {
-        Ok(desk) => desk,
-        Err(_) => return Err(WalkFault::Memory),
-    };
-    match walk_segments(catalog, plan, survivors, from, to, &mut desk, &mut columns) {
-        Ok(()) => Ok(Walked::from_columns(columns)),
-        Err(fault) => Err(fault),
-    }
-}
-
-/// The rows that the walk gives for the anchor's rows numbered from `from` up to `to`.
-///
-/// Refuses with `Astray` the first of these that the join indexes lead astray, and with `Memory` for want of memory alone.
+/// The rows that the walk of a plan gives for the anchor's rows numbered from `from` up to `to`: one range of `PlanWalk`.
 pub fn walk_range(
     alloc: Global,
     catalog: &Catalog,
     plan: &Plan,
-    survivors: &Survivors,
+    survivors: &Survivors<'_>,
     from: usize,
     to: usize,
 ) -> Result<Walked, WalkFault>
     requires catalog { IsCatalog catalog.now }
     requires plan { ∥ IsPlanOf catalog.now plan.now ∥₁ }
-    requires room { HasRoom catalog.now survivors.now }
-    requires made { HoldsImages catalog.now survivors.now }
+    requires same { survivors.now.catalog ≡ catalog.now }
     requires order { from ≤ to }
     ensures kinds { IfOk result (λ walked. walked.kinds ≡ map (λ c. c.kind) catalog.now.columns) }
     ensures rows { IfOk result (λ walked. Ok walked.rows ≡ walked_among catalog.now (contents_of survivors.now) plan.now (rows_between catalog.now (contents_of survivors.now) plan.now from to)) }
     ensures fault { IfErr result (IsWalkFault (walked_among catalog.now (contents_of survivors.now) plan.now (rows_between catalog.now (contents_of survivors.now) plan.now from to))) }
 {
-    walk_planned(alloc, catalog, plan, survivors, from, to)
+    match PlanWalk::new(alloc, catalog, plan, survivors) {
+        Ok(walk) => walk.range(alloc, from, to),
+        Err(_) => Err(WalkFault::Memory),
+    }
 }

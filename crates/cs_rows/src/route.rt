@@ -13,7 +13,7 @@ use std::alloc::{AllocError, Global};
 fn is_met(plan: &Plan, route: &[(usize, usize)], q: usize) -> bool
     ensures { result ≡ is_met plan.now route.now q }
 {
-    q == anchor(plan) || is_on(route, q)
+    q == anchor(plan) as usize || is_on(route, q)
 }
 
 /// Whether a projection is on the route.

@@ -1,8 +1,10 @@
-//! What has been read of the surviving segments.
-ghost use Rattle.std.specs.Prelude.{◌≡◌, ◌<◌, ◌+◌, ℕ, length, replicate, slice_index_or, IfOk, None, Some, List, [], slice_set, MatchOption, map};
+//! What has been read of the surviving segments of a catalog's store.
+ghost use Rattle.std.specs.Prelude.{◌≡◌, ◌<◌, ◌+◌, ℕ, length, replicate, slice_index_or, IfOk, IfSome, None, Some, List, [], slice_set, MatchOption, map};
 ghost use Rattle.cs_delta.specs.KindedImage.{KindedImage};
 ghost use Rattle.cs_jix.specs.JoinIndex.{Place};
-ghost use Rattle.cs_rows.specs.Survivors.{images_of, joins_of, image_at, join_at, no_survivors, no_images, no_joins, with_image, with_join, HasRoom};
+ghost use Rattle.cs_schema.specs.CatalogData.{segments};
+ghost use Rattle.cs_segment.specs.SegmentData.{kinds_at};
+ghost use Rattle.cs_rows.specs.Survivors.{images_of, joins_of, image_at, join_at, no_survivors, no_images, no_joins, with_image, with_join, AreSurvivors, HasRoom};
 
 use crate::numbers::{projection_count, segments};
 use cs_delta::image::Image;
@@ -56,19 +58,22 @@ impl Model for ProjectionJoins {
     ghost view = { λ p. p.segments.items };
 }
 
-/// Images and join indexes of the surviving segments, where they are there.
+/// Images and join indexes of the surviving segments of a catalog's store, where they are there.
 #[derive(Drop)]
-pub struct Survivors {
+pub struct Survivors<'a> {
+    catalog: &'a Catalog,
     images: Vec<ProjectionImages>,
     joins: Vec<ProjectionJoins>,
 }
 
-impl Model for Survivors {
-    ghost use Rattle.cs_rows.specs.Survivors.{SurvivorsData};
+impl<'a> Model for Survivors<'a> {
+    ghost use Rattle.cs_rows.specs.Survivors.{SurvivorsData, AreSurvivors};
 
     ghost Value = { SurvivorsData };
 
-    ghost view = { λ s. record { images = s.images.items; joins = s.joins.items } };
+    ghost view = { λ s. record { catalog = s.catalog.now; images = s.images.items; joins = s.joins.items } };
+
+    ghost invariant = { λ s. AreSurvivors (record { catalog = s.catalog.now; images = s.images.items; joins = s.joins.items }) };
 }
 
 impl ProjectionImages {
@@ -148,9 +153,9 @@ impl ProjectionJoins {
     }
 }
 
-impl Survivors {
+impl<'a> Survivors<'a> {
     /// Room for each segment of a catalog, and nothing there.
-    pub fn new(alloc: Global, catalog: &Catalog) -> Result<Self, AllocError>
+    pub fn new(alloc: Global, catalog: &'a Catalog) -> Result<Self, AllocError>
         ensures { IfOk result (λ s. s ≡ no_survivors catalog.now) }
     {
         let count = projection_count(catalog);
@@ -161,40 +166,70 @@ impl Survivors {
             images.push(ProjectionImages::new(alloc, segments)?)?;
             joins.push(ProjectionJoins::new(alloc, segments, count)?)?;
         }
-        Ok(Survivors { images, joins })
+        Ok(Survivors {
+            catalog,
+            images,
+            joins,
+        })
+    }
+
+    /// Their catalog.
+    pub fn catalog(&self) -> &'a Catalog
+        ensures catalog { result.now ≡ self.now.catalog }
+        ensures facts { AreSurvivors self.now }
+    {
+        self.catalog
     }
 
     /// Puts the image of a segment there, in place of one that was there.
     pub fn put_image(&mut self, p: usize, s: usize, image: Image)
-        requires projection { p < length self.old.images }
-        requires segment { s < length (images_of self.old p) }
-        ensures { self.new ≡ with_image self.old p s image }
+        requires projection { p < length self.old.catalog.projections }
+        requires segment { s < segments self.old.catalog p }
+        requires kinds { image.kinds ≡ kinds_at self.old.catalog p }
+        ensures new { self.new ≡ with_image self.old p s image }
+        ensures room { HasRoom self.old.catalog self.old }
     {
         self.images[p].put(s, image);
     }
 
     /// Puts a join index of a segment there, in place of one that was there.
     pub fn put_join(&mut self, p: usize, s: usize, q: usize, join: JoinIndex)
-        requires projection { p < length self.old.joins }
-        requires segment { s < length (slice_index_or self.old.joins p []) }
-        requires target { q < length (joins_of self.old p s) }
-        ensures { self.new ≡ with_join self.old p s q join }
+        requires projection { p < length self.old.catalog.projections }
+        requires segment { s < segments self.old.catalog p }
+        requires target { q < length self.old.catalog.projections }
+        ensures new { self.new ≡ with_join self.old p s q join }
+        ensures room { HasRoom self.old.catalog self.old }
     {
         self.joins[p].put(s, q, join);
     }
 
     /// The images of a projection's segments.
     pub fn images(&self, p: usize) -> &[Option<Image>]
-        requires { p < length self.now.images }
-        ensures { result.now ≡ images_of self.now p }
+        requires { p < length self.now.catalog.projections }
+        ensures images { result.now ≡ images_of self.now p }
+        ensures count { length (images_of self.now p) ≡ segments self.now.catalog p }
     {
         self.images[p].as_slice()
     }
 
-    /// The image of a segment, where it is there.
+    /// The image of a segment, where it is there: its columns are those of the projection.
     pub fn image(&self, p: usize, s: usize) -> Option<&Image>
-        requires projection { p < length self.now.images }
-        requires segment { s < length (images_of self.now p) }
+        requires projection { p < length self.now.catalog.projections }
+        requires segment { s < segments self.now.catalog p }
+        ensures image { MatchOption result (image_at self.now p s ≡ None) (λ m. image_at self.now p s ≡ Some m.now) }
+        ensures kinds { IfSome result (λ m. m.now.kinds ≡ kinds_at self.now.catalog p) }
+    {
+        let _ = &self.catalog;
+        match self.held_image(p, s) {
+            Some(image) => Some(image),
+            None => None,
+        }
+    }
+
+    /// The image that is held of a segment.
+    fn held_image(&self, p: usize, s: usize) -> Option<&Image>
+        requires projection { p < length self.now.catalog.projections }
+        requires segment { s < segments self.now.catalog p }
         ensures { MatchOption result (image_at self.now p s ≡ None) (λ m. image_at self.now p s ≡ Some m.now) }
     {
         self.images(p)[s].as_ref()
@@ -202,9 +237,9 @@ impl Survivors {
 
     /// The join index of a segment to a target, where it is there.
     pub fn join(&self, p: usize, s: usize, q: usize) -> Option<&JoinIndex>
-        requires projection { p < length self.now.joins }
-        requires segment { s < length (slice_index_or self.now.joins p []) }
-        requires target { q < length (joins_of self.now p s) }
+        requires projection { p < length self.now.catalog.projections }
+        requires segment { s < segments self.now.catalog p }
+        requires target { q < length self.now.catalog.projections }
         ensures { MatchOption result (join_at self.now p s q ≡ None) (λ j. join_at self.now p s q ≡ Some j.now) }
     {
         self.joins[p].at(s)[q].as_ref()

@@ -60,6 +60,14 @@ impl<'a> Table<'a> {
         Table { made, lent }
     }
 
+    /// The columns that were made, and what is lent in place of some.
+    pub fn into_columns(self) -> (Vec<Cells>, Lent<'a>)
+        ensures columns { AreColumns (over result.0.items result.1) }
+        ensures same { walked_data (over result.0.items result.1) ≡ self.entry }
+    {
+        (self.made, self.lent)
+    }
+
     /// How many rows there are.
     pub fn rows(&self) -> usize
         ensures { result ≡ length self.now.rows }

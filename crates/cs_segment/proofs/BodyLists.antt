@@ -205,8 +205,12 @@ one_more_column C p rows bodies columns cells j count each new k d l = go (eqb_t
 pub none_read : (C : CatalogData) (p rows : ℕ) (bodies : List (List ℕ)) → AreFirstIn C p rows bodies 0 []
 none_read C p rows bodies = record { count_is = refl; each = λ j d l. absurd (omega arith) }
 
-pub one_more_read : (C : CatalogData) (p rows : ℕ) (bodies : List (List ℕ)) (columns : List Cells) (cells : Cells) (j : ℕ) → AreFirstIn C p rows bodies j columns → IsColumnIn C p rows j (get_or bodies j []) cells → AreFirstIn C p rows bodies (j + 1) (columns ++ cells ∷ [])
-one_more_read C p rows bodies columns cells j h new = record { count_is = length_push columns cells ∙ ap (λ n. n + 1) h.count_is; each = one_more_column C p rows bodies columns cells j h.count_is h.each new }
+pub one_more_read : (C : CatalogData) (p rows : ℕ) (bodies : List (List ℕ)) (columns more : List Cells) (cells : Cells) (j count : ℕ) → AreFirstIn C p rows bodies j columns → IsColumnIn C p rows j (get_or bodies j []) cells → j + 1 ≡ count → more ≡ columns ++ cells ∷ [] → AreFirstIn C p rows bodies count more
+one_more_read C p rows bodies columns more cells j count h new e same =
+    subst (AreFirstIn C p rows bodies count) (sym same) (subst (λ n. AreFirstIn C p rows bodies n (columns ++ cells ∷ [])) e (record {
+      count_is = length_push columns cells ∙ ap (λ n. n + 1) h.count_is;
+      each = one_more_column C p rows bodies columns cells j h.count_is h.each new;
+    }))
 
 pub all_read : (C : CatalogData) (p rows : ℕ) (bodies : List (List ℕ)) (count : ℕ) (columns : List Cells) → count ≡ length bodies → AreFirstIn C p rows bodies count columns → AreColumnsIn C p rows bodies columns
 all_read C p rows bodies count columns e h = record { width = h.count_is ∙ e; each = λ j d l. h.each j d (omega arith) }

@@ -4,6 +4,7 @@ use Rattle.cs_schema.specs.declared.cells.Cells.{Cells}
 use Rattle.cs_schema.specs.declared.kinds.Kind.{Kind}
 use Rattle.cs_schema.specs.declared.kinds.Code.{Code}
 use Rattle.cs_schema.specs.CatalogData.{CatalogData, projection, code_at, kind_at}
+use Rattle.cs_schema.specs.CatalogRules.{IsCatalog}
 use Rattle.cs_schema.specs.Values.{values, kind_of}
 use Rattle.cs_piece.specs.Columns.{IsColumnOf, NoColumn}
 use Rattle.cs_segment.specs.Bytes.{be32}
@@ -91,6 +92,7 @@ pub record AreFirstRead (C : CatalogData) (p rows : ℕ) (bodies : List (List �
 pub record AreReadOf (C : CatalogData) (p s : ℕ) (front : List ℕ) (result : Result (ℕ × Vec Cells Global) FileFault) : Type 0 where
   pub found : IfOk result (λ r. HoldsColumns C p s front r.0 r.1.items)
   pub refused : result ≡ Err FileFault.Damaged → HoldsNone C p s front
+  pub rules : IsCatalog C
 
 -- bytes are all but the digest, and their digest, or no sealed text
 pub record IsSealed (bytes : List ℕ) (result : Bool) : Type 0 where

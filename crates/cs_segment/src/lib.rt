@@ -9,6 +9,7 @@ pub mod bytes;
 pub mod fault;
 pub mod laws;
 pub mod parallel;
+mod reader;
 pub mod seal;
 pub mod segment;
 pub mod writing;

@@ -1,51 +1,45 @@
 //! Reading a segment's file in several threads: one takes the digest, and one each column.
 ghost use Rattle.std.specs.Prelude.{◌≡◌, ◌<◌, ◌≤◌, List, map, length, IfOk};
-ghost use Rattle.cs_schema.specs.CatalogData.{projection};
+ghost use Rattle.cs_schema.specs.CatalogRules.{IsCatalog};
 ghost use Rattle.cs_segment.specs.SegmentFile.{Base, IsSegmentFile};
 ghost use Rattle.cs_segment.specs.SegmentData.{IsSegmentOf};
 ghost use Rattle.cs_segment.specs.Bodies.{IsReadAt, AreFirstRead, AreReadOf, HoldsColumns, HoldsNone, IsSealed};
 
-use crate::bodies::read_body;
 use crate::fault::FileFault;
+use crate::reader::SegmentReader;
 use crate::seal::{DIGEST, is_sealed};
 use crate::segment::{Segment, find_columns, read_segment};
 use cs_schema::{Catalog, Cells};
 use std::alloc::Global;
-use std::thread::{Threads, join};
+use std::thread::{Threads, join, join_mut};
 
 /// How many bytes of a file are worth the start of threads.
 const WORTH_THREADS: usize = 65_536;
 
-/// The columns of the first bodies, so many.
+/// The first columns, so many.
 fn read_first<R: Threads>(
     rt: &R,
-    alloc: Global,
-    catalog: &Catalog,
-    p: u16,
-    rows: u32,
-    bodies: &[&[u8]],
+    reader: &SegmentReader<'_>,
     count: usize,
 ) -> Result<Vec<Cells>, FileFault>
-    requires projection { p < length catalog.now.projections }
-    requires rows { rows ≤ 1048576 }
-    requires width { length bodies.now ≡ length (projection catalog.now p).columns }
-    requires within { count ≤ length bodies.now }
-    ensures { AreFirstRead catalog.now p rows (map (λ body. body.now) bodies.now) count result }
+    requires { count ≤ length reader.now.bodies.now }
+    ensures { AreFirstRead reader.now.catalog.now reader.now.p reader.now.rows (map (λ body. body.now) reader.now.bodies.now) count result }
 {
     if count == 0 {
-        return Ok(Vec::new(alloc));
+        return Ok(Vec::new(reader.alloc));
     }
     let last = count - 1;
-    let (cells, before) = join(
+    // of a closure over a struct of references `join` says nothing
+    let (cells, before) = join_mut(
         rt,
-        || -> Result<Cells, FileFault>
-            requires { (p < length catalog.now.projections) × (rows ≤ 1048576) × (length bodies.now ≡ length (projection catalog.now p).columns) × (last < length bodies.now) }
-            ensures { IsReadAt catalog.entry.now p rows (map (λ body. body.now) bodies.entry.now) last result }
-        { read_body(alloc, catalog, p, last, bodies[last], rows) },
-        || -> Result<Vec<Cells>, FileFault>
-            requires { (p < length catalog.now.projections) × (rows ≤ 1048576) × (length bodies.now ≡ length (projection catalog.now p).columns) × (last ≤ length bodies.now) }
-            ensures { AreFirstRead catalog.entry.now p rows (map (λ body. body.now) bodies.entry.now) last result }
-        { read_first(rt, alloc, catalog, p, rows, bodies, last) },
+        &mut || -> Result<Cells, FileFault>
+            requires { last < length reader.now.bodies.now }
+            ensures { IsReadAt reader.entry.now.catalog.now reader.entry.now.p reader.entry.now.rows (map (λ body. body.now) reader.entry.now.bodies.now) last result }
+        { reader.column(last) },
+        &mut || -> Result<Vec<Cells>, FileFault>
+            requires { last ≤ length reader.now.bodies.now }
+            ensures { AreFirstRead reader.entry.now.catalog.now reader.entry.now.p reader.entry.now.rows (map (λ body. body.now) reader.entry.now.bodies.now) last result }
+        { read_first(rt, reader, last) },
     );
     let mut columns = before?;
     columns.push(cells?)?;
@@ -64,10 +58,17 @@ fn read_columns<R: Threads>(
     requires { p < length catalog.now.projections }
     ensures found { IfOk result (λ r. HoldsColumns catalog.now p s front.now r.0 r.1.items) }
     ensures refused { result ≡ Err FileFault.Damaged → HoldsNone catalog.now p s front.now }
+    ensures rules { IsCatalog catalog.now }
 {
     let (rows, bodies) = find_columns(alloc, catalog, p, s, front)?;
-    let width = catalog.width(p);
-    let columns = read_first(rt, alloc, catalog, p, rows, &bodies, width)?;
+    let reader = SegmentReader {
+        alloc,
+        catalog,
+        p,
+        rows,
+        bodies: &bodies,
+    };
+    let columns = read_first(rt, &reader, bodies.len())?;
     Ok((rows, columns))
 }
 
@@ -85,7 +86,6 @@ pub fn par_read_segment<R: Threads>(
     ensures refused { result ≡ Err FileFault.Damaged → (b : Base) → IsSegmentFile catalog.now p s bytes.now b → ⊥ }
     ensures only { IfOk result (λ segment. (b : Base) → IsSegmentFile catalog.now p s bytes.now b → b ≡ segment.base) }
 {
-    let _width = catalog.width(p);
     if bytes.len() < WORTH_THREADS {
         return read_segment(alloc, catalog, p, s, bytes);
     }

@@ -3,14 +3,15 @@ ghost use Rattle.std.specs.Prelude.{◌≡◌, ℕ, ◌<◌, ◌≤◌, List, ma
 ghost use Rattle.cs_schema.specs.declared.cells.Value.{Value};
 ghost use Rattle.cs_schema.specs.Values.{values, kind_of};
 ghost use Rattle.cs_segment.specs.SegmentFile.{Base, IsSegmentFile, code_number, kind_number};
-ghost use Rattle.cs_schema.specs.CatalogData.{projection};
+ghost use Rattle.cs_schema.specs.CatalogRules.{IsCatalog};
 ghost use Rattle.cs_segment.specs.Parts.{BeginsWithHead};
-ghost use Rattle.cs_segment.specs.Bodies.{AreColumnsIn, NoColumnIn, HoldsBodies, HoldsColumns, HoldsNone};
+ghost use Rattle.cs_segment.specs.Bodies.{HoldsBodies, HoldsColumns, HoldsNone};
 ghost use Rattle.cs_segment.specs.SegmentData.{IsSegmentOf, kinds_at};
 
-use crate::bodies::{find_bodies, read_body};
+use crate::bodies::find_bodies;
 use crate::bytes::{after, number, short};
 use crate::fault::FileFault;
+use crate::reader::SegmentReader;
 use crate::seal::unseal;
 use cs_schema::{Catalog, Cells, Code, Kind};
 use std::alloc::Global;
@@ -60,28 +61,6 @@ pub fn kind_number(kind: Kind) -> u8
     }
 }
 
-/// The columns of these bodies.
-fn read_bodies(
-    alloc: Global,
-    catalog: &Catalog,
-    p: u16,
-    rows: u32,
-    bodies: &[&[u8]],
-) -> Result<Vec<Cells>, FileFault>
-    requires projection { p < length catalog.now.projections }
-    requires count { rows ≤ 1048576 }
-    requires width { length bodies.now ≡ length (projection catalog.now p).columns }
-    ensures found { IfOk result (λ columns. AreColumnsIn catalog.now p rows (map (λ body. body.now) bodies.now) columns.items) }
-    ensures refused { result ≡ Err FileFault.Damaged → NoColumnIn catalog.now p rows (map (λ body. body.now) bodies.now) }
-{
-    let mut columns = Vec::new(alloc);
-    for j in 0..bodies.len() {
-        let cells = read_body(alloc, catalog, p, j, bodies[j], rows)?;
-        columns.push(cells)?;
-    }
-    Ok(columns)
-}
-
 /// The number of rows at the head of a segment's file, and what follows.
 fn read_head(bytes: &[u8], p: u16, s: u16, width: usize) -> Option<(u32, &[u8])>
     requires { width ≤ 32 }
@@ -110,6 +89,7 @@ pub(crate) fn find_columns<'a>(
     requires { p < length catalog.now.projections }
     ensures found { IfOk result (λ r. HoldsBodies catalog.now p s front.now r.0 (map (λ body. body.now) r.1.items)) }
     ensures refused { result ≡ Err FileFault.Damaged → HoldsNone catalog.now p s front.now }
+    ensures rules { IsCatalog catalog.now }
 {
     let Some((rows, parts)) = read_head(front, p, s, catalog.width(p)) else {
         return Err(FileFault::Damaged);
@@ -129,9 +109,17 @@ fn read_columns(
     requires { p < length catalog.now.projections }
     ensures found { IfOk result (λ r. HoldsColumns catalog.now p s front.now r.0 r.1.items) }
     ensures refused { result ≡ Err FileFault.Damaged → HoldsNone catalog.now p s front.now }
+    ensures rules { IsCatalog catalog.now }
 {
     let (rows, bodies) = find_columns(alloc, catalog, p, s, front)?;
-    let columns = read_bodies(alloc, catalog, p, rows, &bodies)?;
+    let reader = SegmentReader {
+        alloc,
+        catalog,
+        p,
+        rows,
+        bodies: &bodies,
+    };
+    let columns = reader.columns()?;
     Ok((rows, columns))
 }
 
@@ -148,7 +136,6 @@ pub fn read_segment(
     ensures refused { result ≡ Err FileFault.Damaged → (b : Base) → IsSegmentFile catalog.now p s bytes.now b → ⊥ }
     ensures only { IfOk result (λ segment. (b : Base) → IsSegmentFile catalog.now p s bytes.now b → b ≡ segment.base) }
 {
-    let _width = catalog.width(p);
     let Some(front) = unseal(bytes) else {
         return Err(FileFault::Damaged);
     };

@@ -115,6 +115,15 @@ const OF_THREE_ORDERS: [Trial; 5] = [
     (AS_IT_IS, 2, 2, 2, 14, 14),
 ];
 
+/// How many workers there are, and how many rows a piece of work has.
+#[derive(Drop)]
+struct Work {
+    workers: u32,
+    cut: u32,
+    ghost workers_range: { (1 ≤ workers) × (workers ≤ 64) },
+    ghost cut_range: { (1 ≤ cut) × (cut ≤ 1048576) },
+}
+
 /// Asks that so many workers rebuild the store, and check it, at once in each round.
 fn expect_at_once(
     rt: &(impl Threads + Sync + AllocGlobal + Abort),
@@ -128,8 +137,9 @@ fn expect_at_once(
         if workers < 1 || workers > 64 || cut < 1 || cut > 1_048_576 {
             return Err(Fail::from("no such work"));
         }
-        expect_rebuilt(rt, &store, lost, workers, cut, *rebuilt)?;
-        expect_checked(rt, &store, *k, lost.rows, workers, cut, *checked);
+        let work = Work { workers, cut };
+        expect_rebuilt(rt, &store, lost, &work, *rebuilt)?;
+        expect_checked(rt, &store, *k, lost.rows, &work, *checked);
     }
     Ok(())
 }
@@ -138,22 +148,18 @@ fn expect_rebuilt(
     rt: &(impl Threads + Sync + Abort),
     store: &Store,
     lost: &Lost,
-    workers: u32,
-    cut: u32,
+    work: &Work,
     pieces: u64,
-) -> Result<(), Fail>
-    requires workers { (1 ≤ workers) × (workers ≤ 64) }
-    requires cut { (1 ≤ cut) × (cut ≤ 1048576) }
-{
-    let gate = Crowd::of(workers - 1);
+) -> Result<(), Fail> {
+    let gate = Crowd::of(work.workers - 1);
     let out = rebuild_gated(
         rt,
         store.alloc,
         &store.catalog,
         &store.files,
         loss_of(lost.sites),
-        workers,
-        cut,
+        work.workers,
+        work.cut,
         &gate,
     );
     expect_entered(rt, &gate, pieces);
@@ -168,22 +174,18 @@ fn expect_checked(
     store: &Store,
     k: u8,
     rows: u64,
-    workers: u32,
-    cut: u32,
+    work: &Work,
     pieces: u64,
-)
-    requires workers { (1 ≤ workers) × (workers ≤ 64) }
-    requires cut { (1 ≤ cut) × (cut ≤ 1048576) }
-{
-    let gate = Crowd::of(workers - 1);
+) {
+    let gate = Crowd::of(work.workers - 1);
     let answer = check_gated(
         rt,
         store.alloc,
         &store.catalog,
         &store.files,
         k,
-        workers,
-        cut,
+        work.workers,
+        work.cut,
         &gate,
     );
     expect_entered(rt, &gate, pieces);

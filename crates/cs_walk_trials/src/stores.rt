@@ -4,21 +4,28 @@ mod files;
 
 ghost use Rattle.std.specs.Prelude.{◌≡◌, ◌<◌, length, map, IfOk};
 ghost use Rattle.cs_segment.specs.SegmentData.{kinds_at};
-ghost use Rattle.cs_rows.specs.Survivors.{HasRoom, HoldsImages};
 
 use cs_catalog::read_catalog;
 use cs_delta::{Image, merge, read_delta};
 use cs_jix::read_jix;
 use cs_rows::by_rows::walk_rows;
-use cs_rows::counts::{anchor_rows, surviving_row_count};
-use cs_rows::range::{WalkFault, walk_range};
-use cs_rows::{Survivors, Walked};
+use cs_rows::counts::surviving_row_count;
+use cs_rows::range::WalkFault;
+use cs_rows::{PlanWalk, Survivors, Walked};
 use cs_safety::plan;
 use cs_schema::{Catalog, Loss};
 use cs_segment::segment::read_segment;
 use files::{row_count, write_delta, write_join, write_segment};
 use std::alloc::{AllocGlobal, Global};
 use std::process::Abort;
+
+/// The catalog of a text.
+pub fn catalog(rt: &(impl Abort + AllocGlobal), text: &str) -> Catalog {
+    let Ok(catalog) = read_catalog(rt.alloc(), text.as_bytes()) else {
+        panic!(rt; "the catalog is not read");
+    };
+    catalog
+}
 
 fn image(
     rt: &(impl Abort + AllocGlobal),
@@ -48,23 +55,18 @@ fn image(
     image
 }
 
+/// What survives of a store.
 #[derive(Drop)]
-pub struct Store {
-    pub catalog: Catalog,
-    pub survivors: Survivors,
-    pub ghost room: { HasRoom catalog survivors },
-    pub ghost made: { HoldsImages catalog survivors },
+pub struct Store<'a> {
+    pub survivors: Survivors<'a>,
 }
 
-impl Store {
-    pub fn of(rt: &(impl Abort + AllocGlobal), text: &str) -> Store {
-        let Ok(catalog) = read_catalog(rt.alloc(), text.as_bytes()) else {
-            panic!(rt; "the catalog is not read");
-        };
-        let Ok(survivors) = Survivors::new(rt.alloc(), &catalog) else {
+impl<'a> Store<'a> {
+    pub fn of(rt: &(impl Abort + AllocGlobal), catalog: &'a Catalog) -> Store<'a> {
+        let Ok(survivors) = Survivors::new(rt.alloc(), catalog) else {
             panic!(rt; "no memory");
         };
-        Store { catalog, survivors }
+        Store { survivors }
     }
 
     pub fn put_segment(
@@ -75,8 +77,9 @@ impl Store {
         columns: &[&[i64]],
         deleted: &[u32],
     ) {
-        assert!(rt; p < self.catalog.projection_count() && s < self.catalog.segments(p));
-        let image = image(rt, &self.catalog, p, s, columns, deleted);
+        let catalog = self.survivors.catalog();
+        assert!(rt; p < catalog.projection_count() && s < catalog.segments(p));
+        let image = image(rt, catalog, p, s, columns, deleted);
         self.survivors.put_image(p as usize, s as usize, image);
     }
 
@@ -88,8 +91,9 @@ impl Store {
         q: u16,
         entries: &[(u16, u32)],
     ) {
-        let count = self.catalog.projection_count();
-        assert!(rt; p < count && q < count && s < self.catalog.segments(p));
+        let catalog = self.survivors.catalog();
+        let count = catalog.projection_count();
+        assert!(rt; p < count && q < count && s < catalog.segments(p));
         let mut file = Vec::new(rt.alloc());
         write_join(&mut file, p, s, q, entries).expect(rt, "a join index's file");
         let Ok(join) = read_jix(rt.alloc(), p, s, q, file.as_slice()) else {
@@ -107,23 +111,28 @@ impl Store {
         from: usize,
         to: usize,
     ) -> Result<Walked, WalkFault>
-        ensures { IfOk result (λ walked. walked.kinds ≡ map (λ c. c.kind) self.now.catalog.columns) }
+        ensures { IfOk result (λ walked. walked.kinds ≡ map (λ c. c.kind) self.now.survivors.catalog.columns) }
     {
-        let _projections = self.catalog.projection_count();
-        let Some(plan) = plan(&self.catalog, loss) else {
+        let catalog = self.survivors.catalog();
+        let _projections = catalog.projection_count();
+        let Some(plan) = plan(catalog, loss) else {
             return Err(WalkFault::Memory);
         };
-        if from > to || anchor_rows(&self.catalog, &plan, &self.survivors) < to {
+        let Ok(walk) = PlanWalk::new(alloc, catalog, &plan, &self.survivors) else {
+            return Err(WalkFault::Memory);
+        };
+        if from > to || walk.anchor_rows() < to {
             return Err(WalkFault::Memory);
         }
-        walk_range(alloc, &self.catalog, &plan, &self.survivors, from, to)
+        walk.range(alloc, from, to)
     }
 
     /// The rows of all surviving segments.
     pub fn walk_by_rows(&self, alloc: Global, loss: Loss) -> Result<Walked, WalkFault>
-        ensures { IfOk result (λ walked. walked.kinds ≡ map (λ c. c.kind) self.now.catalog.columns) }
+        ensures { IfOk result (λ walked. walked.kinds ≡ map (λ c. c.kind) self.now.survivors.catalog.columns) }
     {
-        let count = surviving_row_count(&self.catalog, loss, &self.survivors);
-        walk_rows(alloc, &self.catalog, loss, &self.survivors, 0, count)
+        let count = surviving_row_count(&self.survivors, loss);
+        let catalog = self.survivors.catalog();
+        walk_rows(alloc, catalog, loss, &self.survivors, 0, count)
     }
 }

@@ -1,12 +1,11 @@
 //! Walks of small stores.
-ghost use Rattle.std.specs.Prelude.{◌≡◌, map};
+ghost use Rattle.std.specs.Prelude.{◌≡◌, map, IfOk};
 
-use crate::stores::Store;
 use crate::stores::catalogs::{NUMBERED_CITIES, THREE_ORDERS};
+use crate::stores::{Store, catalog};
 use cs_rows::lent::Lent;
-use cs_rows::range::WalkFault;
-use cs_rows::whole::{anchor_column, follow_range, lone_column, reads_anchor_alone};
-use cs_rows::{Table, Walked};
+use cs_rows::range::{WalkFault, walk_range};
+use cs_rows::{PlanWalk, Table, Walked};
 use cs_safety::plan;
 use cs_schema::samples::SPLIT_COLUMNS;
 use cs_schema::{Catalog, Cells, Kind, Loss, Value};
@@ -41,7 +40,7 @@ fn shows(walked: &Walked, catalog: &Catalog, rows: &[&[i64]]) -> bool
 
 /// Whether a walk gives these rows.
 fn gives(
-    store: &Store,
+    store: &Store<'_>,
     alloc: Global,
     loss: Loss,
     from: usize,
@@ -49,20 +48,20 @@ fn gives(
     rows: &[&[i64]],
 ) -> bool {
     match store.walk(alloc, loss, from, to) {
-        Ok(walked) => shows(&walked, &store.catalog, rows),
+        Ok(walked) => shows(&walked, store.survivors.catalog(), rows),
         Err(_) => false,
     }
 }
 
 /// Whether two walks of a row each give these rows.
-fn gives_in_parts(store: &Store, alloc: Global, loss: Loss, rows: &[&[i64]]) -> bool {
+fn gives_in_parts(store: &Store<'_>, alloc: Global, loss: Loss, rows: &[&[i64]]) -> bool {
     let Ok(mut first) = store.walk(alloc, loss, 0, 1) else {
         return false;
     };
     let Ok(second) = store.walk(alloc, loss, 1, 2) else {
         return false;
     };
-    first.append(second).is_ok() && shows(&first, &store.catalog, rows)
+    first.append(second).is_ok() && shows(&first, store.survivors.catalog(), rows)
 }
 
 /// Whether a walk stops at the second row of the first segment.
@@ -74,7 +73,8 @@ fn is_astray<T: Drop>(walked: Result<T, WalkFault>) -> bool {
 fn ranges_of_a_plan_with_ample_memory(rt: HostRuntime) {
     let alloc = rt.alloc();
     let loss = Loss::none().with(3);
-    let mut store = Store::of(&rt, SPLIT_COLUMNS);
+    let catalog = catalog(&rt, SPLIT_COLUMNS);
+    let mut store = Store::of(&rt, &catalog);
     store.put_segment(&rt, 0, 0, &[&[1, 2], &[5, 6]], &[]);
     store.put_segment(&rt, 1, 0, &[&[7, 8, 9]], &[0]);
     store.put_join(&rt, 0, 0, 1, &[(0, 3), (0, 2)]);
@@ -87,46 +87,100 @@ fn ranges_of_a_plan_with_ample_memory(rt: HostRuntime) {
 }
 
 /// Two rows that lead to the second projection, the second of them astray.
-fn numbered_cities(rt: &(impl Abort + AllocGlobal)) -> Store {
-    let mut store = Store::of(rt, NUMBERED_CITIES);
+fn numbered_cities<'a>(rt: &(impl Abort + AllocGlobal), catalog: &'a Catalog) -> Store<'a> {
+    let mut store = Store::of(rt, catalog);
     store.put_segment(rt, 0, 0, &[&[1, 2], &[2, 2], &[7, 5]], &[]);
     store.put_segment(rt, 1, 1, &[&[2], &[7]], &[]);
     store.put_join(rt, 0, 0, 1, &[(1, 1), (1, 9)]);
     store
 }
 
-// The first projection has each column, and its rows lead to the second all the same.
-#[test]
-fn keys_of_an_anchor(rt: HostRuntime) {
+/// Asks for the keys of the rows of the plan of no loss, whole and as they are lent, and which of these rows are astray.
+fn expect_keys(rt: &(impl Abort + AllocGlobal), store: &Store<'_>) {
     let alloc = rt.alloc();
-    let store = numbered_cities(&rt);
-    let _projections = store.catalog.projection_count();
-    let plan = plan(&store.catalog, Loss::none()).expect(&rt, "a plan");
-    assert!(rt; reads_anchor_alone(&store.catalog, &plan));
-    let keys = anchor_column(alloc, &store.catalog, &plan, &store.survivors, 0);
-    let keys = keys.expect(&rt, "the keys");
+    let catalog = store.survivors.catalog();
+    let _projections = catalog.projection_count();
+    let plan = plan(catalog, Loss::none()).expect(rt, "a plan");
+    let walk = PlanWalk::new(alloc, catalog, &plan, &store.survivors).expect(rt, "a walk");
+    assert!(rt; walk.reads_anchor_alone());
+    assert!(rt; walk.column_count() == 3 && walk.kind(0) == Kind::Int);
+    let keys = walk.anchor_column(alloc, 0);
+    let keys = keys.expect(rt, "the keys");
     assert!(rt; keys.len() == 2 && keys.cell(1) == Value::Int(2));
     let mut made = Vec::new(alloc);
     let Ok(()) = made.push(Cells::new(alloc, Kind::Int)) else {
         panic!(rt; "no memory");
     };
     let mut lent = Lent::nothing(alloc);
-    lent.push(lone_column(&store.catalog, &plan, &store.survivors, 0))
-        .expect(&rt, "memory");
+    lent.push(walk.lone_column(0)).expect(rt, "memory");
     let table = Table::of_columns(made, lent);
     assert!(rt; table.rows() == 2 && table.column(0).same(1, &keys, 1));
-    assert!(rt; follow_range(alloc, &store.catalog, &plan, &store.survivors, 0, 1).is_ok());
-    assert!(rt; is_astray(follow_range(alloc, &store.catalog, &plan, &store.survivors, 0, 2)));
+    assert!(rt; walk.follow_range(0, 1).is_ok());
+    assert!(rt; is_astray(walk.follow_range(0, 2)));
+}
+
+// The first projection has each column, and its rows lead to the second all the same.
+#[test]
+fn keys_of_an_anchor(rt: HostRuntime) {
+    let catalog = catalog(&rt, NUMBERED_CITIES);
+    let store = numbered_cities(&rt, &catalog);
+    expect_keys(&rt, &store);
+}
+
+/// The rows of the plan of no loss, in one walk. Want of memory where there is no plan, or the range ends before it begins.
+fn walk_once(store: &Store<'_>, alloc: Global, from: usize, to: usize) -> Result<Walked, WalkFault>
+    ensures { IfOk result (λ walked. walked.kinds ≡ map (λ c. c.kind) store.now.survivors.catalog.columns) }
+{
+    let catalog = store.survivors.catalog();
+    let _projections = catalog.projection_count();
+    match plan(catalog, Loss::none()) {
+        Some(plan) => {
+            if from > to {
+                return Err(WalkFault::Memory);
+            }
+            walk_range(alloc, catalog, &plan, &store.survivors, from, to)
+        }
+        None => Err(WalkFault::Memory),
+    }
+}
+
+#[test]
+fn rows_of_a_plan_in_one_walk(rt: HostRuntime) {
+    let alloc = rt.alloc();
+    let catalog = catalog(&rt, NUMBERED_CITIES);
+    let store = numbered_cities(&rt, &catalog);
+    let Ok(walked) = walk_once(&store, alloc, 0, 1) else {
+        panic!(rt; "no rows");
+    };
+    assert!(rt; shows(&walked, store.survivors.catalog(), &[&[1, 2, 7]]));
+    assert!(rt; is_astray(walk_once(&store, alloc, 0, 2)));
+}
+
+// What was put is there, and nothing else.
+#[test]
+fn images_and_joins_that_were_put(rt: HostRuntime) {
+    let catalog = catalog(&rt, NUMBERED_CITIES);
+    let store = numbered_cities(&rt, &catalog);
+    let survivors = &store.survivors;
+    let catalog = survivors.catalog();
+    assert!(rt; catalog.projection_count() == 2);
+    assert!(rt; catalog.segments(0) == 1 && catalog.segments(1) == 2);
+    assert!(rt; survivors.images(1).len() == 2 && survivors.image(1, 0).is_none());
+    let image = survivors.image(1, 1).expect(&rt, "an image");
+    assert_eq!(rt; image.rows(), 1);
+    let join = survivors.join(0, 0, 1).expect(&rt, "a join index");
+    assert!(rt; join.top() == 2 && join.entry(2) == Some((1, 9)));
+    assert!(rt; survivors.join(1, 1, 0).is_none());
 }
 
 /// Whether the walk by rows has so many rows, and these where each key stands once.
-fn gives_once(store: &Store, alloc: Global, loss: Loss, all: usize, rows: &[&[i64]]) -> bool {
+fn gives_once(store: &Store<'_>, alloc: Global, loss: Loss, all: usize, rows: &[&[i64]]) -> bool {
     let Ok(mut walked) = store.walk_by_rows(alloc, loss) else {
         return false;
     };
     walked.rows() == all
-        && walked.once(&store.catalog).is_ok()
-        && shows(&walked, &store.catalog, rows)
+        && walked.once(store.survivors.catalog()).is_ok()
+        && shows(&walked, store.survivors.catalog(), rows)
 }
 
 /// Whether no rows are no rows where each key stands once.
@@ -140,20 +194,22 @@ fn keeps_no_rows(alloc: Global, catalog: &Catalog) -> bool {
 // No projection is alive, and each row stands in a surviving segment.
 #[test]
 fn rows_of_surviving_segments_with_ample_memory(rt: HostRuntime) {
-    let mut store = Store::of(&rt, THREE_ORDERS);
+    let catalog = catalog(&rt, THREE_ORDERS);
+    let mut store = Store::of(&rt, &catalog);
     store.put_segment(&rt, 0, 1, &[&[3, 4], &[20, 10]], &[]);
     store.put_segment(&rt, 1, 1, &[&[3, 1], &[20, 30]], &[]);
     store.put_segment(&rt, 2, 0, &[&[2, 4, 3], &[10, 10, 20]], &[]);
     let loss = Loss::none().with(1).with(3).with(6);
     let rows: [&[i64]; 4] = [&[3, 20], &[4, 10], &[1, 30], &[2, 10]];
     assert!(rt; gives_once(&store, rt.alloc(), loss, 7, &rows));
-    assert!(rt; keeps_no_rows(rt.alloc(), &store.catalog));
+    assert!(rt; keeps_no_rows(rt.alloc(), store.survivors.catalog()));
 }
 
 // One segment is left, in which a key stands twice.
 #[test]
 fn rows_with_a_key_twice(rt: HostRuntime) {
-    let mut store = Store::of(&rt, THREE_ORDERS);
+    let catalog = catalog(&rt, THREE_ORDERS);
+    let mut store = Store::of(&rt, &catalog);
     store.put_segment(&rt, 2, 0, &[&[2, 4, 3, 2], &[10, 10, 20, 30]], &[]);
     let loss = Loss::none().with(1).with(2).with(3).with(4).with(6);
     let rows: [&[i64]; 3] = [&[2, 10], &[4, 10], &[3, 20]];
@@ -164,7 +220,8 @@ fn rows_with_a_key_twice(rt: HostRuntime) {
 #[test]
 fn rows_with_a_marked_projection(rt: HostRuntime) {
     let loss = Loss::none().with(2);
-    let mut store = Store::of(&rt, NUMBERED_CITIES);
+    let catalog = catalog(&rt, NUMBERED_CITIES);
+    let mut store = Store::of(&rt, &catalog);
     store.put_segment(&rt, 0, 0, &[&[1, 2, 3], &[2, 1, 1], &[7, 5, 3]], &[]);
     store.put_segment(&rt, 1, 1, &[&[2], &[7]], &[]);
     store.put_join(&rt, 0, 0, 1, &[(1, 1), (0, 1), (0, 2)]);

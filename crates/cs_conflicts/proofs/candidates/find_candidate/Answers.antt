@@ -18,7 +18,7 @@ order_store-requires-clause-read g c κs within =
 pub returns-in_default : goal.returns-in_default
 returns-in_default g c F read =
     let m = c.args.remains.now in
-    no_table_beside m.catalog.now c.projection_count-rules.ensures.rules F m.first c.args.loss m.survivors.now read c.in-Err.fault c.in-Err.ensures.err c.in_default.not-Memory
+    no_table_beside m.catalog.now m.rules F m.first c.args.loss m.survivors.now read c.in-Err.fault c.in-Err.ensures.err c.in_default.not-Memory
 
 pub conflicts_of-requires-clause-table : goal.conflicts_of-requires-clause-table
 conflicts_of-requires-clause-table g c κs within =
@@ -26,7 +26,7 @@ conflicts_of-requires-clause-table g c κs within =
     let e = c.store_of-store.ensures in
     let o = c.in-Ok.ensures.ok in
     on_store (λ C L v w. IsTable C (table_of C w.rows)) (sym e.catalog) (sym e.loss) (sym e.survivors) (sym e.walked)
-    (is_table m.catalog.now c.projection_count-rules.ensures.rules c.requires.read.0 m.first c.args.loss m.survivors.now c.requires.read.1 c.in-Ok.store.walked.rows o.walked.walk o.rows_sound c.requires.within)
+    (is_table m.catalog.now m.rules c.requires.read.0 m.first c.args.loss m.survivors.now c.requires.read.1 c.in-Ok.store.walked.rows o.walked.walk o.rows_sound c.requires.within)
 
 pub conflicts_of-requires-clause-fits : goal.conflicts_of-requires-clause-fits
 conflicts_of-requires-clause-fits g c κs within =
@@ -34,12 +34,12 @@ conflicts_of-requires-clause-fits g c κs within =
     let e = c.store_of-store.ensures in
     let o = c.in-Ok.ensures.ok in
     on_store (λ C L v w. Fits C (table_of C w.rows)) (sym e.catalog) (sym e.loss) (sym e.survivors) (sym e.walked)
-    (fits m.catalog.now c.projection_count-rules.ensures.rules c.requires.read.0 m.first c.args.loss m.survivors.now c.requires.read.1 c.in-Ok.store.walked.rows o.walked.walk o.rows_sound c.requires.within)
+    (fits m.catalog.now m.rules c.requires.read.0 m.first c.args.loss m.survivors.now c.requires.read.1 c.in-Ok.store.walked.rows o.walked.walk o.rows_sound c.requires.within)
 
 pub returns : goal.returns
 returns g c F read =
     let m = c.args.remains.now in
-    let cat = c.projection_count-rules.ensures.rules in
+    let cat = m.rules in
     let store = c.store_of-store.result in
     let e = c.store_of-store.ensures in
     let o = c.in-Ok.ensures.ok in

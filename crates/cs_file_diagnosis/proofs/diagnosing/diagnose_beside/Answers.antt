@@ -7,12 +7,12 @@ pub diagnose_read-requires-clause-read : goal.diagnose_read-requires-clause-read
 diagnose_read-requires-clause-read g c κs within =
     let m = c.args.remains.now in
     let F = contents_of c.args.files.now in
-    let told = told_beside m.catalog.now c.projection_count-rules.ensures.rules F c.args.unreadable.now c.requires.absent m.first m.survivors.now c.requires.read c.requires.missing c.others-rest.result c.others-rest.ensures c.in-Ok.bad.items c.in-Ok.ensures in
+    let told = told_beside m.catalog.now c.args.remains.now.rules F c.args.unreadable.now c.requires.absent m.first m.survivors.now c.requires.read c.requires.missing c.others-rest.result c.others-rest.ensures c.in-Ok.bad.items c.in-Ok.ensures in
     (F, c.args.unreadable.now, c.requires.read, told)
 
 pub returns-in-Ok : goal.returns-in-Ok
 returns-in-Ok g c =
     let m = c.args.remains.now in
     let F = contents_of c.args.files.now in
-    let told = told_beside m.catalog.now c.projection_count-rules.ensures.rules F c.args.unreadable.now c.requires.absent m.first m.survivors.now c.requires.read c.requires.missing c.others-rest.result c.others-rest.ensures c.in-Ok.bad.items c.in-Ok.ensures in
+    let told = told_beside m.catalog.now c.args.remains.now.rules F c.args.unreadable.now c.requires.absent m.first m.survivors.now c.requires.read c.requires.missing c.others-rest.result c.others-rest.ensures c.in-Ok.bad.items c.in-Ok.ensures in
     IfOk-weaker c.diagnose_read.result _ _ (λ d h. h F c.args.unreadable.now c.requires.read told) c.diagnose_read.ensures

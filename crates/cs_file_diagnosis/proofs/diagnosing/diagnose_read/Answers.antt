@@ -14,13 +14,13 @@ pub reach_of-reach-requires-clause-forced : goal.reach_of-reach-requires-clause-
 reach_of-reach-requires-clause-forced g c =
     let m = c.args.remains.now in
     let told = c.requires.read.3 in
-    are_loss m.catalog.now c.projection_count-rules.ensures.rules c.requires.read.0 c.requires.read.1 told.absent c.args.bad.items told.list m.first told.sites_are c.count-sites.ensures.sites
+    are_loss m.catalog.now c.args.remains.now.rules c.requires.read.0 c.requires.read.1 told.absent c.args.bad.items told.list m.first told.sites_are c.count-sites.ensures.sites
 
 pub returns-in-Ok : goal.returns-in-Ok
 returns-in-Ok g c = λ F unreadable read told.
     let m = c.args.remains.now in
     let C = m.catalog.now in
-    let cat = c.projection_count-rules.ensures.rules in
+    let cat = c.args.remains.now.rules in
     let found = c.in-Ok.found.explanations.items in
     let tables = c.in-Ok.found.tables.items in
     let explained = c.in-Ok.ensures F read (are_forced C cat F unreadable told.absent c.args.bad.items told.list m.first told.sites_are) in

@@ -1,5 +1,6 @@
-use Rattle.std.proofs.Common.{sym, subst, refl}
+use Rattle.std.proofs.Common.{sym, subst, refl, ◌∙◌}
 use Rattle.std.proofs.lemmas.Result.{on_ok_weaker}
+use Rattle.cs_schema.proofs.Ascending.{false≢true}
 use Rattle.cs_diagnosis.specs.Tried.{IsTried}
 use Rattle.cs_file_diagnosis.specs.Known.{IsKnown}
 use Rattle.cs_file_diagnosis.proofs.Searched.{found_held}
@@ -19,9 +20,12 @@ returns-in-Some g c =
 
 pub returns-then-refutes : goal.returns-then-refutes
 returns-then-refutes g c = λ F read known. (
-  IsTried.none (λ T held. c.refutes.ensures c.if-refutes.true F c.args.remains.now.first known.walks c.requires.within c.requires.safe T held) refl refl,
+  IsTried.none (λ T held. c.refutes.ensures.none_held c.if-refutes.true F c.args.remains.now.first known.walks c.requires.within c.requires.safe T held) refl refl,
   known,
 )
 
+pub walk_loss-requires-clause-unrefuted : goal.walk_loss-requires-clause-unrefuted
+walk_loss-requires-clause-unrefuted g c κs within = λ is. false≢true (sym c.if-refutes.false ∙ c.refutes.ensures.refuted.1 is)
+
 pub returns-else-refutes : goal.returns-else-refutes
-returns-else-refutes g c = on_ok_weaker c.walk_loss.result (λ walked F read known. walked F read known c.in-None.ensures) c.walk_loss.ensures
+returns-else-refutes g c = c.walk_loss.ensures.tried

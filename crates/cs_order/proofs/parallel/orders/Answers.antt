@@ -5,7 +5,6 @@ use Rattle.std.proofs.Crossing.{crosses}
 use Rattle.std.specs.List.{AllZip, range_with_len}
 use Rattle.std.specs.List.Sorted.{IsPermutation}
 use denote.Param.Send.{sendable}
-use Rattle.cs_schema.specs.CatalogData.{ColumnData}
 use Rattle.cs_order.specs.declared.segments.ProjectionOrder.{ProjectionOrder}
 use Rattle.cs_order.specs.Tables.{table_of}
 use Rattle.cs_order.specs.Numbers.{AreSegmentsOf}
@@ -23,8 +22,6 @@ pub made_orders-requires : goal.made_orders-requires
 made_orders-requires g c = (
   search (sendable, crosses) depth 40,
   record {
-    wide = ap length c.requires.kinds ∙ length-map c.args.catalog.now.columns (λ (x : ColumnData). x.kind);
-    few = c.requires.few;
     once = sym c.key_stands_twice.ensures ∙ c.if-key_stands_twice.false;
     all_is = c.deref-3.ensures.value ∙ c.in_ok-all.ensures;
     by_key_is = rw c.deref-4.ensures.value (subst (λ l. IsPermutation l c.in_ok-by_key.by_key.items) (c.deref.ensures.value ∙ c.in_ok-all.ensures) c.in_ok-by_key.ensures.permutation);

@@ -16,18 +16,18 @@ use Rattle.cs_rebuild.proofs.anchored.copy_columns.Goals as goal
 pub collect-requires-clause-ready : goal.collect-requires-clause-ready
 collect-requires-clause-ready g c κs within =
     let ends = c.into_par_iter.ensures in
-    let inside = nat_range-All (λ i. i < length c.args.catalog.now.columns) 0 (length c.args.catalog.now.columns) (λ i low high. high) in
+    let inside = nat_range-All (λ i. i < length c.args.walk.now.survivors.now.catalog.columns) 0 (length c.args.walk.now.survivors.now.catalog.columns) (λ i low high. high) in
     rw (c.map.ensures.base, c.map.ensures.f, c.with_min_len.ensures.base, ends.0, ends.1, c.column_count.ensures.count)
-    (λ k d lt. ((inside k d lt, (c.column_count.ensures.rules, (c.requires.plan, (c.requires.room, (c.requires.made, (c.requires.read, c.requires.lent)))))), λ y p. tt))
+    (λ k d lt. ((inside k d lt, (c.requires.read, c.requires.lent)), λ y p. tt))
 
 module _ (g : Over) (c : goal.In_ok-collect g) where
   abbrev IsCopied : ℕ → Result Cells AllocError → Type 0
-  IsCopied k r = IfOk r (IsAnchorColumn c.args.catalog.now (contents_of c.args.survivors.now) c.args.plan.now c.args.lent.now k)
+  IsCopied k r = IfOk r (IsAnchorColumn c.args.walk.now.survivors.now.catalog (contents_of c.args.walk.now.survivors.now) c.args.walk.now.plan.now c.args.lent.now k)
 
   abbrev rows : List Row
-  rows = map (walked_row c.args.catalog.now (contents_of c.args.survivors.now) c.args.plan.now) (projection_rows c.args.catalog.now (contents_of c.args.survivors.now) c.args.plan.now.anchor)
+  rows = map (walked_row c.args.walk.now.survivors.now.catalog (contents_of c.args.walk.now.survivors.now) c.args.walk.now.plan.now) (projection_rows c.args.walk.now.survivors.now.catalog (contents_of c.args.walk.now.survivors.now) c.args.walk.now.plan.now.anchor)
 
-  copied : IfOk c.in_ok-collect.field-0 (λ columns. AllZip IsCopied (range_with_len 0 (length c.args.catalog.now.columns)) (map Ok columns.items))
+  copied : IfOk c.in_ok-collect.field-0 (λ columns. AllZip IsCopied (range_with_len 0 (length c.args.walk.now.survivors.now.catalog.columns)) (map Ok columns.items))
   copied =
       let ends = c.into_par_iter.ensures in
       let h = c.in_ok-collect.ensures in
@@ -37,11 +37,11 @@ module _ (g : Over) (c : goal.In_ok-collect g) where
       (all_there IsCopied (λ columns. columns.items) c.column_count.result h.1.0 h.0 c.in_ok-collect.field-0 numbers zipped h.2)
 
   -- each column has the cells of the anchor's rows
-  there : (columns : List Cells) → AllZip IsCopied (range_with_len 0 (length c.args.catalog.now.columns)) (map Ok columns) → AllZip (IsJoined c.args.catalog.now rows c.args.lent.now) (range_with_len 0 (length c.args.catalog.now.columns)) (map Ok columns)
-  there columns = AllZip-weaken IsCopied (IsJoined c.args.catalog.now rows c.args.lent.now) (λ k r h. IfOk-then r _ _ h (λ cells made. made.is)) (range_with_len 0 (length c.args.catalog.now.columns)) (map Ok columns)
+  there : (columns : List Cells) → AllZip IsCopied (range_with_len 0 (length c.args.walk.now.survivors.now.catalog.columns)) (map Ok columns) → AllZip (IsJoined c.args.walk.now.survivors.now.catalog rows c.args.lent.now) (range_with_len 0 (length c.args.walk.now.survivors.now.catalog.columns)) (map Ok columns)
+  there columns = AllZip-weaken IsCopied (IsJoined c.args.walk.now.survivors.now.catalog rows c.args.lent.now) (λ k r h. IfOk-then r _ _ h (λ cells made. made.is)) (range_with_len 0 (length c.args.walk.now.survivors.now.catalog.columns)) (map Ok columns)
 
 pub returns-clause-fit : goal.returns-clause-fit
-returns-clause-fit g c = IfOk-then c.in_ok-collect.field-0 _ _ (copied g c) (λ columns zipped. joined_fit c.args.catalog.now (rows g c) c.args.lent.now columns.items (there g c columns.items zipped))
+returns-clause-fit g c = IfOk-then c.in_ok-collect.field-0 _ _ (copied g c) (λ columns zipped. joined_fit c.args.walk.now.survivors.now.catalog (rows g c) c.args.lent.now columns.items (there g c columns.items zipped))
 
 pub returns-clause-rows : goal.returns-clause-rows
-returns-clause-rows g c = IfOk-then c.in_ok-collect.field-0 _ _ (copied g c) (λ columns zipped. joined_rows c.args.catalog.now (rows g c) c.args.lent.now columns.items (there g c columns.items zipped))
+returns-clause-rows g c = IfOk-then c.in_ok-collect.field-0 _ _ (copied g c) (λ columns zipped. joined_rows c.args.walk.now.survivors.now.catalog (rows g c) c.args.lent.now columns.items (there g c columns.items zipped))

@@ -9,17 +9,17 @@ use Rattle.cs_rebuild.proofs.anchored.walk_anchored.Goals as goal
 
 pub returns-in-Ok-anchor_table-clause-rows : goal.returns-in-Ok-anchor_table-clause-rows
 returns-in-Ok-anchor_table-clause-rows g c =
-    let C = c.args.catalog.now in
-    let S = contents_of c.args.survivors.now in
-    let P = c.args.plan.now in
+    let C = c.args.walk.now.survivors.now.catalog in
+    let S = contents_of c.args.walk.now.survivors.now in
+    let P = c.args.walk.now.plan.now in
     all_followed C S P c.args.run.now.cut c.args.pieces c.requires.pieces c.in-Ok.ensures.ok.sound
     ∙ ap (λ (l : List Row). Ok l) (sym c.in-Ok-anchor_table.ensures.rows)
 
 pub returns-clause-err : goal.returns-clause-err
 returns-clause-err g c =
-    let C = c.args.catalog.now in
-    let S = contents_of c.args.survivors.now in
-    let P = c.args.plan.now in
+    let C = c.args.walk.now.survivors.now.catalog in
+    let S = contents_of c.args.walk.now.survivors.now in
+    let P = c.args.walk.now.plan.now in
     let e : At → Stray = λ at. (P.anchor, at.0, at.1) in
     let f : List At → List Row = map (walked_row C S P) in
     memory_or _ c.in-Err.ensures.err (first_astray (is_astray C S P) e f (projection_rows C S P.anchor) c.args.run.now.cut c.args.pieces c.in-Err.fault)

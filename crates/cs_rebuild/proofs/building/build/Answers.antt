@@ -12,7 +12,9 @@ use Rattle.cs_recovery.specs.BuildAnswers.{no_files, IsBuildAnswer}
 use Rattle.cs_recovery.specs.Columns.{rows_in}
 use Rattle.cs_recovery.specs.Expected.{written}
 use Rattle.cs_recovery.proofs.ColumnRows.{rows_are}
+use Rattle.cs_rebuild.specs.OnStore.{written_on}
 use Rattle.cs_rebuild.specs.Steps.{AreRead, HoldsTable}
+use Rattle.cs_rebuild.specs.declared.ordered_store.OrderedStore.{OrderedStore}
 use Rattle.cs_rebuild.proofs.BuiltFiles.{columns_fit, columns_even, none_read, held_afresh, built_answer, build_ends}
 use Rattle.cs_rebuild.proofs.Verdicts.{on_store}
 use Rattle.cs_rebuild.proofs.building.build.Goals as goal
@@ -34,15 +36,15 @@ pub store_of-store-requires-clause-read : goal.store_of-store-requires-clause-re
 store_of-store-requires-clause-read g c =
     (no_files, subst (λ L. AreRead c.args.catalog.now no_files L c.in-Ok-new.survivors) (sym c.every_site.ensures) (none_read c.args.catalog.now c.projection_count-rules.ensures.rules c.in-Ok-new.survivors c.in-Ok-new.ensures))
 
-pub write_lost-requires : goal.write_lost-requires
-write_lost-requires g c =
+pub of-requires : goal.of-requires
+of-requires g c =
     let C = c.args.catalog.now in
     let w = c.in-Ok.walked in
     let rows : w.rows ≡ rows_in c.args.rows.now = ap (λ (x : WalkedData). x.rows) c.in-Ok.ensures in
     let are : (row : Row) → IsIn row w.rows → IsRow C row = λ row i. rows_are C c.args.rows.now c.requires c.see_columns.ensures row (subst (IsIn row) rows i) in
     let held = held_afresh C c.projection_count-rules.ensures.rules w are c.in-Ok-new.survivors c.in-Ok-orders_of.ensures.sound in
     let e = c.store_of-store.ensures in
-    (c.type_bounds.sync-R, (c.type_bounds.sync-G, (no_files, on_store (λ D L v x. HoldsTable D no_files L v x) (sym e.catalog) (sym (e.loss ∙ c.every_site.ensures)) (sym e.survivors) (sym e.walked) held)))
+    (no_files, on_store (λ D L v x. HoldsTable D no_files L v x) (sym e.catalog) (sym (e.loss ∙ c.every_site.ensures)) (sym e.survivors) (sym e.walked) held)
 
 pub returns-clause-answer : goal.returns-clause-answer
 returns-clause-answer g c =
@@ -50,9 +52,9 @@ returns-clause-answer g c =
     let w = c.in-Ok.walked in
     let rows : w.rows ≡ rows_in c.args.rows.now = ap (λ (x : WalkedData). x.rows) c.in-Ok.ensures in
     let e = c.store_of-store.ensures in
-    let r = c.write_lost.result in
-    let files = on_store (λ D L v x. IfOk r (λ out. (n : FileName) → contents_of out n ≡ written D L (held_by v) (table_of D x.rows) n)) e.catalog (e.loss ∙ c.every_site.ensures) e.survivors e.walked c.write_lost.ensures.ok in
-    subst (λ (l : List Row). IsBuildAnswer C l r) rows (built_answer C c.projection_count-rules.ensures.rules w.rows c.in-Ok-new.survivors c.in-Ok-orders_of.ensures.sound r files c.write_lost.ensures.err)
+    let r = c.lost_files-2.result in
+    let files = on_store (λ D L v x. IfOk r (λ out. (n : FileName) → contents_of out n ≡ written D L (held_by v) (table_of D x.rows) n)) e.catalog (e.loss ∙ c.every_site.ensures) e.survivors e.walked (subst (λ (o : OrderedStore). IfOk r (λ out. (n : FileName) → contents_of out n ≡ written_on o n)) c.of.ensures c.lost_files-2.ensures.ok) in
+    subst (λ (l : List Row). IsBuildAnswer C l r) rows (built_answer C c.projection_count-rules.ensures.rules w.rows c.in-Ok-new.survivors c.in-Ok-orders_of.ensures.sound r files c.lost_files-2.ensures.err)
 
 pub returns-clause-clauses : goal.returns-clause-clauses
 returns-clause-clauses g c = build_ends c.args.catalog.now c.projection_count-rules.ensures.rules (rows_in c.args.rows.now) (rows_are c.args.catalog.now c.args.rows.now c.requires c.see_columns.ensures) _ (returns-clause-answer g c)

@@ -28,7 +28,7 @@ returns-in-Err-merge_image-clause-err g c =
 pub returns-in-Ok-joins-clause-sound : goal.returns-in-Ok-joins-clause-sound
 returns-in-Ok-joins-clause-sound g c =
     let base : HoldsBase c.args.catalog.now (contents_of c.args.files.now) c.args.p c.args.s c.in-Ok.segment = rw c.in-Ok.is at c.read_each-delta.ensures.base.0 in
-    all_sound c.args.catalog.now (contents_of c.args.files.now) c.args.p c.args.s c.requires c.projection_count-count.ensures.rules
+    all_sound c.args.catalog.now (contents_of c.args.files.now) c.args.p c.args.s c.requires c.read_each-delta.ensures.rules
     (base_sound c.args.catalog.now (contents_of c.args.files.now) c.args.p c.args.s c.requires _ base)
     (c.in-Ok-merge_image.image.image, c.in-Ok-merge_image.ensures.ok.0)
     (join_sound c.args.catalog.now (contents_of c.args.files.now) c.args.p c.args.s c.requires c.in-Ok-joins.joins.items (length c.args.catalog.now.projections) (rw c.in-Ok-joins.is at c.read_each-delta.ensures.others.targets) (rw c.in-Ok-joins.is at c.read_each-delta.ensures.others.joins))

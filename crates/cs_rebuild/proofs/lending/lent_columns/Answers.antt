@@ -16,9 +16,9 @@ lent_there P Q (Some b) p q = (p, q)
 
 pub loop-c-preserved : goal.loop-c-preserved
 loop-c-preserved c =
-    let C = c.args.catalog.now in
-    let S = contents_of c.args.survivors.now in
-    let P = c.args.plan.now in
+    let C = c.args.walk.now.survivors.now.catalog in
+    let S = contents_of c.args.walk.now.survivors.now in
+    let P = c.args.walk.now.plan.now in
     let rows : List Row = map (walked_row C S P) (projection_rows C S P.anchor) in
     let one : Option Cells = option_map (λ b. b.now) c.lone_column.result in
     let more = c.in_ok-push.ensures.ok in

@@ -9,5 +9,5 @@ use Rattle.cs_rebuild.proofs.lending.lent_columns.Given as goal
 abbrev pub invariant-loop-c : goal.invariant-loop-c
 invariant-loop-c l = record {
   count : length l.lent ≡ l.c;
-  each : (k : ℕ) → k < l.c → IfSome (get_or l.lent k None) (IsColumnOf l.catalog (map (walked_row l.catalog (contents_of l.survivors) l.plan) (projection_rows l.catalog (contents_of l.survivors) l.plan.anchor)) k);
+  each : (k : ℕ) → k < l.c → IfSome (get_or l.lent k None) (IsColumnOf l.walk.survivors.now.catalog (map (walked_row l.walk.survivors.now.catalog (contents_of l.walk.survivors.now) l.walk.plan.now) (projection_rows l.walk.survivors.now.catalog (contents_of l.walk.survivors.now) l.walk.plan.now.anchor)) k);
 }

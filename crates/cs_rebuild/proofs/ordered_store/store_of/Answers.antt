@@ -8,11 +8,11 @@ invariant_of-result c =
     let read = c.requires.read.1 in
     let rows = c.args.walked.rows in
     record {
-      image_room = facts.image_room C v read.room;
-      join_room = facts.join_room C v read.room;
+      same = read.catalog;
+      image_room = facts.image_room C v read.catalog;
+      join_room = facts.join_room C v read.catalog;
       images_there = read.images_there;
       joins_there = read.joins_there;
-      image_kinds = facts.kinds C c.requires.read.0 c.args.loss v read;
       widths = facts.widths C c.requires.read.0 c.args.loss v read;
       keys = facts.keys C c.requires.read.0 c.args.loss v read;
       tops = facts.tops C c.requires.read.0 c.args.loss v read;

@@ -4,7 +4,8 @@ use Rattle.std.proofs.lemmas.Option.{same_Some, slice_get_within}
 use Rattle.cs_schema.specs.Lists.{IsIn}
 use Rattle.cs_schema.proofs.Lists.{in_at, in_map}
 use Rattle.cs_jix.specs.JoinIndex.{Place}
-use Rattle.cs_rows.specs.Survivors.{HasRoom, HoldsImages, image_at, join_at}
+use Rattle.cs_schema.specs.CatalogData.{CatalogData, HasSegment, segments}
+use Rattle.cs_rows.specs.Survivors.{image_at, join_at}
 use Rattle.cs_rows.proofs.PutLemmas.{images_are_put, joins_are_put}
 use Rattle.cs_rebuild.proofs.Keeping.{popped, one_less, place_in, apart, target_below}
 use Rattle.cs_rebuild.proofs.Numbers.{by_equal}
@@ -12,18 +13,16 @@ use Rattle.cs_rebuild.proofs.reading.keep.Goals as goal
 
 pub loop-q-init : goal.loop-q-init
 loop-q-init c =
-    let C = c.args.catalog.now in
     let v = c.args.survivors.now in
     let p = c.args.p in
     let s = c.args.s in
     let all = c.args.held.joins.items in
-    let put = images_are_put C v p s c.args.held.image c.requires.room c.requires.exists in
-    let is = c.put_image.ensures in
+    let put = images_are_put v.catalog v p s c.args.held.image c.put_image.ensures.room c.requires.exists in
+    let is = c.put_image.ensures.new in
     record {
       rest = sym (take_all (length all) all (omega arith));
-      room = subst (HasRoom C) (sym is) put.room;
+      catalog = ap (λ x. x.catalog) is;
       image = ap (λ x. image_at x p s) is ∙ put.new;
-      kinds = λ made k. subst (HoldsImages C) (sym is) (put.made made k);
       joins = λ k j low at. let inside = slice_get_within all k j at in absurd (omega (arith, inside, low));
       others = record {
         images = λ t u differ. ap (λ x. image_at x t u) is ∙ put.others t u (apart t u p s differ);
@@ -36,12 +35,18 @@ put_join-requires-clause-target c =
     let all = c.args.held.joins.items in
     let j : ℕ × List Place = (c.in-Some.q, c.in-Some.join) in
     let at = (popped all c.loop-q.joins.items c.pop.new.self.items j c.loop-q.invariant.rest c.in-Some.ensures.items).1 in
-    let below = target_below c.args.catalog.now c.args.p all c.requires.targets j (in_at all (length c.pop.new.self.items) j at) in
-    omega (arith, below, c.loop-q.invariant.room.targets c.args.p c.args.s c.requires.exists.0 c.requires.exists.1)
+    let below = target_below c.args.survivors.now.catalog c.args.p all c.requires.targets j (in_at all (length c.pop.new.self.items) j at) in
+    subst (λ (D : CatalogData). c.in-Some.q < length D.projections) (sym c.loop-q.invariant.catalog) below
+
+pub put_join-requires-clause-projection : goal.put_join-requires-clause-projection
+put_join-requires-clause-projection c = subst (λ (D : CatalogData). c.args.p < length D.projections) (sym c.loop-q.invariant.catalog) c.requires.exists.0
+
+pub put_join-requires-clause-segment : goal.put_join-requires-clause-segment
+put_join-requires-clause-segment c = subst (λ (D : CatalogData). c.args.s < segments D c.args.p) (sym c.loop-q.invariant.catalog) c.requires.exists.1
 
 pub loop-q-preserved : goal.loop-q-preserved
 loop-q-preserved c =
-    let C = c.args.catalog.now in
+    let C = c.args.survivors.now.catalog in
     let p = c.args.p in
     let s = c.args.s in
     let all = c.args.held.joins.items in
@@ -54,13 +59,13 @@ loop-q-preserved c =
     let less = one_less c.loop-q.joins.items new j c.in-Some.ensures.items in
     let here : IsIn j all = in_at all (length new) j last.1 in
     let below = target_below C p all c.requires.targets j here in
-    let put = joins_are_put C v p s q c.in-Some.join c.loop-q.invariant.room c.requires.exists below in
-    let is = c.put_join.ensures in
+    let own = sym c.loop-q.invariant.catalog in
+    let put = joins_are_put v.catalog v p s q c.in-Some.join c.put_join.ensures.room (subst (λ (D : CatalogData). HasSegment D p s) own c.requires.exists) (subst (λ (D : CatalogData). q < length D.projections) own below) in
+    let is = c.put_join.ensures.new in
     record {
       rest = last.0;
-      room = subst (HasRoom C) (sym is) put.room;
+      catalog = ap (λ x. x.catalog) is ∙ c.loop-q.invariant.catalog;
       image = ap (λ x. image_at x p s) is ∙ put.images p s ∙ c.loop-q.invariant.image;
-      kinds = λ made k. subst (HoldsImages C) (sym is) (put.made (c.loop-q.invariant.kinds made k));
       joins = λ k i low at.
           by_equal i.0 q
           (λ e. (c.in-Some.join, subst (λ r. IsIn (r, c.in-Some.join) all) (sym e) here, ap (λ x. join_at x p s i.0) is ∙ subst (λ r. join_at (Rattle.cs_rows.specs.Survivors.with_join v p s q c.in-Some.join) p s r ≡ Some c.in-Some.join) (sym e) put.new))

@@ -2,6 +2,7 @@ use Rattle.std.proofs.Common.{◌≡◌, All, length, get_or, ◌≤◌, ◌*◌
 use Rattle.std.specs.List.{filter_map}
 use Rattle.std.proofs.lemmas.List.Elements.{filter_map-append}
 use Rattle.std.proofs.lemmas.Option.{slice_get-get_or}
+use Rattle.cs_schema.specs.CatalogData.{CatalogData}
 use Rattle.cs_schema.specs.Rows.{Row}
 use Rattle.cs_rows.specs.Survivors.{contents_of}
 use Rattle.cs_rows.specs.Walk.{Stray}
@@ -30,7 +31,7 @@ returns-in-Ok-once-clause-rows g c =
     let S = contents_of c.args.survivors.now in
     let e : Reached → Stray = λ x. (x.0, x.1.0, x.1.1) in
     let f : List Reached → List Row = filter_map (row_from C L S) in
-    let cover = subst (λ n. n ≤ c.count_pieces-pieces.result * c.args.run.now.cut) c.surviving_row_count-rows.ensures c.count_pieces-pieces.ensures.0 in
+    let cover = subst (λ n. n ≤ c.count_pieces-pieces.result * c.args.run.now.cut) (c.surviving_row_count-rows.ensures ∙ ap (λ (D : CatalogData). length (surviving_rows D L S)) c.requires.same) c.count_pieces-pieces.ensures.0 in
     let whole = all_walked (is_stray_row C L S) e f (surviving_rows C L S) c.args.run.now.cut refl (filter_map-append (row_from C L S)) c.count_pieces-pieces.result cover c.in-Ok.ensures.ok.sound c.in-Ok.all.items c.in-Ok.ensures.ok.len (λ i w at. (c.in-Ok.ensures.ok.each i w at).1) in
     walk_by_rows_found C L S c.in-Ok-append_all.walked.rows (sym (whole ∙ ap (λ r. Ok r) (sym c.in-Ok-append_all.ensures.rows))) ∙ ap (λ r. Ok r) (sym (ap (λ (w : WalkedData). w.rows) c.of_walk.ensures ∙ c.in-Ok-once.ensures.ok))
 

@@ -5,4 +5,4 @@ use Rattle.cs_rows.specs.RowSteps.{AreSources}
 use Rattle.cs_rows.proofs.by_rows.find_sources.Given as goal
 
 abbrev pub invariant-loop-c : goal.invariant-loop-c
-invariant-loop-c l = (length l.sources ≡ length l.catalog.columns) × AreSources l.catalog l.finding l.sources l.c × ((k : ℕ) → k < l.c → is_some (source_in l.catalog l.finding k) ≡ true)
+invariant-loop-c l = (length l.sources ≡ length l.survivors.catalog.columns) × AreSources l.survivors.catalog l.finding l.sources l.c × ((k : ℕ) → k < l.c → is_some (source_in l.survivors.catalog l.finding k) ≡ true)

@@ -4,4 +4,4 @@ use Rattle.cs_rows.proofs.FoundRows.{holds}
 use Rattle.cs_rows.proofs.by_rows.first_source.Given as goal
 
 abbrev pub invariant-loop-row : goal.invariant-loop-row
-invariant-loop-row l = find (holds l.catalog l.finding l.c) (take l.row-index l.row-items) ≡ None
+invariant-loop-row l = find (holds l.survivors.catalog l.finding l.c) (take l.row-index l.row-items) ≡ None

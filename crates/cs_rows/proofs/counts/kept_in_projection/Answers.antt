@@ -7,7 +7,7 @@ use Rattle.cs_rows.proofs.counts.kept_in_projection.Goals as goal
 
 pub loop-s-preserved : goal.loop-s-preserved
 loop-s-preserved c = (
-  ap (λ (k : ℕ). c.loop-s.count + k) (c.kept_in_segment.ensures ∙ sym (length-map-range_with_len (row_at c.args.p c.loop-s.s) 0 (kept_count c.args.catalog.now c.args.loss (contents_of c.args.survivors.now) c.args.p c.loop-s.s)))
-      ∙ first_more (kept_rows c.args.catalog.now c.args.loss (contents_of c.args.survivors.now) c.args.p) c.loop-s.count c.loop-s.s c.loop-s.invariant.0,
+  ap (λ (k : ℕ). c.loop-s.count + k) (c.kept_in_segment.ensures ∙ sym (length-map-range_with_len (row_at c.args.p c.loop-s.s) 0 (kept_count c.args.survivors.now.catalog c.args.loss (contents_of c.args.survivors.now) c.args.p c.loop-s.s)))
+      ∙ first_more (kept_rows c.args.survivors.now.catalog c.args.loss (contents_of c.args.survivors.now) c.args.p) c.loop-s.count c.loop-s.s c.loop-s.invariant.0,
   omega arith,
 )

@@ -5,4 +5,4 @@ use Rattle.cs_rows.proofs.PartLemmas.{done}
 use Rattle.cs_rows.proofs.counts.surviving_row_count.Given as goal
 
 abbrev pub invariant-loop-p : goal.invariant-loop-p
-invariant-loop-p l = (l.count ≡ length (done (projection_kept l.catalog l.loss (contents_of l.survivors)) l.p)) × (l.count ≤ l.p * 68719476736)
+invariant-loop-p l = (l.count ≡ length (done (projection_kept l.survivors.catalog l.loss (contents_of l.survivors)) l.p)) × (l.count ≤ l.p * 68719476736)

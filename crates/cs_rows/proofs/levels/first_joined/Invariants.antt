@@ -5,4 +5,4 @@ use Rattle.cs_rows.specs.WalkByRows.{Reached}
 use Rattle.cs_rows.proofs.levels.first_joined.Given as goal
 
 abbrev pub invariant-loop-row : goal.invariant-loop-row
-invariant-loop-row l = find (λ (r : Reached). has_join l.catalog r.0 l.q) (take l.row-index l.rows) ≡ None
+invariant-loop-row l = find (λ (r : Reached). has_join l.survivors.catalog r.0 l.q) (take l.row-index l.rows) ≡ None

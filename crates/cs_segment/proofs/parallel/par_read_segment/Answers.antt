@@ -35,6 +35,6 @@ returns-clause-found g c = record {
 
 pub returns-clause-only : goal.returns-clause-only
 returns-clause-only g c = λ b file.
-    one_segment c.args.catalog.now c.width-width.ensures.rules c.args.p c.args.s c.requires c.args.bytes.now b
+    one_segment c.args.catalog.now c.join-whole.ensures.second.rules c.args.p c.args.s c.requires c.args.bytes.now b
     (record { rows = c.in_ok-rows.rows; columns = map values c.in_ok-rows.columns.items }) file
     (file_of_columns c.args.catalog.now c.args.p c.args.s c.args.bytes.now (front g c) c.in_ok-rows.rows c.in_ok-rows.columns.items (whole g c) (held g c))

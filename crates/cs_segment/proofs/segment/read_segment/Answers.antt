@@ -20,6 +20,6 @@ returns-clause-found c = record {
 
 pub returns-clause-only : goal.returns-clause-only
 returns-clause-only c = λ b file.
-    one_segment c.args.catalog.now c.width-width.ensures.rules c.args.p c.args.s c.requires c.args.bytes.now b
+    one_segment c.args.catalog.now c.read_columns.ensures.rules c.args.p c.args.s c.requires c.args.bytes.now b
     (record { rows = c.in_ok-rows.rows; columns = map values c.in_ok-rows.columns.items }) file
     (file_of_columns c.args.catalog.now c.args.p c.args.s c.args.bytes.now c.in-Some.front.now c.in_ok-rows.rows c.in_ok-rows.columns.items c.in-Some.ensures.found c.in_ok-rows.ensures.found)

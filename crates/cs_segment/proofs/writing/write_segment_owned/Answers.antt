@@ -1,4 +1,4 @@
-use Rattle.std.proofs.Common.{◌≡◌, ◌+◌, ◌-◌, List, drop, ap, ◌∙◌, arith, length}
+use Rattle.std.proofs.Common.{ap, ◌∙◌, arith, length}
 use Rattle.std.proofs.lemmas.List.{length-drop}
 use Rattle.cs_segment.specs.SegmentFile.{sealed, base_column}
 use Rattle.cs_segment.proofs.PieceColumns.{column_at, text_more, body_made, one_less, one_there}

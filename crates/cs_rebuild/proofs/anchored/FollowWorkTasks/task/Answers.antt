@@ -13,18 +13,18 @@ use Rattle.cs_rebuild.proofs.anchored.FollowWorkTasks.task.Goals as goal
 pub returns-in-Ok-clause-ok : goal.returns-in-Ok-clause-ok
 returns-in-Ok-clause-ok c =
     let w = c.args.self.now in
-    let C = w.catalog.now in
-    let S = contents_of w.survivors.now in
-    let P = w.plan.now in
+    let C = w.walk.now.survivors.now.catalog in
+    let S = contents_of w.walk.now.survivors.now in
+    let P = w.walk.now.plan.now in
     let is = drop-take (c.args.i * w.cut) w.cut (projection_rows C S P.anchor) in
     (sym (ap (λ (l : List At). option_map (stray_fault P) (find (is_astray C S P) l)) (sym is) ∙ ap (option_map (stray_fault P)) c.in-Ok.ensures.sound), tt)
 
 pub returns-in-Err-Astray-clause-err : goal.returns-in-Err-Astray-clause-err
 returns-in-Err-Astray-clause-err c =
     let w = c.args.self.now in
-    let C = w.catalog.now in
-    let S = contents_of w.survivors.now in
-    let P = w.plan.now in
+    let C = w.walk.now.survivors.now.catalog in
+    let S = contents_of w.walk.now.survivors.now in
+    let P = w.walk.now.plan.now in
     let is = drop-take (c.args.i * w.cut) w.cut (projection_rows C S P.anchor) in
     let at = subst (IsRowFault C S P (rows_between C S P (c.args.i * w.cut) (c.args.i * w.cut + w.cut))) c.in-Err-Astray.field-0-is c.in-Err-Astray.ensures.fault in
     inr (ap (λ (p : ℕ). Some (Fault.Astray p c.in-Err-Astray.s c.in-Err-Astray.row)) at.0 ∙ sym (ap (λ (l : List At). option_map (stray_fault P) (find (is_astray C S P) l)) (sym is) ∙ ap (option_map (stray_fault P)) at.1))

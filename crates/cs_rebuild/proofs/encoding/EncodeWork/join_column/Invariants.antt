@@ -1,12 +1,12 @@
-use Rattle.std.proofs.Common.{◌≡◌, ◌+◌, ◌*◌, length, take}
+use Rattle.std.proofs.Common.{◌≡◌, ℕ, ◌+◌, ◌*◌, length, take}
 use Rattle.cs_schema.specs.CatalogData.{code_at, kind_at}
 use Rattle.cs_piece.specs.Pieces.{IsPieceOf}
 use Rattle.cs_rebuild.specs.Encoding.{values_at, IsRestOf}
 use Rattle.cs_rebuild.proofs.encoding.EncodeWork.join_column.Given as goal
 
-abbrev pub invariant-loop-k : goal.invariant-loop-k
-invariant-loop-k l = record {
-  left : length l.rest.items + (l.j * l.self.per + l.k) ≡ l.self.pieces;
+abbrev pub invariant-loop : goal.invariant-loop
+invariant-loop l = record {
+  left : length l.rest.items + l.counter ≡ length l.fn.rest.items;
   rest : IsRestOf l.self.store.now.catalog.now l.self.p l.self.store.now.walked.rows l.self.numbers.now l.self.cut l.self.pieces l.rest.items;
-  column : IsPieceOf l.column (code_at l.self.store.now.catalog.now l.self.p l.j) (kind_at l.self.store.now.catalog.now l.self.p l.j) (values_at l.self.store.now.catalog.now l.self.p l.self.store.now.walked.rows l.j (take (l.k * l.self.cut) l.self.numbers.now));
+  column : (j : ℕ) → length l.fn.rest.items + j * l.self.per ≡ l.self.pieces → IsPieceOf l.column (code_at l.self.store.now.catalog.now l.self.p j) (kind_at l.self.store.now.catalog.now l.self.p j) (values_at l.self.store.now.catalog.now l.self.p l.self.store.now.walked.rows j (take (l.counter * l.self.cut) l.self.numbers.now));
 }

@@ -45,7 +45,7 @@ returns-then-index-rows-clause-place c =
     let inside = segment_there C rows g.orders g.order_room g.each c.args.self.now.q t i c.args.row c.args.self.now.target c.place-t.ensures in
     let long_there = ap length c.args.self.now.targets_are in
     let room = (g.image_room c.args.self.now.q t (c.args.self.now.target, inside)).1 in
-    let there : image_at g.survivors.now c.args.self.now.q t ≡ Some c.in-Some.image = ap (λ l. get_or l t None) (sym c.args.self.now.targets_are) ∙ get_or_default c.args.self.now.targets.now t None c.index-self-t.result (omega (arith, room, long_there)) ∙ c.in-Some.is in
+    let there : image_at g.survivors.now c.args.self.now.q t ≡ Some c.in-Some.image = ap (λ l. get_or l t None) (sym c.args.self.now.targets_are) ∙ get_or_default c.args.self.now.targets.now t None c.index-self-t.result (omega (arith, room, long_there, c.args.self.now.targets_count)) ∙ c.in-Some.is in
     sym (place_there C rows g.loss S c.args.self.now.q t i (row_at rows c.args.row) at ∙ ap (λ m. (t, slice_index (image_keys m) i)) (is_kept C rows g.loss S c.args.self.now.q t (sym c.lost.ensures ∙ c.if-lost.false) ∙ ap held there) ∙ ap (λ k. (t, k)) (sym c.key_at.ensures))
 
 pub returns-else-index-rows-clause-place : goal.returns-else-index-rows-clause-place
@@ -62,7 +62,7 @@ returns-else-index-rows-clause-place c =
     let inside = segment_there C rows g.orders g.order_room g.each c.args.self.now.q t i c.args.row c.args.self.now.target c.place-t.ensures in
     let long_there = ap length c.args.self.now.targets_are in
     let room = (g.image_room c.args.self.now.q t (c.args.self.now.target, inside)).1 in
-    let there : image_at g.survivors.now c.args.self.now.q t ≡ Some c.in-Some.image = ap (λ l. get_or l t None) (sym c.args.self.now.targets_are) ∙ get_or_default c.args.self.now.targets.now t None c.index-self-t.result (omega (arith, room, long_there)) ∙ c.in-Some.is in
+    let there : image_at g.survivors.now c.args.self.now.q t ≡ Some c.in-Some.image = ap (λ l. get_or l t None) (sym c.args.self.now.targets_are) ∙ get_or_default c.args.self.now.targets.now t None c.index-self-t.result (omega (arith, room, long_there, c.args.self.now.targets_count)) ∙ c.in-Some.is in
     sym (place_there C rows g.loss S c.args.self.now.q t i (row_at rows c.args.row) at ∙ ap (λ m. (t, slice_index (image_keys m) i)) (is_kept C rows g.loss S c.args.self.now.q t (sym c.lost.ensures ∙ c.if-lost.false) ∙ ap held there)
     ∙ ap (λ k. (t, k)) (get_or_past (image_keys m) i 0 (omega (arith, long, c.if-index-rows.false, c.rows.ensures))))
 

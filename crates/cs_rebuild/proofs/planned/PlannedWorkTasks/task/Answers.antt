@@ -9,9 +9,9 @@ use Rattle.cs_rebuild.proofs.planned.PlannedWorkTasks.task.Goals as goal
 pub returns-in-Ok-clause-ok : goal.returns-in-Ok-clause-ok
 returns-in-Ok-clause-ok c =
     let w = c.args.self.now in
-    let C = w.catalog.now in
-    let S = contents_of w.survivors.now in
-    let P = w.plan.now in
+    let C = w.walk.now.survivors.now.catalog in
+    let S = contents_of w.walk.now.survivors.now in
+    let P = w.walk.now.plan.now in
     let e : At → Stray = λ at. (P.anchor, at.0, at.1) in
     let f : List At → List Row = map (walked_row C S P) in
     let is = piece_is (is_astray C S P) e f (projection_rows C S P.anchor) w.cut c.args.i in
@@ -21,9 +21,9 @@ returns-in-Ok-clause-ok c =
 pub returns-in-Err-Astray-clause-err : goal.returns-in-Err-Astray-clause-err
 returns-in-Err-Astray-clause-err c =
     let w = c.args.self.now in
-    let C = w.catalog.now in
-    let S = contents_of w.survivors.now in
-    let P = w.plan.now in
+    let C = w.walk.now.survivors.now.catalog in
+    let S = contents_of w.walk.now.survivors.now in
+    let P = w.walk.now.plan.now in
     let e : At → Stray = λ at. (P.anchor, at.0, at.1) in
     let f : List At → List Row = map (walked_row C S P) in
     let is = piece_is (is_astray C S P) e f (projection_rows C S P.anchor) w.cut c.args.i in

@@ -16,12 +16,12 @@ loop-q-preserved c =
     elim c.match-look.branch [
       | in-Some+in_ok-push-in-Some w ↦
           let e = ap items_of w.landings-is ∙ w.in_ok-push-in-Some.ensures.items in (
-            ap landings_of e ∙ looked_more c.args.catalog.now c.args.loss (contents_of c.args.survivors.now) c.args.self.now c.loop-q.q c.loop-q.landings.items w.in-Some.landed c.loop-q.invariant.0 w.in-Some.ensures.looked,
-            subst (AllLandWell c.args.catalog.now (contents_of c.args.survivors.now)) (sym e) (All-push (λ (x : ℕ × Landed). LandsWell c.args.catalog.now (contents_of c.args.survivors.now) x.0 x.1) c.loop-q.landings.items (c.loop-q.q, w.in-Some.landed) c.loop-q.invariant.1 w.in-Some.ensures.there),
+            ap landings_of e ∙ looked_more c.args.walk.now.survivors.now.catalog c.args.walk.now.loss (contents_of c.args.walk.now.survivors.now) c.args.self.now c.loop-q.q c.loop-q.landings.items w.in-Some.landed c.loop-q.invariant.0 w.in-Some.ensures.looked,
+            subst (AllLandWell c.args.walk.now.survivors.now.catalog (contents_of c.args.walk.now.survivors.now)) (sym e) (All-push (λ (x : ℕ × Landed). LandsWell c.args.walk.now.survivors.now.catalog (contents_of c.args.walk.now.survivors.now) x.0 x.1) c.loop-q.landings.items (c.loop-q.q, w.in-Some.landed) c.loop-q.invariant.1 w.in-Some.ensures.there),
           )
       | in-None w ↦
           let e = ap items_of w.landings-is in (
-            ap landings_of e ∙ looked_past c.args.catalog.now c.args.loss (contents_of c.args.survivors.now) c.args.self.now c.loop-q.q c.loop-q.landings.items c.loop-q.invariant.0 w.in-None.ensures.looked,
-            subst (AllLandWell c.args.catalog.now (contents_of c.args.survivors.now)) (sym e) c.loop-q.invariant.1,
+            ap landings_of e ∙ looked_past c.args.walk.now.survivors.now.catalog c.args.walk.now.loss (contents_of c.args.walk.now.survivors.now) c.args.self.now c.loop-q.q c.loop-q.landings.items c.loop-q.invariant.0 w.in-None.ensures.looked,
+            subst (AllLandWell c.args.walk.now.survivors.now.catalog (contents_of c.args.walk.now.survivors.now)) (sym e) c.loop-q.invariant.1,
           )
     ]

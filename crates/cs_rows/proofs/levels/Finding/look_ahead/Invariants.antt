@@ -7,4 +7,4 @@ use Rattle.cs_rows.specs.RowSteps.{landings_of, AllLandWell}
 use Rattle.cs_rows.proofs.levels.Finding.look_ahead.Given as goal
 
 abbrev pub invariant-loop-q : goal.invariant-loop-q
-invariant-loop-q l = (landings_of l.landings.items ≡ filter_map (looked_at l.catalog l.loss (contents_of l.survivors) l.self) (numbers_below l.q)) × AllLandWell l.catalog (contents_of l.survivors) l.landings.items
+invariant-loop-q l = (landings_of l.landings.items ≡ filter_map (looked_at l.walk.survivors.now.catalog l.walk.loss (contents_of l.walk.survivors.now) l.self) (numbers_below l.q)) × AllLandWell l.walk.survivors.now.catalog (contents_of l.walk.survivors.now) l.landings.items

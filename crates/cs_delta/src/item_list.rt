@@ -1,0 +1,66 @@
+//! The items of a layer as a list: their order, and the rows that they leave.
+ghost use Rattle.std.specs.Prelude.{◌≡◌, ◌<◌, ◌↔◌, ◌^◌, map, length, IsTrue};
+ghost use Rattle.std.specs.List.{AllAdjacentBelow};
+ghost use Rattle.cs_delta.specs.ItemView.{change_of};
+ghost use Rattle.cs_delta.specs.DeltaFile.{may_follow, rows_after};
+
+use crate::item::Item;
+
+/// Whether an item may stand behind another.
+fn follows(item: &Item, next: &Item) -> bool
+    ensures { result ≡ may_follow (change_of item.now) (change_of next.now) }
+{
+    let place = match next {
+        Item::Insert { at, .. } => *at,
+        Item::Delete { at } => *at,
+        Item::Modify { at, .. } => *at,
+    };
+    match (item, next) {
+        (Item::Insert { at, .. }, _) => *at <= place,
+        (Item::Delete { at }, _) => *at < place,
+        (
+            Item::Modify { at, column, .. },
+            Item::Modify {
+                at: to,
+                column: changed,
+                ..
+            },
+        ) => {
+            if *at == *to {
+                *column < *changed
+            } else {
+                *at < *to
+            }
+        }
+        (Item::Modify { at, .. }, _) => *at < place,
+    }
+}
+
+/// Whether each item may stand behind the one before it.
+pub(crate) fn are_in_order(items: &[Item]) -> bool
+    ensures { IsTrue result ↔ AllAdjacentBelow (λ c e. IsTrue (may_follow c e)) (map change_of items.now) (length (map change_of items.now)) }
+{
+    for i in 1..items.len() {
+        if !follows(&items[i - 1], &items[i]) {
+            return false;
+        }
+    }
+    true
+}
+
+/// How many rows a layer leaves of so many.
+pub(crate) fn rows_left(below: u32, items: &[Item]) -> u64
+    requires { length items.now < 2 ^ 32 }
+    ensures value { result ≡ rows_after below (map change_of items.now) }
+{
+    let mut inserts: u64 = 0;
+    let mut deletes: u64 = 0;
+    for item in items {
+        match item {
+            Item::Insert { .. } => inserts += 1,
+            Item::Delete { .. } => deletes += 1,
+            Item::Modify { .. } => {}
+        }
+    }
+    (u64::from(below) + inserts).saturating_sub(deletes)
+}

@@ -1,0 +1,67 @@
+//! What walks ask of the catalog of survivors.
+ghost use Rattle.std.specs.Prelude.{◌≡◌, ◌<◌, length};
+ghost use Rattle.cs_schema.specs.CatalogData.{column, projection, segments, has_join};
+ghost use Rattle.cs_schema.specs.Losses.{lost};
+ghost use Rattle.cs_schema.specs.CatalogRules.{IsCatalog};
+
+use crate::numbers;
+use crate::survivors::Survivors;
+use cs_schema::{Kind, Loss};
+
+/// How many projections there are.
+pub(crate) fn projection_count(survivors: &Survivors<'_>) -> u16
+    ensures count { result ≡ length survivors.now.catalog.projections }
+    ensures rules { IsCatalog survivors.now.catalog }
+{
+    survivors.catalog().projection_count()
+}
+
+/// How many columns the table has.
+pub(crate) fn column_count(survivors: &Survivors<'_>) -> usize
+    ensures count { result ≡ length survivors.now.catalog.columns }
+    ensures rules { IsCatalog survivors.now.catalog }
+{
+    numbers::column_count(survivors.catalog())
+}
+
+/// How many segments a projection has.
+pub(crate) fn segments(survivors: &Survivors<'_>, p: u16) -> u16
+    requires { p < length survivors.now.catalog.projections }
+    ensures count { result ≡ segments survivors.now.catalog p }
+    ensures rules { IsCatalog survivors.now.catalog }
+{
+    survivors.catalog().segments(p)
+}
+
+/// The numbers of a projection's columns.
+pub(crate) fn columns_of<'a>(survivors: &Survivors<'a>, p: usize) -> &'a [u8]
+    requires { p < length survivors.now.catalog.projections }
+    ensures { result.now ≡ (projection survivors.now.catalog p).columns }
+{
+    numbers::columns_of(survivors.catalog(), p)
+}
+
+/// What the cells of a column of the table are.
+pub(crate) fn kind(survivors: &Survivors<'_>, c: usize) -> Kind
+    requires { c < length survivors.now.catalog.columns }
+    ensures { result ≡ (column survivors.now.catalog c).kind }
+{
+    numbers::kind(survivors.catalog(), c)
+}
+
+/// Whether a loss takes a segment.
+pub(crate) fn is_lost(survivors: &Survivors<'_>, loss: Loss, p: u16, s: u16) -> bool
+    requires projection { p < length survivors.now.catalog.projections }
+    requires segment { s < segments survivors.now.catalog p }
+    ensures { result ≡ lost survivors.now.catalog loss p s }
+{
+    survivors.catalog().lost(p, s, loss)
+}
+
+/// Whether a projection has a declared join to another.
+pub(crate) fn has_join(survivors: &Survivors<'_>, p: u16, q: u16) -> bool
+    requires { p < length survivors.now.catalog.projections }
+    ensures { result ≡ has_join survivors.now.catalog p q }
+{
+    survivors.catalog().has_join(p, q)
+}

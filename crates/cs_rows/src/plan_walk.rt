@@ -1,0 +1,88 @@
+//! The walk of a plan, as what it knows before its first row.
+ghost use Rattle.std.specs.Prelude.{◌≡◌, ◌<◌, ◌==◌, ℕ, length, slice_index_or, IfOk, IsTrue, ◌↔◌};
+ghost use Rattle.cs_schema.specs.CatalogData.{column};
+ghost use Rattle.cs_schema.specs.CatalogRules.{IsCatalog};
+ghost use Rattle.cs_rows.specs.Steps.{PlanFits};
+ghost use Rattle.cs_rows.specs.Columns.{AreReads, read_of};
+ghost use Rattle.cs_rows.specs.Range.{IsPlanOf};
+ghost use Rattle.cs_rows.specs.Routes.{IsRoute};
+
+use crate::catalog_of;
+use crate::numbers::{column_count, columns_of, source};
+use crate::range::place_in;
+use crate::route::find_route;
+use crate::survivors::Survivors;
+use cs_safety::Plan;
+use cs_schema::{Catalog, Kind};
+use std::alloc::{AllocError, Global};
+
+/// The walk of a plan through what survives: where each column of the table is read, and the steps to the projections that
+/// the plan reaches.
+#[derive(Drop)]
+pub struct PlanWalk<'p, 'a> {
+    pub survivors: &'a Survivors<'a>,
+    pub plan: &'p Plan,
+    pub(crate) reads: Vec<(usize, usize)>,
+    pub(crate) route: Vec<(usize, usize)>,
+    pub ghost fits: { PlanFits survivors.now.catalog plan.now },
+    pub ghost reads_are: { AreReads survivors.now.catalog plan.now reads.items },
+    pub ghost route_is: { IsRoute survivors.now.catalog plan.now route.items },
+}
+
+/// Where each column of the table is read: in a projection, and the number of the column there.
+fn find_reads(
+    alloc: Global,
+    catalog: &Catalog,
+    plan: &Plan,
+) -> Result<Vec<(usize, usize)>, AllocError>
+    requires { PlanFits catalog.now plan.now }
+    ensures { IfOk result (λ reads. AreReads catalog.now plan.now reads.items) }
+{
+    let mut reads: Vec<(usize, usize)> = Vec::new(alloc);
+    for c in 0..column_count(catalog) {
+        let q = source(plan, c) as usize;
+        reads.push((q, place_in(columns_of(catalog, q), c)))?;
+    }
+    Ok(reads)
+}
+
+impl<'p, 'a> PlanWalk<'p, 'a> {
+    /// The walk of a plan of a catalog through what survives of its store.
+    pub fn new(
+        alloc: Global,
+        catalog: &Catalog,
+        plan: &'p Plan,
+        survivors: &'a Survivors<'a>,
+    ) -> Result<Self, AllocError>
+        requires rules { IsCatalog catalog.now }
+        requires plan { ∥ IsPlanOf catalog.now plan.now ∥₁ }
+        requires same { survivors.now.catalog ≡ catalog.now }
+        ensures plan { IfOk result (λ walk. walk.plan.now ≡ plan.now) }
+        ensures survivors { IfOk result (λ walk. walk.survivors.now ≡ survivors.now) }
+    {
+        let reads = find_reads(alloc, catalog, plan)?;
+        let route = find_route(alloc, catalog, plan)?;
+        Ok(PlanWalk {
+            survivors,
+            plan,
+            reads,
+            route,
+        })
+    }
+
+    /// How many columns the table has.
+    pub fn column_count(&self) -> usize
+        ensures count { result ≡ length self.now.survivors.now.catalog.columns }
+        ensures rules { IsCatalog self.now.survivors.now.catalog }
+    {
+        catalog_of::column_count(self.survivors)
+    }
+
+    /// What the cells of a column of the table are.
+    pub fn kind(&self, c: usize) -> Kind
+        requires { c < length self.now.survivors.now.catalog.columns }
+        ensures { result ≡ (column self.now.survivors.now.catalog c).kind }
+    {
+        catalog_of::kind(self.survivors, c)
+    }
+}
