@@ -1,1 +1,2 @@
 mod SafeNumbers
+mod SoundFiles

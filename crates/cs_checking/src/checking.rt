@@ -1,27 +1,19 @@
 //! The verb `check`.
-ghost use Rattle.std.specs.Prelude.{◌≡◌, false, [], IfOk, OnErr};
+ghost use Rattle.std.specs.Prelude.{IfOk, OnErr};
 ghost use Rattle.cs_places.specs.Finding.{LooksUp};
 ghost use Rattle.cs_reading.specs.Standing.{standing};
 ghost use Rattle.cs_checking.specs.Checks.{ChecksStore};
 
 use crate::judging::judge;
 use cs_answers::Checked;
-use cs_inspection::{Badness, bad_files};
 use cs_operator_words::Checking;
 use cs_places::{Listings, Stop, find_store};
-use cs_progress::{Progress, Stage};
+use cs_progress::Progress;
 use cs_reading::load_readable_side_by_side;
 use cs_rebuild::Run;
-use cs_schema::{FileName, Loss};
+use cs_schema::Loss;
 use std::marker::Sync;
 use std::thread::Threads;
-
-/// Whether a file is bad or unreadable.
-fn any_bad(bad: &[(FileName, Badness)], unreadable: &[FileName]) -> bool
-    ensures { result ≡ false → (bad.now ≡ []) × (unreadable.now ≡ []) }
-{
-    !unreadable.is_empty() || !bad.is_empty()
-}
 
 /// Whether a store is sound, and how many of its sites may fail; all its bad files.
 pub fn check<R: Threads + Sync, G: Progress + Sync, P: Listings>(
@@ -41,18 +33,13 @@ pub fn check<R: Threads + Sync, G: Progress + Sync, P: Listings>(
     let Ok(found) = load_readable_side_by_side(rt, alloc, &catalog, Loss::none(), &source) else {
         return Err(Stop::Memory);
     };
-    let unreadable = found.unreadable.as_slice();
-    run.gate.reached(Stage::Inspecting);
-    let Ok(bad) = bad_files(rt, alloc, &catalog, &found.files, unreadable) else {
-        return Err(Stop::Memory);
-    };
     let Ok(unfinished) = places.unfinished(request.store) else {
         return Err(Stop::Memory);
     };
+    let unreadable = found.unreadable.as_slice();
     let is_unreadable = !unreadable.is_empty();
-    let is_bad = any_bad(bad.as_slice(), unreadable);
-    match judge(run, &catalog, &found.files, is_bad, request.k) {
-        Ok(verdict) => Ok(Checked {
+    match judge(run, &catalog, &found.files, unreadable, request.k) {
+        Ok((bad, verdict)) => Ok(Checked {
             catalog,
             bad,
             is_unreadable,

@@ -3,14 +3,17 @@ ghost use Rattle.std.specs.Prelude.{◌≡◌, [], Bool, IfOk, MatchResult};
 ghost use Rattle.cs_design.specs.Fatal.{IsSafeBeyond};
 ghost use Rattle.cs_schema.specs.FileNames.{FileContents};
 ghost use Rattle.cs_store.specs.FileSet.{contents_of};
-ghost use Rattle.cs_checking.specs.Checks.{Judges};
+ghost use Rattle.cs_recovery.specs.Claims.{IsCheckAnswer};
+ghost use Rattle.cs_inspection.specs.BadFiles.{AreBadFiles};
+ghost use Rattle.cs_checking.specs.Checks.{Judges, IsJudged};
 
 use cs_answers::Verdict;
 use cs_design::{fatal_losses, greatest_k};
+use cs_inspection::{Badness, bad_files};
 use cs_places::Stop;
-use cs_progress::Progress;
+use cs_progress::{Progress, Stage};
 use cs_rebuild::{Run, check_gated};
-use cs_schema::{Catalog, Loss};
+use cs_schema::{Catalog, FileName, Loss};
 use cs_store::{Fault, FileSet};
 use std::alloc::{AllocError, Global};
 use std::marker::Sync;
@@ -54,23 +57,30 @@ fn too_high(alloc: Global, catalog: &Catalog, k: u8) -> Result<Verdict, Stop>
     }
 }
 
-/// The verdict on the files of a store, of which some may be bad.
-pub fn judge<R: Threads + Sync, G: Progress + Sync>(
+/// The bad files of a store that was read.
+fn look_at<R: Threads + Sync, G: Progress + Sync>(
     run: &Run<'_, R, G>,
     catalog: &Catalog,
     files: &FileSet,
-    is_bad: bool,
-    k: Option<u8>,
-) -> Result<Verdict, Stop>
-    ensures { IfOk result (Judges catalog.now (contents_of files.now) is_bad) }
+    unreadable: &[FileName],
+) -> Result<Vec<(FileName, Badness)>, Stop>
+    ensures { IfOk result (λ bad. AreBadFiles catalog.now (contents_of files.now) unreadable.now bad.items) }
 {
-    let k = match allowed(catalog, k) {
-        Ok(k) => k,
-        Err(k) => return too_high(run.alloc, catalog, k),
-    };
-    if is_bad {
-        return Ok(Verdict::BadFiles);
+    run.gate.reached(Stage::Inspecting);
+    match bad_files(run.rt, run.alloc, catalog, files, unreadable) {
+        Ok(bad) => Ok(bad),
+        Err(_) => Err(Stop::Memory),
     }
+}
+
+/// How many rows the files have as a store that is sound, or why they are none.
+fn rows_of<R: Threads + Sync, G: Progress + Sync>(
+    run: &Run<'_, R, G>,
+    catalog: &Catalog,
+    files: &FileSet,
+) -> Result<u64, Fault>
+    ensures { IsCheckAnswer catalog.now (contents_of files.now) 0 result }
+{
     let Run {
         rt,
         alloc,
@@ -78,9 +88,65 @@ pub fn judge<R: Threads + Sync, G: Progress + Sync>(
         cut,
         gate,
     } = *run;
-    match check_gated(rt, alloc, catalog, files, 0, workers, cut, gate) {
-        Ok(rows) => Ok(Verdict::Sound { rows, k }),
-        Err(Fault::Memory) => Err(Stop::Memory),
-        Err(fault) => Ok(Verdict::Unsound(fault)),
+    check_gated(rt, alloc, catalog, files, 0, workers, cut, gate)
+}
+
+/// The bad files of a store that was read and of which any `k` sites may fail, and the verdict on it. No file of a sound
+/// store is bad, so each is looked at once more only where it isn't sound.
+fn judge_files<R: Threads + Sync, G: Progress + Sync>(
+    run: &Run<'_, R, G>,
+    catalog: &Catalog,
+    files: &FileSet,
+    unreadable: &[FileName],
+    k: u8,
+) -> Result<(Vec<(FileName, Badness)>, Verdict), Stop>
+    requires { IsSafeBeyond catalog.now [] k }
+    ensures { IfOk result (λ judged. IsJudged catalog.now (contents_of files.now) unreadable.now judged.0.items judged.1) }
+{
+    let _rules = catalog.projection_count();
+    if !unreadable.is_empty() {
+        return match look_at(run, catalog, files, unreadable) {
+            Ok(bad) => Ok((bad, Verdict::BadFiles)),
+            Err(stop) => Err(stop),
+        };
+    }
+    let fault = match rows_of(run, catalog, files) {
+        Ok(rows) => return Ok((Vec::new(run.alloc), Verdict::Sound { rows, k })),
+        Err(Fault::Memory) => return Err(Stop::Memory),
+        Err(fault) => fault,
+    };
+    match look_at(run, catalog, files, unreadable) {
+        Ok(bad) => {
+            if bad.is_empty() {
+                Ok((bad, Verdict::Unsound(fault)))
+            } else {
+                Ok((bad, Verdict::BadFiles))
+            }
+        }
+        Err(stop) => Err(stop),
+    }
+}
+
+/// The bad files of a store that was read, and the verdict on it.
+pub fn judge<R: Threads + Sync, G: Progress + Sync>(
+    run: &Run<'_, R, G>,
+    catalog: &Catalog,
+    files: &FileSet,
+    unreadable: &[FileName],
+    k: Option<u8>,
+) -> Result<(Vec<(FileName, Badness)>, Verdict), Stop>
+    ensures { IfOk result (λ judged. IsJudged catalog.now (contents_of files.now) unreadable.now judged.0.items judged.1) }
+{
+    let k = match allowed(catalog, k) {
+        Ok(k) => return judge_files(run, catalog, files, unreadable, k),
+        Err(k) => k,
+    };
+    let verdict = match too_high(run.alloc, catalog, k) {
+        Ok(verdict) => verdict,
+        Err(stop) => return Err(stop),
+    };
+    match look_at(run, catalog, files, unreadable) {
+        Ok(bad) => Ok((bad, verdict)),
+        Err(stop) => Err(stop),
     }
 }

@@ -4,7 +4,7 @@ use Rattle.std.specs.List.{AllByRecursion}
 use Rattle.std.proofs.lemmas.List.{get_or_read, take-append-drop, append-nil, length-append, length-replicate, take_more, take_all, set_split, drop_all, replicate-append-replicate}
 use Rattle.cs_codec.specs.declared.runs.Run.{Run}
 use Rattle.cs_codec.specs.Cells.{number}
-use Rattle.cs_codec.specs.Runs.{expand, IsProper, written_from}
+use Rattle.cs_codec.specs.Runs.{expand, BeginsOther, IsProper, written_from}
 use Rattle.cs_codec.specs.Runs.{RunsHold}
 use Rattle.cs_codec.specs.Cells.{IsTest}
 
@@ -100,6 +100,88 @@ appended {C} eq rs k last run len again e h =
 pub first_added : {C : Type 0} (eq : C → C → Bool) (rs : List (Run C)) (run : Run C) → length rs ≡ 0 → 0 < run.count → Grows eq rs (rs ++ run ∷ []) run
 first_added eq [] run len h = record { cells = refl; proper = λ p. (h, tt, tt) }
 first_added eq (r ∷ rs) run len h = absurd (omega arith)
+
+-- ---- runs are added
+pub proper_apart : {C : Type 0} (eq : C → C → Bool) (front : List (Run C)) (last : Run C) (rest : List (Run C)) → IsProper eq (front ++ last ∷ []) → IsProper eq rest → BeginsOther eq last.value rest → IsProper eq ((front ++ last ∷ []) ++ rest)
+proper_apart eq [] last rest p q b = (p.0, b, q)
+proper_apart eq (r ∷ []) last rest p q b = (p.0, p.1, proper_apart eq [] last rest p.2 q b)
+proper_apart eq (r ∷ s ∷ front) last rest p q b = (p.0, p.1, proper_apart eq (s ∷ front) last rest p.2 q b)
+
+pub proper_merged : {C : Type 0} (eq : C → C → Bool) (front : List (Run C)) (last new : Run C) (rest : List (Run C)) → last.value ≡ new.value → 0 < new.count → IsProper eq (front ++ last ∷ []) → BeginsOther eq new.value rest → IsProper eq rest → IsProper eq (front ++ new ∷ rest)
+proper_merged eq [] last new rest e h p b q = (h, b, q)
+proper_merged eq (r ∷ []) last new rest e h p b q = (p.0, subst (λ x. eq r.value x ≡ false) e p.1, (h, b, q))
+proper_merged eq (r ∷ s ∷ front) last new rest e h p b q = (p.0, p.1, proper_merged eq (s ∷ front) last new rest e h p.2 b q)
+
+-- what runs become to which others are added
+pub record Joins {C : Type 0} (eq : C → C → Bool) (rs os new : List (Run C)) : Type 0 where
+  pub cells : expand new ≡ expand rs ++ expand os
+  pub proper : IsProper eq rs → IsProper eq os → IsProper eq new
+
+-- one run read twice
+same_read : {C : Type 0} (rs : List (Run C)) (k : ℕ) (a b : Run C) → k < length rs → a ≡ get_or rs k a → b ≡ get_or rs k b → a ≡ b
+same_read rs k a b l x y = get_or_read rs k a l x b ∙ sym y
+
+-- the last run goes on in the first of the others
+goes_on : {C : Type 0} (eq : C → C → Bool) (t : IsTest eq) (rs os : List (Run C)) (k : ℕ) (last first : Run C) → suc k ≡ length rs → last ≡ get_or rs k last → 0 < length os → first ≡ get_or os 0 first → true ≡ eq last.value first.value → Joins eq rs os (take k rs ++ set os 0 (record { value = first.value; count = first.count + last.count }))
+unfolding last_of
+goes_on {C} eq t rs [] k last first len read some at e = absurd (omega arith)
+goes_on {C} eq t rs (o ∷ os) k last first len read some at e =
+    let ends = last_of rs k last len read in
+    let values : last.value ≡ first.value = t.exact last.value first.value (sym e) in
+    let new : Run C = record { value = first.value; count = first.count + last.count } in
+    let front : List C = expand (take k rs) in
+    let ended : List C = replicate last.count last.value in
+    let begun : List C = replicate first.count first.value in
+    let counts : replicate (first.count + last.count) first.value ≡ ended ++ begun =
+    ap (λ (n : ℕ). replicate n first.value) (omega arith) ∙ sym (replicate-append-replicate last.count first.count first.value) ∙ ap (λ (x : C). replicate last.count x ++ begun) (sym values) in
+    let whole : expand rs ≡ front ++ (ended ++ []) = ap (λ (z : List (Run C)). expand z) ends.parts ∙ expand-append (take k rs) (last ∷ []) in
+    let regroup : front ++ ((ended ++ begun) ++ expand os) ≡ (front ++ (ended ++ [])) ++ (begun ++ expand os) = simp (append_assoc, append-nil) in
+    record {
+      cells = expand-append (take k rs) (new ∷ os)
+          ∙ ap (λ (z : List C). front ++ (z ++ expand os)) counts
+          ∙ regroup
+          ∙ ap (λ (z : List C). z ++ (begun ++ expand os)) (sym whole)
+          ∙ ap (λ (r : Run C). expand rs ++ (replicate r.count r.value ++ expand os)) at;
+      proper = λ p q.
+          let others : IsProper eq (first ∷ os) = subst (λ (r : Run C). IsProper eq (r ∷ os)) (sym at) q in
+          proper_merged eq (take k rs) last new os values (omega (arith, others.0)) (subst (λ (z : List (Run C)). IsProper eq z) ends.parts p) others.1 others.2;
+    }
+
+pub joins_at : {C : Type 0} (eq : C → C → Bool) (t : IsTest eq) (rs os : List (Run C)) (k : ℕ) (last counted first seen : Run C) → suc k ≡ length rs → last ≡ get_or rs k last → counted ≡ get_or rs k counted → 0 < length os → first ≡ get_or os 0 first → seen ≡ get_or os 0 seen → true ≡ eq last.value first.value → Joins eq rs os (take k rs ++ set os 0 (record { value = seen.value; count = seen.count + counted.count }))
+joins_at {C} eq t rs os k last counted first seen len read again some at once_more e =
+    let one : last ≡ counted = same_read rs k last counted (omega arith) read again in
+    let two : first ≡ seen = same_read os 0 first seen some at once_more in
+    subst (λ (r : Run C). Joins eq rs os (take k rs ++ set os 0 (record { value = r.value; count = r.count + counted.count }))) two
+    (subst (λ (r : Run C). Joins eq rs os (take k rs ++ set os 0 (record { value = first.value; count = first.count + r.count }))) one
+    (goes_on eq t rs os k last first len read some at e))
+
+pub first_fits : {C : Type 0} (os : List (Run C)) (seen : Run C) → 0 < length os → seen ≡ get_or os 0 seen → seen.count ≤ length (expand os)
+first_fits [] seen some at = absurd (omega arith)
+first_fits {C} (o ∷ os) seen some at = omega (arith, ap (λ (r : Run C). r.count) at, length-append (replicate o.count o.value) (expand os), length-replicate o.count o.value)
+
+-- the others begin with another value, or there are none on a side
+pub joins_apart : {C : Type 0} (eq : C → C → Bool) (rs os : List (Run C)) (k : ℕ) (last : Run C) → suc k ≡ length rs → last ≡ get_or rs k last → BeginsOther eq last.value os → Joins eq rs os (rs ++ os)
+joins_apart {C} eq rs os k last len read b =
+    let ends = last_of rs k last len read in
+    record {
+      cells = expand-append rs os;
+      proper = λ p q. subst (λ (z : List (Run C)). IsProper eq (z ++ os)) (sym ends.parts) (proper_apart eq ends.front last os (subst (λ (z : List (Run C)). IsProper eq z) ends.parts p) q b);
+    }
+
+pub joins_none : {C : Type 0} (eq : C → C → Bool) (rs os : List (Run C)) → length rs ≡ 0 → Joins eq rs os (rs ++ os)
+joins_none eq [] os len = record { cells = refl; proper = λ p q. q }
+joins_none eq (r ∷ rs) os len = absurd (omega arith)
+
+pub begins_other : {C : Type 0} (eq : C → C → Bool) (x : C) (os : List (Run C)) (first : Run C) → first ≡ get_or os 0 first → false ≡ eq x first.value → BeginsOther eq x os
+begins_other eq x [] first at e = tt
+begins_other {C} eq x (o ∷ os) first at e = subst (λ (r : Run C). eq x r.value ≡ false) at (sym e)
+
+pub joins_no_more : {C : Type 0} (eq : C → C → Bool) (rs os : List (Run C)) → length os ≡ 0 → Joins eq rs os (rs ++ os)
+joins_no_more {C} eq rs [] len = record {
+  cells = ap (λ (z : List (Run C)). expand z) (append-nil rs) ∙ sym (append-nil (expand rs));
+  proper = λ p q. subst (λ (z : List (Run C)). IsProper eq z) (sym (append-nil rs)) p;
+}
+joins_no_more eq rs (o ∷ os) len = absurd (omega arith)
 
 -- ---- a loop over runs
 pub taken : {C : Type 0} (rs : List (Run C)) (i : ℕ) (r : Run C) → i < length rs → r ≡ get_or rs i r → take (i + 1) rs ≡ take i rs ++ r ∷ []

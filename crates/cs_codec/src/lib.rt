@@ -12,6 +12,7 @@ pub mod encoding;
 mod few_cells;
 pub mod numbers;
 pub mod plain;
+mod run_reading;
 pub mod runs;
 
 pub use cell::Cell;

@@ -2,16 +2,15 @@
 ghost use Rattle.std.specs.Prelude.{◌≡◌, ℕ, ◌+◌, ◌≤◌, ◌<◌, List, [], ◌∷◌, ◌++◌, length, replicate, IfOk, OnOk};
 ghost use Rattle.cs_codec.specs.Encodings.{IsShort};
 ghost use Rattle.cs_codec.specs.Texts.{runs_text};
-ghost use Rattle.cs_codec.specs.RunTexts.{RunStandsAt, NoRunStandsAt, AreRunsOf, NoRunsOf};
 ghost use Rattle.cs_codec.specs.RunLaws.{runs_one_list};
-ghost use Rattle.std.specs.Prelude.{IfSome, IfNone, IsTrue, false};
 ghost use Rattle.cs_codec.specs.Runs.{expand, IsProper};
 ghost use Rattle.cs_schema.specs.declared.kinds.Code.{Code};
 ghost use Rattle.cs_codec.specs.TextMaps.{runs_of_code};
 
 use crate::cell::{Cell, lone_bits};
 use crate::encoding::{CodecFault, Encoding};
-use crate::numbers::{read_number, write_number};
+use crate::numbers::write_number;
+use crate::run_reading::{read_runs, spread};
 use cs_schema::Code;
 use std::alloc::{AllocError, Global};
 use std::marker::Model;
@@ -68,6 +67,14 @@ impl<C: Cell> RunsPart<C> {
         })
     }
 
+    /// Makes room for so many more parts with as many runs as this one.
+    pub fn reserve(&mut self, parts: u32) -> Result<(), AllocError>
+        ensures { self.new ≡ self.old }
+    {
+        self.runs
+            .reserve(self.runs.len().saturating_mul(parts as usize))
+    }
+
     /// The runs of the part.
     #[inline]
     fn into_runs(self) -> Result<Vec<Run<C>>, AllocError>
@@ -90,7 +97,7 @@ impl<C: Cell> RunsPart<C> {
         let mut runs = self.into_runs()?;
         match other.lone {
             Some(bits) => push_run(&mut runs, &C::from_bits(bits), 1)?,
-            None => push_runs(&mut runs, &other.runs)?,
+            None => append_runs(&mut runs, other.runs)?,
         }
         Ok(RunsPart {
             runs,
@@ -137,17 +144,22 @@ fn write_runs<C: Cell>(alloc: Global, runs: &[Run<C>]) -> Result<Vec<u8>, AllocE
     Ok(out)
 }
 
-/// Adds runs after the others.
-fn push_runs<C: Cell>(runs: &mut Vec<Run<C>>, others: &[Run<C>]) -> Result<(), AllocError>
-    requires short { length (expand runs.old.items) + length (expand others.now) ≤ 1048576 }
+/// Moves runs after the others. Where the first of them has the value of the last one, the two become one.
+fn append_runs<C: Cell>(runs: &mut Vec<Run<C>>, others: Vec<Run<C>>) -> Result<(), AllocError>
+    requires short { length (expand runs.old.items) + length (expand others.items) ≤ 1048576 }
     requires proper { IsProper C.eq runs.old.items }
-    requires others { IsProper C.eq others.now }
-    ensures cells { OnOk result (expand runs.new.items ≡ expand runs.old.items ++ expand others.now) }
+    requires others { IsProper C.eq others.items }
+    ensures cells { OnOk result (expand runs.new.items ≡ expand runs.old.items ++ expand others.items) }
     ensures proper { OnOk result (IsProper C.eq runs.new.items) }
 {
-    for run in others {
-        push_run(runs, &run.value, run.count)?;
+    let mut others = others;
+    let len = runs.len();
+    let more = others.len();
+    if len > 0 && more > 0 && runs[len - 1].value == others[0].value {
+        others[0].count += runs[len - 1].count;
+        runs.truncate(len - 1);
     }
+    runs.append(&mut others)?;
     Ok(())
 }
 
@@ -171,90 +183,6 @@ fn push_run<C: Cell>(runs: &mut Vec<Run<C>>, value: &C, count: u32) -> Result<()
     };
     runs.push(run)?;
     Ok(())
-}
-
-/// The run that stands at `at`, its position and its end.
-#[inline]
-fn read_run<C: Cell>(
-    alloc: Global,
-    bytes: &[u8],
-    at: usize,
-) -> Result<Option<(Run<C>, u32, usize)>, AllocError>
-    ensures found { IfOk result (λ read. IfSome read (λ found.
-        RunStandsAt C.bytes C.is_cell bytes.now at found.0 found.1 found.2)) }
-    ensures none { IfOk result (λ read. IfNone read (NoRunStandsAt C.bytes C.is_cell bytes.now at)) }
-{
-    let Some((value, end)) = C::read(alloc, bytes, at)? else {
-        return Ok(None);
-    };
-    let Some(position) = read_number(bytes, end) else {
-        return Ok(None);
-    };
-    let Some(count) = read_number(bytes, end + 4) else {
-        return Ok(None);
-    };
-    Ok(Some((Run { value, count }, position, end + 8)))
-}
-
-/// Whether a run may come after the others.
-#[inline]
-fn goes_on<C: Cell>(runs: &Vec<Run<C>>, run: &Run<C>) -> bool
-    ensures yes { IsTrue result → IsProper C.eq runs.now.items → IsProper C.eq (runs.now.items ++ run.now ∷ []) }
-    ensures no { result ≡ false → (rest : List (Run C)) → IsProper C.eq (runs.now.items ++ run.now ∷ rest) → ⊥ }
-{
-    let len = runs.len();
-    if run.count == 0 {
-        return false;
-    }
-    len == 0 || runs[len - 1].value != run.value
-}
-
-/// The text of a run has at least so many bytes.
-const LEAST_RUN: usize = 9;
-
-/// The runs that the bytes are the text of.
-fn read_runs<C: Cell>(alloc: Global, bytes: &[u8], rows: u32) -> Result<Vec<Run<C>>, CodecFault>
-    requires { rows ≤ 1048576 }
-    ensures found { IfOk result (λ runs. AreRunsOf C.bytes C.is_cell C.eq bytes.now rows runs.items) }
-    ensures not_a_text { result ≡ Err CodecFault.NotAText → NoRunsOf C.bytes C.is_cell C.eq bytes.now rows }
-{
-    let mut runs = Vec::with_capacity(alloc, (bytes.len() / LEAST_RUN).min(rows as usize))?;
-    let mut count = 0;
-    let mut at = 0;
-    while at < bytes.len() {
-        let Some((run, position, end)) = read_run(alloc, bytes, at)? else {
-            return Err(CodecFault::NotAText);
-        };
-        if position != count + 1 {
-            return Err(CodecFault::NotAText);
-        }
-        if run.count > rows - count {
-            return Err(CodecFault::NotAText);
-        }
-        if !goes_on(&runs, &run) {
-            return Err(CodecFault::NotAText);
-        }
-        count += run.count;
-        runs.push(run)?;
-        at = end;
-    }
-    if count != rows {
-        return Err(CodecFault::NotAText);
-    }
-    Ok(runs)
-}
-
-/// The cells of the runs.
-fn spread<C: Cell>(alloc: Global, runs: &[Run<C>], rows: u32) -> Result<Vec<C>, AllocError>
-    ensures { IfOk result (λ cells. cells.items ≡ expand runs.now) }
-{
-    let mut cells = Vec::with_capacity(alloc, rows as usize)?;
-    for run in runs {
-        for _ in 0..run.count {
-            cells.push(run.value.copy(alloc)?)?;
-        }
-    }
-    Ok(cells)
 }
 
 /// Columns as runs of equal cells: of each run the cell, its first position, from 1, and its length.

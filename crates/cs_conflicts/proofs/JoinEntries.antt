@@ -15,7 +15,7 @@ use Rattle.cs_safety.specs.Within.{IsWithin}
 use Rattle.cs_recovery.specs.Conflicts.{site_of}
 use Rattle.cs_recovery.specs.Holding.{agrees}
 use Rattle.cs_recovery.specs.Places.{image_after, entry_for}
-use Rattle.cs_rebuild.proofs.Entries.{agree, disagree, other_length}
+use Rattle.cs_rebuild.proofs.Entries.{agree, agreed, other_length}
 use Rattle.cs_rebuild.proofs.Indexes.{is_kept}
 use Rattle.cs_rebuild.proofs.Numbers.{by_equal}
 use Rattle.cs_conflicts.specs.Conflicts.{AreImagesOfRows, IsKeyConflict, IsJoinConflict}
@@ -127,7 +127,7 @@ module _ (C : CatalogData) (first : Sites) (S : Contents) (walked : List Row) (p
           go L around gone images leads true e = false≢true (sym gone ∙ (k.told L around gone images).1 e)
           go L around gone images leads false e =
               let inside : i < (image_after C L S T p s).top = omega (arith, l, same_top L around gone) in
-              false≢true (sym (from_join L false (disagree (agrees C L q) (λ j. entry_for C L S T p s q (j + 1)) join no_place no_place (image_after C L S T p s).top i inside e)) ∙ leads)
+              false≢true (sym e ∙ agreed (agrees C L q) (λ j. entry_for C L S T p s q (j + 1)) join no_place no_place (image_after C L S T p s).top (ap (λ xs. pointwise (agrees C L q) xs (Rattle.cs_recovery.specs.Places.entries_for C L S T p s q)) is ∙ leads) i inside)
 
     -- what all entries come to
     pub whole : length join ≡ top → (others : Sites) → AgreeBelow top others → IsJoinConflict C first S T (p, s, q) (own, others)
@@ -135,12 +135,8 @@ module _ (C : CatalogData) (first : Sites) (S : Contents) (walked : List Row) (p
       site = refl;
       told = λ L around gone images. (
         λ w. from_join L true (agree (agrees C L q) (λ j. entry_for C L S T p s q (j + 1)) join no_place no_place (image_after C L S T p s).top (long ∙ same_top L around gone) (λ m l. (below L around gone images).0 w m (omega (arith, l, same_top L around gone)))),
-        λ leads. (below L around gone images).1 (λ m l. go L around gone leads m l (At L m) refl),
+        λ leads. (below L around gone images).1 (λ m l.
+            let inside : m < (image_after C L S T p s).top = omega (arith, l, same_top L around gone) in
+            agreed (agrees C L q) (λ j. entry_for C L S T p s q (j + 1)) join no_place no_place (image_after C L S T p s).top (ap (λ xs. pointwise (agrees C L q) xs (Rattle.cs_recovery.specs.Places.entries_for C L S T p s q)) is ∙ leads) m inside),
       );
     }
-      where
-        go : (L : Sites) → IsWithin first L → member L own ≡ false → LeadsBeside L → (m : ℕ) → m < top → (b : Bool) → At L m ≡ b → At L m ≡ true
-        go L around gone leads m l true e = e
-        go L around gone leads m l false e =
-            let inside : m < (image_after C L S T p s).top = omega (arith, l, same_top L around gone) in
-            false≢true (sym (from_join L false (disagree (agrees C L q) (λ j. entry_for C L S T p s q (j + 1)) join no_place no_place (image_after C L S T p s).top m inside e)) ∙ leads)

@@ -13,3 +13,4 @@ pub mod HeadTexts
 pub mod KeyLists
 pub mod LayerCounts
 pub mod FirstKeys
+pub mod Lefts

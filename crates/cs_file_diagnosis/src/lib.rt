@@ -22,5 +22,6 @@ pub use cs_inspection::Badness;
 pub use diagnosing::{Diagnosis, diagnose};
 pub use disputing::{TableDisputes, disputed_rows};
 pub use forcing::bad_sites;
+pub use missing::others;
 pub use reaching::Reach;
 pub use tables::FoundTable;

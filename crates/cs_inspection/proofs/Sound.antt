@@ -17,7 +17,7 @@ use Rattle.cs_recovery.specs.Contents.{IsImageOf, Reads}
 use Rattle.cs_recovery.specs.Verdicts.{IsSound}
 use Rattle.cs_inspection.specs.declared.badness.Badness.{Badness}
 use Rattle.cs_inspection.specs.BadFiles.{IsBad, IsGood, IsDamaged, IsFileOf, IsPair, IsListed, AreBadFiles}
-use Rattle.cs_inspection.specs.Laws.{AreAbsent, BadFilesAreUnsound, BadFilesTellSoundOnes, BadSitesAreForced}
+use Rattle.cs_inspection.specs.Laws.{AreAbsent, BadFilesAreUnsound, SoundFilesAreGood, BadFilesTellSoundOnes, BadSitesAreForced}
 use Rattle.cs_inspection.proofs.OneState.{none_there}
 
 has_file : (C : CatalogData) (F : FileContents) (n : FileName) → IsSound C F n → (bytes : List ℕ) × (F n ≡ Some bytes) × IsFileOf C n bytes
@@ -49,6 +49,22 @@ module _ (C : CatalogData) (cat : IsCatalog C) (F : FileContents) where
     bad_unsound n why h (IsBad.missing r none e) sound = none_there (sym none ∙ (has_file C F n sound).1)
     bad_unsound n why h (IsBad.damaged r bytes there d e) sound = damaged_unsound n bytes h there d sound
 
+    good : (n : FileName) → HasName C n → IsSound C F n → IsGood C F unreadable n
+    good n h sound =
+        let f = has_file C F n sound in
+        record {
+          readable = λ i. none_there (sym (absent n i) ∙ f.1);
+          bytes = f.0;
+          there = f.1;
+          undamaged = record {
+            file = f.2;
+            merges = λ p s base changes e pair.
+                let named : HasName C (FileName.Del p s) = subst (HasName C) e h in
+                let image : IsSound C F (FileName.Del p s) = subst (IsSound C F) e sound in
+                merges p s named.0 base changes pair image.0 image.1;
+          };
+        }
+
     module _ (bad : List (FileName × Badness)) (b : AreBadFiles C F unreadable bad) where
       listed_unsound : (n : FileName) → IsListed n bad → IsSound C F n → ⊥
       listed_unsound n (why, i) sound = let it = b.each n why i in bad_unsound n why it.0 it.1 sound
@@ -75,13 +91,16 @@ module _ (C : CatalogData) (cat : IsCatalog C) (F : FileContents) where
           go (inl l) = inr (delta_unsound p s l)
           go (inr k) = inl (delta_sound p s k g)
 
-survivor_sound : (C : CatalogData) (F : FileContents) (L : Sites) (n : FileName) → Survives C L n → ((S : _) × Reads C F L S) → IsSound C F n
+pub survivor_sound : (C : CatalogData) (F : FileContents) (L : Sites) (n : FileName) → Survives C L n → ((S : _) × Reads C F L S) → IsSound C F n
 survivor_sound C F L (FileName.Seg p s) v (S, r) = let m = r.images p s v in (m.segment_bytes, m.base, m.has_segment, m.segment_file)
 survivor_sound C F L (FileName.Del p s) v (S, r) = (S.image p s, r.images p s v)
 survivor_sound C F L (FileName.Jix p s q) v (S, r) = (S.join p s q, r.joins p s q v)
 
 pub unsound : BadFilesAreUnsound
 unsound C cat F unreadable absent n why h b = bad_unsound C cat F unreadable absent n why h b
+
+pub sound_good : SoundFilesAreGood
+sound_good C cat F unreadable absent n h sound = good C cat F unreadable absent n h sound
 
 pub tell : BadFilesTellSoundOnes
 tell C cat F unreadable bad absent b n h = tells C cat F unreadable absent bad b n h (b.others n h)

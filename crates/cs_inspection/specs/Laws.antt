@@ -29,6 +29,12 @@ BadFilesAreUnsound =
     (C : CatalogData) → IsCatalog C → (F : FileContents) (unreadable : List FileName) → AreAbsent F unreadable
     → (n : FileName) (why : Badness) → HasName C n → IsBad C F unreadable n why → ¬ IsSound C F n
 
+-- a sound file is good
+abbrev pub SoundFilesAreGood : Type 0
+SoundFilesAreGood =
+    (C : CatalogData) → IsCatalog C → (F : FileContents) (unreadable : List FileName) → AreAbsent F unreadable
+    → (n : FileName) → HasName C n → IsSound C F n → IsGood C F unreadable n
+
 -- whoever knows the bad files knows of each file whether it is sound
 abbrev pub BadFilesTellSoundOnes : Type 0
 BadFilesTellSoundOnes =

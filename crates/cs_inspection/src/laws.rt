@@ -1,5 +1,5 @@
 //! Laws over the definitions: each function does nothing, and its contract is the law.
-ghost use Rattle.cs_inspection.specs.Laws.{FilesHaveOneState, BadFilesAreUnsound, BadFilesTellSoundOnes, BadSitesAreForced};
+ghost use Rattle.cs_inspection.specs.Laws.{FilesHaveOneState, BadFilesAreUnsound, SoundFilesAreGood, BadFilesTellSoundOnes, BadSitesAreForced};
 
 /// No file is both good and bad, and a bad one is for one reason.
 pub fn files_have_one_state()
@@ -9,6 +9,11 @@ pub fn files_have_one_state()
 /// A bad file isn't sound.
 pub fn bad_files_are_unsound()
     ensures { BadFilesAreUnsound }
+{}
+
+/// A sound file is good, so whoever knows that all are sound need not look for bad ones.
+pub fn sound_files_are_good()
+    ensures { SoundFilesAreGood }
 {}
 
 /// Whoever knows the bad files knows of each file whether it is sound: the premise of the law that the losses which a

@@ -1,6 +1,6 @@
 //! What is said of one file, as JSON.
-use crate::file_text::{BaseRow, Hex, ItemWords};
 use crate::file_view::FileView;
+use crate::row_words::{BaseRow, Hex, ItemWords};
 use crate::samples::{first_end, last_begin};
 use cs_delta::{Delta, Item};
 use cs_headers::{Content, FileReport};

@@ -1,85 +1,16 @@
 //! What is said of one file, as text.
 use crate::catalog_words::{code_at, kind_word};
-use crate::cell_words::{CellWords, ItemCellWords};
 use crate::counted::Counted;
 use crate::file_view::FileView;
+use crate::row_words::{BaseRow, Hex, ItemWords};
 use crate::samples::{first_end, has_gap, last_begin};
-use cs_delta::{Delta, Item, ItemCell};
+use cs_delta::{Delta, Item};
 use cs_headers::{Content, Digests, Nonsense};
 use cs_jix::JoinIndex;
 use cs_reports::{ColumnNames, SiteWords, SitedFile, site_of, with_site};
 use cs_schema::{Catalog, FileName, Loss};
 use cs_segment::Segment;
 use std::fmt;
-
-/// A digest, two digits a byte.
-#[derive(Clone, Copy)]
-pub struct Hex<'a>(pub &'a [u8; 32]);
-
-impl fmt::Display for Hex<'_> {
-    fn fmt<W: fmt::Write>(&self, f: &mut fmt::Formatter<W>) -> fmt::Result {
-        for byte in self.0 {
-            write!(f, "{byte:02x}")?;
-        }
-        Ok(())
-    }
-}
-
-/// A row of a segment's base.
-#[derive(Clone, Copy)]
-pub struct BaseRow<'a> {
-    pub segment: &'a Segment,
-    pub row: usize,
-}
-
-impl fmt::Display for BaseRow<'_> {
-    fn fmt<W: fmt::Write>(&self, f: &mut fmt::Formatter<W>) -> fmt::Result {
-        let BaseRow { segment, row } = *self;
-        let mut separator = "";
-        for cells in &segment.columns {
-            let cell = CellWords { cells, row };
-            write!(f, "{separator}{cell}")?;
-            separator = ", ";
-        }
-        Ok(())
-    }
-}
-
-/// The cells of a row that an item inserts.
-#[derive(Clone, Copy)]
-struct ItemRow<'a>(&'a [ItemCell]);
-
-impl fmt::Display for ItemRow<'_> {
-    fn fmt<W: fmt::Write>(&self, f: &mut fmt::Formatter<W>) -> fmt::Result {
-        let mut separator = "";
-        for cell in self.0 {
-            let cell = ItemCellWords(cell);
-            write!(f, "{separator}{cell}")?;
-            separator = ", ";
-        }
-        Ok(())
-    }
-}
-
-/// An item of a delta.
-#[derive(Clone, Copy)]
-pub struct ItemWords<'a>(pub &'a Item);
-
-impl fmt::Display for ItemWords<'_> {
-    fn fmt<W: fmt::Write>(&self, f: &mut fmt::Formatter<W>) -> fmt::Result {
-        match self.0 {
-            Item::Insert { at, key, row } => {
-                let row = ItemRow(row.as_slice());
-                write!(f, "insert before row {at}, key {key}: {row}")
-            }
-            Item::Delete { at } => write!(f, "delete row {at}"),
-            Item::Modify { at, column, value } => {
-                let value = ItemCellWords(value);
-                write!(f, "modify row {at}, column {column}: {value}")
-            }
-        }
-    }
-}
 
 /// Writes how many rows a segment has, and the first and the last of them with their keys.
 fn write_segment<W: fmt::Write>(f: &mut fmt::Formatter<W>, segment: &Segment) -> fmt::Result {

@@ -11,6 +11,7 @@ mod file_text;
 mod file_view;
 mod lines;
 mod memory;
+mod row_words;
 mod samples;
 mod store_json;
 mod store_text;

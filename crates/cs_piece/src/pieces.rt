@@ -70,6 +70,8 @@ impl Piece {
             // texts differ in length, so with some room to spare
             Piece::PlainTexts(part) => part.reserve(pieces.saturating_add(pieces / 8)),
             Piece::RisingInts(part) => part.reserve(pieces),
+            Piece::IntRuns(part) => part.reserve(pieces),
+            Piece::TextRuns(part) => part.reserve(pieces),
             _ => Ok(()),
         }
     }

@@ -55,12 +55,8 @@ module _ {A B : Type 0} (E : A → B → Bool) where
         all_agree xs (map f (numbers_below top)) d e (l ∙ sym long)
         (λ m k. let below : m < top = omega (arith, k, long) in subst (λ y. E (get_or xs m d) y ≡ true) (sym (at m below)) (h m below))
 
-    pub disagree : (m : ℕ) → m < top → E (get_or xs m d) (f m) ≡ false → pointwise E xs (map f (numbers_below top)) ≡ false
-    disagree m l h = go (pointwise E xs (map f (numbers_below top))) refl
-      where
-        go : (b : Bool) → pointwise E xs (map f (numbers_below top)) ≡ b → b ≡ false
-        go true k = absurd (false≢true (sym h ∙ ap (E (get_or xs m d)) (sym (at m l)) ∙ each_agrees xs (map f (numbers_below top)) d e k m (omega (arith, l, long))))
-        go false k = refl
+    pub agreed : pointwise E xs (map f (numbers_below top)) ≡ true → (m : ℕ) → m < top → E (get_or xs m d) (f m) ≡ true
+    agreed k m l = ap (E (get_or xs m d)) (sym (at m l)) ∙ each_agrees xs (map f (numbers_below top)) d e k m (omega (arith, l, long))
 
     pub other_length : length xs ≢ top → pointwise E xs (map f (numbers_below top)) ≡ false
     other_length n = go (pointwise E xs (map f (numbers_below top))) refl

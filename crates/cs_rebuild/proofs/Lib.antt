@@ -9,6 +9,7 @@ pub mod Entries
 pub mod Firsts
 pub mod StoreFacts
 pub mod Indexes
+pub mod JoinedColumns
 pub mod Keeping
 pub mod Names
 pub mod Numbers

@@ -23,3 +23,9 @@ decided true true f g = refl
 decided true false f g = sym (f refl)
 decided false true f g = g refl
 decided false false f g = refl
+
+pub same_test : (b t : Bool) → (b ≡ true → t ≡ true) → (t ≡ true → b ≡ true) → b ≡ t
+same_test true true f g = refl
+same_test true false f g = sym (f refl)
+same_test false true f g = g refl
+same_test false false f g = refl

@@ -2,13 +2,12 @@
 use Rattle.std.proofs.Common.{◌≡◌, ℕ, zero, suc, ◌+◌, ◌-◌, ◌*◌, ◌/◌, ◌%◌, ◌<◌, List, [], ◌∷◌, ◌++◌, length, length-append, refl, sym, ap, subst, ◌∙◌, Some, arith, get_or}
 use Rattle.std.specs.List.{slice_get}
 use Rattle.std.proofs.lemmas.Nat.{div-mul-add, mod-mul-add, mul-add-lt}
-use Rattle.std.proofs.lemmas.Option.{slice_get-get_or, slice_get_within, get_or_from_slice_get, none-some, same_Some}
+use Rattle.std.proofs.lemmas.Option.{slice_get-get_or, slice_get_within, get_or_from_slice_get, none-some}
 use Rattle.std.specs.List.{ReversedBelow}
 use Rattle.cs_schema.specs.CatalogData.{CatalogData, code_at, kind_at}
 use Rattle.cs_schema.specs.Rows.{Row}
 use Rattle.cs_piece.specs.declared.pieces.Piece.{Piece}
 use Rattle.cs_piece.specs.Pieces.{IsPieceOf}
-use Rattle.cs_segment.specs.Parts.{AllFrom}
 use Rattle.cs_rebuild.specs.Encoding.{pieces_of, values_at, cut_at, EncodeAnswerAt}
 
 module _ {X : Type 0} where
@@ -42,19 +41,6 @@ module _ {X : Type 0} where
         let place : length xs - 1 - m ≡ total - 1 - m = omega (arith, l) in
         let there : get_or xs (length xs - 1 - m) out ≡ out = sym (back m out below) ∙ get_or_from_slice_get rest m out out at in
         subst (λ n. P n out) place (h (length xs - 1 - m) out (slice_get-get_or xs (length xs - 1 - m) out (omega (arith, below)) ∙ ap Some there))
-
-  pub each_pushed : (P : ℕ → X → Type 0) (xs : List X) (x : X) → ((i : ℕ) (y : X) → slice_get xs i ≡ Some y → P i y) → P (length xs) x → (i : ℕ) (y : X) → slice_get (xs ++ x ∷ []) i ≡ Some y → P i y
-  each_pushed P [] x h e zero y at = subst (P 0) (same_Some x y at) e
-  each_pushed P [] x h e (suc i) y at = absurd (none-some y at)
-  each_pushed P (z ∷ xs) x h e zero y at = h 0 y at
-  each_pushed P (z ∷ xs) x h e (suc i) y at = each_pushed (λ n. P (suc n)) xs x (λ k. h (suc k)) e i y at
-
-  -- what holds of each element with its number
-  pub all_from : (P : ℕ → X → Type 0) (xs : List X) (n : ℕ) → ((i : ℕ) (x : X) → slice_get xs i ≡ Some x → P (n + i) x) → AllFrom P n xs
-  all_from P [] n h = tt
-  all_from P (x ∷ xs) n h =
-      let start : n + 0 ≡ n = omega arith in
-      (subst (λ m. P m x) start (h 0 x refl), all_from P xs (n + 1) (λ i y e. let next : n + suc i ≡ n + 1 + i = omega arith in subst (λ m. P m y) next (h (suc i) y e)))
 
 -- a piece by its column and its number there
 pub piece_there : (C : CatalogData) (p : ℕ) (rows : List Row) (numbers : List ℕ) (cut per j k : ℕ) (out : Piece) → per ≡ pieces_of (length numbers) cut → k < per → EncodeAnswerAt C p rows numbers cut (j * per + k) out

@@ -1,10 +1,8 @@
 -- What a sound store gives to those who write what is lost.
-use Rattle.std.proofs.Common.{◌≡◌, ℕ, ◌+◌, ◌<◌, List, [], ◌∷◌, map, length, refl, sym, ap, subst, ◌∙◌, Option, Some, None, arith, pos}
+use Rattle.std.proofs.Common.{◌≡◌, ℕ, ◌<◌, List, [], ◌∷◌, map, length, refl, sym, ap, subst, ◌∙◌, Option, Some, None, pos}
 use Rattle.std.specs.Prelude.{slice_index}
-use Rattle.std.specs.List.{slice_get}
 use Rattle.std.specs.Option.{option_or}
-use Rattle.std.proofs.lemmas.List.FromFn.{length-map-range_with_len}
-use Rattle.std.proofs.lemmas.Option.{none-some, slice_get-get_or, get_or_from_slice_get, slice_get_within}
+use Rattle.std.proofs.lemmas.Option.{none-some, slice_get-get_or, get_or_from_slice_get}
 use Rattle.cs_schema.specs.declared.cells.Value.{Value}
 use Rattle.cs_schema.specs.declared.kinds.Code.{Code}
 use Rattle.cs_schema.specs.declared.kinds.Kind.{Kind}
@@ -15,10 +13,7 @@ use Rattle.cs_schema.specs.Losses.{Sites}
 use Rattle.cs_schema.specs.Order.{rows_of}
 use Rattle.cs_schema.specs.Rows.{Row, cell, project}
 use Rattle.cs_schema.proofs.Lists.{slice_get_map}
-use Rattle.cs_piece.specs.declared.pieces.Piece.{Piece}
-use Rattle.cs_piece.specs.Pieces.{IsPieceOf}
-use Rattle.cs_segment.specs.SegmentFile.{base_of, base_column}
-use Rattle.cs_segment.specs.SegmentPieces.{ArePiecesOf}
+use Rattle.cs_segment.specs.SegmentFile.{IsBase, base_of}
 use Rattle.cs_jix.specs.JoinIndex.{IsJoinIndexFile, join_index_text}
 use Rattle.cs_rows.specs.Survivors.{SurvivorsData, contents_of}
 use Rattle.cs_rows.specs.WalkedView.{WalkedData}
@@ -26,17 +21,16 @@ use Rattle.cs_order.specs.Orders.{OrdersData, row_at, numbers_in}
 use Rattle.cs_order.specs.Tables.{table_of}
 use Rattle.cs_recovery.specs.Places.{entries_for}
 use Rattle.cs_recovery.specs.Verdicts.{twice, full}
-use Rattle.cs_recovery.proofs.Afresh.{base_is, column_is, count_is, never_falls}
+use Rattle.cs_recovery.proofs.Afresh.{base_is, never_falls}
 use Rattle.cs_recovery.proofs.Judged.{full_fits, judged_contents, table_of_rows, walked_are_rows}
 use Rattle.cs_recovery.proofs.KeptKinds.{walk_keeps_kinds}
 use Rattle.cs_recovery.proofs.Read.{layers}
 use Rattle.cs_recovery.proofs.RowKinds.{rows_keep_kinds}
 use Rattle.cs_recovery.proofs.Whole.{entries_file}
-use Rattle.cs_rebuild.specs.Encoding.{Rises, values_at}
+use Rattle.cs_rebuild.specs.Encoding.{Rises, base_at, values_at}
 use Rattle.cs_rebuild.specs.StoreFacts.{AreInOrder}
 use Rattle.cs_rebuild.specs.Steps.{AreSound, HoldsTable}
 use Rattle.cs_rebuild.proofs.Counts.{none_twice}
-use Rattle.cs_rebuild.proofs.Rests.{all_from}
 
 second_none : {X : Type 0} (a b : Option X) → option_or a b ≡ None → b ≡ None
 second_none None b e = e
@@ -82,19 +76,9 @@ module _ (C : CatalogData) (cat : IsCatalog C) (F : FileContents) (L : Sites) (v
     pub rises : (j : ℕ) → j < length (projection C p).columns → code_at C p j ≡ Code.Differences → (kind_at C p j ≡ Kind.Int) × Rises (values_at C p w.rows j (numbers_in o p s))
     rises j l e = let r = never_falls C cat T sound.table sound.fits p s there j l e in (r.0, subst Rises (column_values j l) r.1)
 
-    -- pieces of all columns are those of the segment's base
-    pub pieces_of_base : (pieces : List Piece) → length pieces ≡ length (projection C p).columns
-        → ((j : ℕ) (piece : Piece) → slice_get pieces j ≡ Some piece → IsPieceOf piece (code_at C p j) (kind_at C p j) (values_at C p w.rows j (numbers_in o p s)))
-        → ArePiecesOf C p (length (rows_of C T p s)) pieces (base_of C p (map (project C p) (rows_of C T p s)))
-    pieces_of_base pieces width h =
-        let xs : List (List Value) = map (project C p) (rows_of C T p s) in
-        let P : ℕ → Piece → Type 0 = λ j piece. IsPieceOf piece (code_at C p j) (kind_at C p j) (base_column (base_of C p xs) j) in
-        record {
-          base = base_is C cat T sound.table sound.fits p s there;
-          rows_are = count_is C cat T sound.table sound.fits p s there;
-          width = width ∙ sym (length-map-range_with_len (λ j. map (λ x. cell x j) xs) 0 (length (projection C p).columns));
-          pieces_are = all_from P pieces 0 (λ j piece at.
-              let l : j < length (projection C p).columns = subst (λ n. j < n) width (slice_get_within pieces j piece at) in
-              let start : j ≡ 0 + j = omega arith in
-              subst (λ n. P n piece) start (subst (IsPieceOf piece (code_at C p j) (kind_at C p j)) (sym (column_is C cat T sound.table sound.fits p s there j l ∙ column_values j l)) (h j piece at)));
-        }
+    -- the base of the rows with these numbers is the segment's
+    pub base_here : base_at C p w.rows (numbers_in o p s) ≡ base_of C p (map (project C p) (rows_of C T p s))
+    base_here = ap (λ xs. base_of C p (map (project C p) xs)) (each p s there.0)
+
+    pub has_base : IsBase C p (base_at C p w.rows (numbers_in o p s))
+    has_base = subst (IsBase C p) (sym base_here) (base_is C cat T sound.table sound.fits p s there)

@@ -15,6 +15,7 @@ use Rattle.cs_order.specs.Orders.{OrdersData, AreOrdersOf, numbers_in, row_at}
 use Rattle.cs_order.specs.Tables.{table_of}
 use Rattle.cs_rows.specs.Survivors.{SurvivorsData, contents_of}
 use Rattle.cs_recovery.specs.Contents.{IsImageOf}
+use Rattle.cs_recovery.specs.Holding.{agrees}
 use Rattle.cs_recovery.specs.Verdicts.{twice, full}
 use Rattle.cs_recovery.proofs.Judged.{full_fits}
 use Rattle.cs_recovery.proofs.KeptKinds.{image_kinds}
@@ -89,3 +90,6 @@ module _ (g h : OrderedStore) (same : h ≡ g) (p s q a b c : ℕ) (one : a ≡ 
 
   pub same_entries : c ≡ q → entries_for h.catalog.now h.loss (held_on h) (table_on h) a b c ≡ entries_for g.catalog.now g.loss (held_on g) (table_on g) p s q
   same_entries three = λ i. entries_for (same i).catalog.now (same i).loss (held_on (same i)) (table_on (same i)) (one i) (two i) (three i)
+
+  pub same_agreement : c ≡ q → (x : Place) (key : ℕ) → agrees h.catalog.now h.loss c x (entry_for h.catalog.now h.loss (held_on h) (table_on h) a b c key) ≡ agrees g.catalog.now g.loss q x (entry_for g.catalog.now g.loss (held_on g) (table_on g) p s q key)
+  same_agreement three x key = λ i. agrees (same i).catalog.now (same i).loss (three i) x (entry_for (same i).catalog.now (same i).loss (held_on (same i)) (table_on (same i)) (one i) (two i) (three i) key)

@@ -37,6 +37,11 @@ pub passed : {T E : Type 0} (r : Result T E) (f : E) (Q : E → Type 0) → IsEr
 passed (Ok x) f Q h q = tt
 passed (Err e) f Q h q = subst Q (sym h) q
 
+-- where there is an error, what it is
+pub on_error : {T E : Type 0} (r : Result T E) (P Q : E → Type 0) → IfErr r P → ((e : E) → P e → Q e) → IfErr r Q
+on_error (Ok x) P Q h f = tt
+on_error (Err e) P Q h f = f e h
+
 -- what is known of a store is known of what it was made of
 pub on_store : (X : CatalogData → Sites → SurvivorsData → WalkedData → Type 0) {C D : CatalogData} {L M : Sites} {v u : SurvivorsData} {w t : WalkedData} → D ≡ C → M ≡ L → u ≡ v → t ≡ w → X D M u t → X C L v w
 on_store X {C} {D} {L} {M} {v} {u} {w} {t} a b d e h = subst (λ c. X c L v w) a (subst (λ l. X D l v w) b (subst (λ s. X D M s w) d (subst (λ r. X D M u r) e h)))

@@ -1,12 +1,15 @@
 -- The pieces into which the columns of a lost segment are cut.
-use Rattle.std.specs.Prelude.{◌≡◌, ℕ, ◌+◌, ◌-◌, ◌*◌, ◌/◌, ◌%◌, ◌<◌, List, map, length, max, take, drop, slice_index, slice_get, Some, ◌≤ℤ◌}
+use Rattle.std.specs.Prelude.{◌≡◌, ℕ, ◌+◌, ◌-◌, ◌*◌, ◌/◌, ◌%◌, ◌<◌, ◌≤◌, List, map, length, max, take, drop, slice_index, slice_get, Some, ◌≤ℤ◌}
 use Rattle.cs_codec.specs.ColumnText.{int_of}
 use Rattle.cs_schema.specs.declared.cells.Value.{Value}
 use Rattle.cs_schema.specs.CatalogData.{CatalogData, projection, code_at, kind_at}
-use Rattle.cs_schema.specs.Rows.{Row, cell}
-use Rattle.cs_order.specs.Orders.{row_at}
+use Rattle.cs_schema.specs.Rows.{Row, cell, project}
+use Rattle.cs_order.specs.Orders.{row_at, numbers_in}
 use Rattle.cs_piece.specs.declared.pieces.Piece.{Piece}
 use Rattle.cs_piece.specs.Pieces.{IsPieceOf}
+use Rattle.cs_board.specs.Pieces.{AnswersInOrder}
+use Rattle.cs_segment.specs.SegmentFile.{Base, base_of}
+use Rattle.cs_rebuild.specs.declared.ordered_store.OrderedStore.{OrderedStore}
 
 -- how many pieces a column of n rows has: one where it has no rows
 abbrev pub pieces_of : ℕ → ℕ → ℕ
@@ -25,6 +28,20 @@ abbrev pub EncodeAnswerAt : CatalogData → ℕ → List Row → List ℕ → �
 EncodeAnswerAt C p rows numbers cut i out =
     let per : ℕ = pieces_of (length numbers) cut in
     IsPieceOf out (code_at C p (i / per)) (kind_at C p (i / per)) (values_at C p rows (i / per) (cut_at cut numbers (i % per)))
+
+-- the pieces are those of all columns, column by column, each of which is cut into pieces of so many rows
+pub record AreCutColumns (C : CatalogData) (p : ℕ) (rows : List Row) (numbers : List ℕ) (cut : ℕ) (pieces : List Piece) : Type 0 where
+  pub count : length pieces ≡ length (projection C p).columns * pieces_of (length numbers) cut
+  pub each : AnswersInOrder (EncodeAnswerAt C p rows numbers cut) pieces
+
+-- they are those of the columns of a segment of a store
+pub record ArePiecesOn (g : OrderedStore) (p s cut : ℕ) (pieces : List Piece) : Type 0 where
+  pub cut_range : (1 ≤ cut) × (cut ≤ 1048576)
+  pub columns : AreCutColumns g.catalog.now p g.walked.rows (numbers_in g.orders p s) cut pieces
+
+-- the base of some rows, by their numbers
+abbrev pub base_at : CatalogData → ℕ → List Row → List ℕ → Base
+base_at C p rows numbers = base_of C p (map (project C p) (map (row_at rows) numbers))
 
 -- no int is below the one before it, by positions
 abbrev pub Rises : List Value → Type 0

@@ -1,5 +1,6 @@
 pub mod Building
 pub mod Encoding
+pub mod Joining
 pub mod StoreFacts
 pub mod Comparing
 pub mod Verifying

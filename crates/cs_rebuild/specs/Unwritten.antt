@@ -1,21 +1,18 @@
 -- The files that a loss leaves to be written, and what each is made from.
-use Rattle.std.specs.Prelude.{◌≡◌, ℕ, ◌<◌, List, [], ◌∷◌, ◌++◌, map, length, true, cond, Some}
+use Rattle.std.specs.Prelude.{◌≡◌, ℕ, ◌<◌, List, [], ◌∷◌, ◌++◌, length, true, cond, Some}
 use Rattle.std.specs.List.{flat_map}
 use Rattle.cs_schema.specs.declared.file_name.FileName.{FileName}
 use Rattle.cs_schema.specs.CatalogData.{CatalogData, HasSegment, segments}
 use Rattle.cs_schema.specs.Lists.{numbers_below}
 use Rattle.cs_schema.specs.Losses.{Sites, lost}
-use Rattle.cs_schema.specs.Order.{rows_of}
-use Rattle.cs_schema.specs.Rows.{project}
-use Rattle.cs_segment.specs.SegmentFile.{base_of}
-use Rattle.cs_segment.specs.SegmentPieces.{ArePiecesOf}
 use Rattle.cs_recovery.specs.Expected.{is_affected}
-use Rattle.cs_rebuild.specs.OnStore.{table_on, written_on}
+use Rattle.cs_rebuild.specs.Encoding.{ArePiecesOn}
+use Rattle.cs_rebuild.specs.OnStore.{written_on}
 use Rattle.cs_rebuild.specs.declared.ordered_store.OrderedStore.{OrderedStore}
 use Rattle.cs_rebuild.specs.declared.unwritten.Unwritten.{Unwritten}
 
 abbrev pub name_of : Unwritten → FileName
-name_of (Unwritten.Segment p s columns) = FileName.Seg p s
+name_of (Unwritten.Segment p s cut pieces) = FileName.Seg p s
 name_of (Unwritten.Delta p s) = FileName.Del p s
 name_of (Unwritten.Join p s q) = FileName.Jix p s q
 
@@ -58,7 +55,7 @@ pub record IsAffectedJoin (C : CatalogData) (L : Sites) (p s q : ℕ) : Type 0 w
   pub affected : is_affected C L p s q ≡ true
 
 abbrev pub IsMadeFrom : OrderedStore → Unwritten → Type 0
-IsMadeFrom g (Unwritten.Segment p s columns) = IsLostSegment g.catalog.now g.loss p s × ArePiecesOf g.catalog.now p (length (rows_of g.catalog.now (table_on g) p s)) columns.items (base_of g.catalog.now p (map (project g.catalog.now p) (rows_of g.catalog.now (table_on g) p s)))
+IsMadeFrom g (Unwritten.Segment p s cut pieces) = IsLostSegment g.catalog.now g.loss p s × ArePiecesOn g p s cut pieces.items
 IsMadeFrom g (Unwritten.Delta p s) = IsLostSegment g.catalog.now g.loss p s
 IsMadeFrom g (Unwritten.Join p s q) = IsAffectedJoin g.catalog.now g.loss p s q
 

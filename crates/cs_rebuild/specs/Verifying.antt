@@ -1,5 +1,5 @@
 -- What comparing each surviving file with the table finds.
-use Rattle.std.specs.Prelude.{◌≡◌, ℕ, Bool, not, List, map, Option}
+use Rattle.std.specs.Prelude.{◌≡◌, ◌+◌, ◌<◌, ◌≤◌, ℕ, Bool, true, not, List, map, Option, slice_index_or}
 use Rattle.std.specs.List.{slice_get}
 use Rattle.std.specs.Option.{option_and_then, unwrap_or}
 use lib.Pointwise.{pointwise}
@@ -14,7 +14,8 @@ use Rattle.cs_jix.specs.JoinIndex.{Place, no_place, entry_at}
 use Rattle.cs_rows.specs.Walk.{Contents}
 use Rattle.cs_recovery.specs.Tables.{when}
 use Rattle.cs_recovery.specs.Holding.{agrees}
-use Rattle.cs_recovery.specs.Places.{entries_for}
+use Rattle.cs_schema.specs.Lists.{IsIn}
+use Rattle.cs_recovery.specs.Places.{entries_for, entry_for}
 
 -- the image of a segment is not of the table's rows
 abbrev pub is_misplaced : CatalogData → Contents → List Row → ℕ × ℕ → Bool
@@ -41,3 +42,11 @@ JoinedFaultAt C L S T joins i fault = fault ≡ option_and_then (misled_at C L S
 -- the entry at a key as the file has it, where an entry with no key has no segment
 abbrev pub raw_entry : List Place → ℕ → Place
 raw_entry entries key = unwrap_or (entry_at entries key) no_place
+
+-- no entry of a join index has a segment and no key
+abbrev pub HasNoKeylessPlace : List Place → Type 0
+HasNoKeylessPlace entries = (e : Place) → IsIn e entries → e.1 ≡ 0 → e.0 ≡ 0
+
+-- the entries at the keys above one number, up to another, agree with the expected ones
+abbrev pub AreLed : CatalogData → Sites → Contents → List Row → ℕ → ℕ → ℕ → List Place → ℕ → ℕ → Type 0
+AreLed C L S T p s q entries from to = (m : ℕ) → from ≤ m → m < to → agrees C L q (slice_index_or entries m no_place) (entry_for C L S T p s q (m + 1)) ≡ true

@@ -3,17 +3,16 @@ ghost use Rattle.std.specs.Prelude.{◌≡◌, ◌<◌, ◌≤◌, ◌*◌, ℕ,
 ghost use Rattle.cs_schema.specs.declared.kinds.Code.{Code as CodeData};
 ghost use Rattle.cs_schema.specs.declared.kinds.Kind.{Kind as KindData};
 ghost use Rattle.cs_schema.specs.CatalogData.{projection, code_at, kind_at, HasSegment};
-ghost use Rattle.cs_schema.specs.Order.{rows_of, row_limit};
-ghost use Rattle.cs_schema.specs.Rows.{cell, project};
+ghost use Rattle.cs_schema.specs.Order.{row_limit};
+ghost use Rattle.cs_schema.specs.Rows.{cell};
 ghost use Rattle.cs_schema.specs.Values.{values, kind_of};
 ghost use Rattle.cs_codec.specs.ColumnText.{FitsCode};
 ghost use Rattle.cs_piece.specs.Pieces.{IsPieceOf};
-ghost use Rattle.cs_segment.specs.SegmentFile.{base_of};
-ghost use Rattle.cs_segment.specs.SegmentPieces.{ArePiecesOf};
+ghost use Rattle.cs_order.specs.Orders.{numbers_in};
 ghost use Rattle.cs_store.specs.declared.fault.Fault.{Fault as FaultData};
-ghost use Rattle.cs_rebuild.specs.Encoding.{pieces_of, values_at, cut_at, Rises, EncodeAnswerAt};
+ghost use Rattle.cs_rebuild.specs.Encoding.{pieces_of, values_at, cut_at, Rises, EncodeAnswerAt, ArePiecesOn};
 ghost use Rattle.cs_rebuild.specs.WorkLaws.{one_value};
-ghost use Rattle.cs_rebuild.specs.OnStore.{IsSound, table_on};
+ghost use Rattle.cs_rebuild.specs.OnStore.{IsSound};
 
 use crate::columns::{cells_at, table_column};
 use crate::ordered_store::OrderedStore;
@@ -152,7 +151,33 @@ impl Tasks for EncodeWork<'_> {
     ghost one_fault = { λ work i f g below a b. one_value None f g a b };
 }
 
-/// The columns of a lost segment, as the table has them, encoded in pieces by the run.
+impl<'a> EncodeWork<'a> {
+    /// The encoding of the columns of a segment of a sound store.
+    pub fn of(alloc: Global, store: &'a OrderedStore<'a>, p: u16, s: u16, cut: u32) -> Self
+        requires segment { HasSegment store.now.catalog.now p s }
+        requires sound { IsSound store.now }
+        requires cut { (1 ≤ cut) × (cut ≤ 1048576) }
+        ensures store { result.store.now ≡ store.now }
+        ensures projection { result.p ≡ p }
+        ensures numbers { result.numbers.now ≡ numbers_in store.now.orders p s }
+        ensures cut { result.cut ≡ cut }
+    {
+        let numbers = store.orders.segment(p, s);
+        let per = pieces_in(numbers.len(), cut);
+        EncodeWork {
+            alloc,
+            store,
+            p,
+            numbers,
+            cut,
+            per,
+            pieces: store.catalog.width(p) as u32 * per,
+        }
+    }
+}
+
+/// The columns of a lost segment, as the table has them, encoded in pieces by the run: column by column, each in pieces of
+/// the run's `cut` rows.
 pub fn encode_columns<R: Threads + Sync, G: Gate + Sync>(
     run: &Run<'_, R, G>,
     store: &OrderedStore<'_>,
@@ -161,25 +186,9 @@ pub fn encode_columns<R: Threads + Sync, G: Gate + Sync>(
 ) -> Result<Vec<Piece>, Fault>
     requires segment { HasSegment store.now.catalog.now p s }
     requires sound { IsSound store.now }
-    ensures ok { IfOk result (λ pieces. ArePiecesOf store.now.catalog.now p (length (rows_of store.now.catalog.now (table_on store.now) p s)) pieces.items (base_of store.now.catalog.now p (map (project store.now.catalog.now p) (rows_of store.now.catalog.now (table_on store.now) p s)))) }
+    ensures ok { IfOk result (λ pieces. ArePiecesOn store.now p s run.now.cut pieces.items) }
     ensures err { IfErr result (λ fault. fault ≡ FaultData.Memory) }
 {
-    let numbers = store.orders.segment(p, s);
-    let per = pieces_in(numbers.len(), run.cut);
-    let work = EncodeWork {
-        alloc: run.alloc,
-        store,
-        p,
-        numbers,
-        cut: run.cut,
-        per,
-        pieces: store.catalog.width(p) as u32 * per,
-    };
-    match run.round(Round::Columns, &work) {
-        Ok(pieces) => match work.join_columns(pieces) {
-            Ok(columns) => Ok(columns),
-            Err(_) => Err(Fault::Memory),
-        },
-        Err(fault) => Err(fault),
-    }
+    let work = EncodeWork::of(run.alloc, store, p, s, run.cut);
+    run.round(Round::Columns, &work)
 }

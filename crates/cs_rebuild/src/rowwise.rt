@@ -99,7 +99,7 @@ pub fn walk_rowwise<'a, R: Threads + Sync, G: Gate + Sync>(
         },
         Err(fault) => return Err(fault),
     };
-    match walked.once(catalog) {
+    match walked.once(run.rt, catalog) {
         Ok(()) => Ok(Table::of_walk(run.alloc, walked)),
         Err(_) => Err(Fault::Memory),
     }

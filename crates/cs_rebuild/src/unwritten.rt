@@ -20,12 +20,24 @@ use std::thread::Threads;
 /// A file that is to be written, by what it is made from.
 #[derive(Drop)]
 pub enum Unwritten {
-    /// A lost segment, from its encoded columns.
-    Segment { p: u16, s: u16, columns: Vec<Piece> },
+    /// A lost segment, from its encoded columns, each in pieces of `cut` rows.
+    Segment {
+        p: u16,
+        s: u16,
+        cut: u32,
+        pieces: Vec<Piece>,
+    },
     /// The delta of a lost segment.
-    Delta { p: u16, s: u16 },
+    Delta {
+        p: u16,
+        s: u16,
+    },
     /// A join index that the loss affects.
-    Join { p: u16, s: u16, q: u16 },
+    Join {
+        p: u16,
+        s: u16,
+        q: u16,
+    },
 }
 
 /// Encodes the columns of a segment that is lost, and puts it and its delta at the end of a list.
@@ -45,11 +57,16 @@ fn push_base<R: Threads + Sync, G: Gate + Sync>(
     if !store.catalog.lost(p, s, store.loss) {
         return Ok(());
     }
-    let columns = match encode_columns(run, store, p, s) {
-        Ok(columns) => columns,
+    let pieces = match encode_columns(run, store, p, s) {
+        Ok(pieces) => pieces,
         Err(_) => return Err(AllocError),
     };
-    files.push(Unwritten::Segment { p, s, columns })?;
+    files.push(Unwritten::Segment {
+        p,
+        s,
+        cut: run.cut,
+        pieces,
+    })?;
     files.push(Unwritten::Delta { p, s })?;
     Ok(())
 }

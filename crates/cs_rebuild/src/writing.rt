@@ -5,13 +5,14 @@ ghost use Rattle.cs_schema.specs.CatalogData.{HasSegment};
 ghost use Rattle.cs_schema.specs.Order.{rows_of};
 ghost use Rattle.cs_schema.specs.Rows.{project};
 ghost use Rattle.cs_segment.specs.SegmentFile.{segment_text, base_of};
-ghost use Rattle.cs_segment.specs.SegmentPieces.{ArePiecesOf};
 ghost use Rattle.cs_delta.specs.DeltaFile.{delta_text, no_changes};
 ghost use Rattle.cs_store.specs.FileSet.{contents_of};
 ghost use Rattle.cs_store.specs.declared.fault.Fault.{Fault as FaultData};
+ghost use Rattle.cs_rebuild.specs.Encoding.{ArePiecesOn};
 ghost use Rattle.cs_rebuild.specs.OnStore.{IsSound, table_on, written_on};
 ghost use Rattle.cs_rebuild.specs.Unwritten.{IsToWrite, IsFileOf, name_of};
 
+use crate::encoding::EncodeWork;
 use crate::ordered_store::OrderedStore;
 use crate::run::Run;
 use crate::sound_store::SoundStore;
@@ -21,7 +22,6 @@ use cs_board::Gate;
 use cs_delta::write_empty_delta;
 use cs_piece::Piece;
 use cs_schema::FileName;
-use cs_segment::writing::write_segment_owned;
 use cs_store::{Fault, FileSet};
 use rayon::prelude::*;
 use std::alloc::{AllocError, Global};
@@ -29,19 +29,22 @@ use std::marker::Sync;
 use std::thread::Threads;
 
 /// The file of a lost segment.
-fn segment_bytes(
-    alloc: Global,
+fn segment_bytes<R: Threads + Sync, G: Gate + Sync>(
+    run: &Run<'_, R, G>,
     store: &OrderedStore<'_>,
     p: u16,
     s: u16,
-    columns: Vec<Piece>,
+    cut: u32,
+    pieces: Vec<Piece>,
 ) -> Result<Vec<u8>, AllocError>
     requires segment { HasSegment store.now.catalog.now p s }
-    requires columns { ArePiecesOf store.now.catalog.now p (length (rows_of store.now.catalog.now (table_on store.now) p s)) columns.items (base_of store.now.catalog.now p (map (project store.now.catalog.now p) (rows_of store.now.catalog.now (table_on store.now) p s))) }
+    requires sound { IsSound store.now }
+    requires pieces { ArePiecesOn store.now p s cut pieces.items }
     ensures { IfOk result (λ bytes. bytes.items ≡ segment_text store.now.catalog.now p s (base_of store.now.catalog.now p (map (project store.now.catalog.now p) (rows_of store.now.catalog.now (table_on store.now) p s)))) }
 {
-    let rows = store.orders.segment(p, s).len() as u32;
-    write_segment_owned(alloc, store.catalog, p, s, rows, columns)
+    let _rules = store.catalog.projection_count();
+    let work = EncodeWork::of(run.alloc, store, p, s, cut);
+    work.file(run.rt, s, pieces)
 }
 
 /// The file of a lost segment's delta: it has no changes.
@@ -70,8 +73,8 @@ fn make_file<R: Threads + Sync, G: Gate + Sync>(
     ensures { IfOk result (λ made. IsFileOf store.now file made.0 made.1.items) }
 {
     match file {
-        Unwritten::Segment { p, s, columns } => {
-            let bytes = segment_bytes(run.alloc, store, p, s, columns)?;
+        Unwritten::Segment { p, s, cut, pieces } => {
+            let bytes = segment_bytes(run, store, p, s, cut, pieces)?;
             Ok((FileName::Seg { p, s }, bytes))
         }
         Unwritten::Delta { p, s } => {

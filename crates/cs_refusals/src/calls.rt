@@ -51,7 +51,7 @@ pub fn attempt(
         "squares-refused" => Ok(squares::refused(rt, workers, before)),
         "walk-rows" => walks::walk(rt.alloc(), before),
         "append" => walks::append(rt.alloc(), before),
-        "once" => walks::once(rt.alloc(), before),
+        "once" => walks::once(rt, before),
         _ => Err(anyhow!("no such call")),
     }
 }

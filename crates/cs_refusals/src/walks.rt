@@ -17,6 +17,7 @@ use cs_schema::samples::THREE_PROJECTIONS;
 use cs_schema::{Catalog, FileName, Value};
 use cs_segment::segment::read_segment;
 use std::alloc::Global;
+use std::thread::Threads;
 
 /// The sites that are lost: a segment of each projection survives.
 const LOST: [u8; 3] = [1, 3, 6];
@@ -187,7 +188,8 @@ pub fn walk(alloc: Global, before: u64) -> Result<Report> {
 }
 
 /// Leaves out the later rows of each key.
-pub fn once(alloc: Global, before: u64) -> Result<Report> {
+pub fn once(rt: &(impl AllocGlobal + Threads + Sync), before: u64) -> Result<Report> {
+    let alloc = rt.alloc();
     let catalog = three_projections(alloc)?;
     let rows = Rows::of(alloc, &catalog)?;
     let Ok(mut walked) = rows.walk(alloc, 0, ALL) else {
@@ -197,7 +199,7 @@ pub fn once(alloc: Global, before: u64) -> Result<Report> {
     if granted < before {
         return Ok(Report::Before(granted));
     }
-    let (answer, left): (Answer, &[[i64; 2]]) = match walked.once(rows.catalog()) {
+    let (answer, left): (Answer, &[[i64; 2]]) = match walked.once(rt, rows.catalog()) {
         Ok(()) => (Answer::Complete, &ONCE),
         Err(_) => (Answer::Memory, &WALKED),
     };

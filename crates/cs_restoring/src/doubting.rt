@@ -7,7 +7,9 @@ ghost use Rattle.cs_restoring.specs.Doubts.{IsDoubtful, IsEachBad, IsUndoubted};
 
 use cs_design::within::is_within;
 use cs_diagnosis::explained::{is_explained, is_found};
-use cs_file_diagnosis::{Diagnosis, TableDisputes, Verdict, bad_sites, diagnose, disputed_rows};
+use cs_file_diagnosis::{
+    Diagnosis, TableDisputes, Verdict, bad_sites, diagnose, disputed_rows, others,
+};
 use cs_inspection::bad_survivors;
 use cs_places::Stop;
 use cs_progress::{Progress, Stage};
@@ -27,17 +29,6 @@ const DISPUTES: usize = 10;
 pub struct Doubt {
     pub diagnosis: Diagnosis,
     pub disputes: Vec<TableDisputes>,
-}
-
-/// All sites but those of a loss.
-fn others(loss: Loss) -> Loss {
-    let mut others = Loss::none();
-    for site in 1..17u8 {
-        if !loss.has(site) {
-            others = others.with(site);
-        }
-    }
-    others
 }
 
 /// Whether a bad file stands on each site of a loss. No file of another site is looked at.

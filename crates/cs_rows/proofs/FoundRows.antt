@@ -1,89 +1,135 @@
 -- Rows that walks by rows find, in columns.
 use Rattle.std.proofs.Common.{◌≡◌, ℕ, ◌+◌, ◌<◌, ◌≤◌, List, [], ◌∷◌, ◌++◌, length, map, get_or, set, take, refl, sym, ap, ◌∙◌, subst, arith, Bool, true, false, cond, ◌==◌, Option, Some, None, Ok, Err, append_assoc, ⊎_elim, get_or-set_same, get_or-set_other, eqb-true, ◌≢◌}
 use Rattle.std.specs.Prelude.{All, pos, slice_index, slice_index_or}
-use Rattle.std.specs.List.{find, filter_map, cons_option, position_or_len}
-use Rattle.std.specs.Option.{option_or, option_and_then, option_map_or}
+use Rattle.std.specs.List.{find, filter_map, cons_option, list_all, position_or_len}
+use Rattle.std.specs.Option.{is_some, option_or, option_and_then, option_map_or}
 use Rattle.std.proofs.lemmas.Bool.{cases_lt}
-use Rattle.std.proofs.lemmas.List.{length-map, get_or-map, get_or_read, append-nil}
+use Rattle.std.proofs.lemmas.List.{length-map, get_or-map, get_or_read, append-nil, take-map}
 use Rattle.std.proofs.lemmas.List.Folds.{find-append}
 use Rattle.std.proofs.lemmas.List.Elements.{All-nil, All-cons, filter_map-append}
-use Rattle.std.proofs.lemmas.Option.{get_or_from_slice_get, slice_get_within}
+use Rattle.std.proofs.lemmas.Option.{get_or_from_slice_get, slice_get_within, none-some}
 use Rattle.std.proofs.lemmas.List.FromFn.{fill_by_all, get_or-map-range_with_len, length-map-range_with_len}
 use Rattle.cs_schema.specs.declared.cells.Cells.{Cells}
 use Rattle.cs_schema.specs.declared.cells.Value.{Value}
 use Rattle.cs_schema.specs.declared.kinds.Kind.{Kind}
 use Rattle.cs_schema.specs.Values.{values, kind_of}
 use Rattle.cs_schema.specs.CatalogData.{CatalogData, ColumnData, column, projection, no_column, kind_at}
+use Rattle.cs_schema.specs.Lists.{numbers_below}
 use Rattle.cs_schema.specs.Losses.{Sites}
 use Rattle.cs_schema.specs.Rows.{Row, cell}
 use Rattle.cs_schema.proofs.Lists.{at_in}
 use Rattle.cs_delta.specs.KindedImage.{KindedImage}
 use Rattle.cs_segment.specs.SegmentData.{kinds_at}
 use Rattle.cs_safety.specs.Paths.{holds_column}
-use Rattle.cs_rows.specs.declared.by_rows.Source.{Source}
+use Rattle.cs_rows.specs.declared.sources.Source.{Source}
 use Rattle.cs_rows.specs.declared.range.WalkFault.{WalkFault}
 use Rattle.cs_rows.specs.Walk.{Contents, image_cell}
-use Rattle.cs_rows.specs.WalkByRows.{Reached, Found, found_from, source_in, is_full, found_row, full_row}
+use Rattle.cs_rows.specs.WalkByRows.{Reached, Found, numbers_of, found_from, source_in, is_full, found_row, full_row}
 use Rattle.cs_rows.specs.RangeByRows.{is_stray_row, row_from, found_among}
 use Rattle.cs_rows.specs.Range.{IsWalkFault}
 use Rattle.cs_rows.specs.Columns.{ColumnsFit}
 use Rattle.cs_rows.specs.Survivors.{SurvivorsData, contents_of, image_at, image_row, held}
-use Rattle.cs_rows.specs.RowSteps.{Stands, AllStand, IsSource, RowPushed, AreRows, IsStrayFault}
+use Rattle.cs_rows.specs.RowSteps.{Stands, IsSource, have_all, through, RowPushed, AreRows, IsStrayFault}
 use Rattle.cs_rows.specs.WalkedView.{row_of, rows_of, count_of, AreColumns}
-use Rattle.cs_rows.proofs.FirstLemmas.{first_at, none_before, first_holds, found_in, missing_in}
+use Rattle.cs_rows.proofs.FirstLemmas.{first_at, none_before, found_in, missing_in}
 use Rattle.cs_rows.proofs.RowLemmas.{position_first}
 use Rattle.cs_rows.proofs.RangeLemmas.{map_append}
 use Rattle.cs_rows.proofs.EndLemmas.{get_or_map_in}
 
 -- ---- where a column is read
 
-module _ (C : CatalogData) (F : Found) (c : ℕ) where
-  abbrev pub holds : Reached → Bool
-  holds r = holds_column C r.0 c
+module _ (C : CatalogData) (c : ℕ) where
+  abbrev pub holds : ℕ → Bool
+  holds p = holds_column C p c
 
-  module _ (rows : List Reached) (same : rows ≡ F.reached) (k : ℕ) (d : Reached) (within : k < length rows) (before : find holds (take k rows) ≡ None) (columns : List ℕ) (are : columns ≡ (projection C (get_or rows k d).0).columns) (place : ℕ) (is : place ≡ position_or_len (λ e. e == c) columns) where
-    pub source_found : place < length columns → IsSource C F c (record { row = get_or rows k d; place = place })
-    source_found h =
-        let below : position_or_len (λ e. e == c) columns < length columns = subst (λ (n : ℕ). n < length columns) is h in
-        let has : holds (get_or rows k d) ≡ true = found_in c (projection C (get_or rows k d).0).columns (subst (λ (l : List ℕ). position_or_len (λ e. e == c) l < length l) are below) in
-        record { first = ap (find holds) (sym same) ∙ first_at holds rows k d within before has; place = is ∙ ap (position_or_len (λ e. e == c)) are; there = subst (λ (l : List ℕ). place < length l) are h }
+  module _ (ps : List ℕ) (k : ℕ) (within : k < length ps) (before : find holds (take k ps) ≡ None) (columns : List ℕ) (are : columns ≡ (projection C (slice_index ps k)).columns) (place : ℕ) (is : place ≡ position_or_len (λ e. e == c) columns) where
+    pub source_found : place < length columns → IsSource C ps c (record { reached = k; place = place })
+    source_found h = record { within = within; before = before; place = is ∙ ap (position_or_len (λ e. e == c)) are; there = subst (λ (l : List ℕ). place < length l) are h }
 
-    pub source_past : length columns ≤ place → find holds (take (k + 1) rows) ≡ None
-    source_past h = none_before holds rows k d within before (missing_in c (projection C (get_or rows k d).0).columns (subst (λ (l : List ℕ). length l ≤ position_or_len (λ e. e == c) l) are (subst (λ (n : ℕ). length columns ≤ n) is h)))
+    pub source_past : length columns ≤ place → find holds (take (k + 1) ps) ≡ None
+    source_past h = none_before holds ps k 0 within before (missing_in c (projection C (slice_index ps k)).columns (subst (λ (l : List ℕ). length l ≤ position_or_len (λ e. e == c) l) are (subst (λ (n : ℕ). length columns ≤ n) is h)))
+
+-- rows are sought by their numbers
+find_number : (p : ℕ → Bool) (rs : List Reached) → find p (numbers_of rs) ≡ None → find (λ (r : Reached). p r.0) rs ≡ None
+find_number p [] e = refl
+find_number p (r ∷ rs) e = go (p r.0) e (find_number p rs)
+  where
+    go : (b : Bool) → cond b (Some r.0) (find p (numbers_of rs)) ≡ None → (find p (numbers_of rs) ≡ None → find (λ (x : Reached). p x.0) rs ≡ None) → cond b (Some r) (find (λ (x : Reached). p x.0) rs) ≡ None
+    go true f g = absurd (none-some r.0 (sym f))
+    go false f g = g f
+
+some_number : (p : ℕ → Bool) (rs : List Reached) → is_some (find p (numbers_of rs)) ≡ is_some (find (λ (r : Reached). p r.0) rs)
+some_number p [] = refl
+some_number p (r ∷ rs) = go (p r.0) (some_number p rs)
+  where
+    go : (b : Bool) → is_some (find p (numbers_of rs)) ≡ is_some (find (λ (x : Reached). p x.0) rs) → is_some (cond b (Some r.0) (find p (numbers_of rs))) ≡ is_some (cond b (Some r) (find (λ (x : Reached). p x.0) rs))
+    go true e = refl
+    go false e = e
+
+-- what is found is full where the projections reached have all columns
+pub full_by_numbers : (C : CatalogData) (F : Found) → have_all C (numbers_of F.reached) ≡ is_full C F
+full_by_numbers C F = λ i. list_all (λ c. some_number (λ p. holds_column C p c) F.reached i) (numbers_below (length C.columns))
+
+-- the row at which a column is read
+abbrev pub read_at : List Reached → Source → Reached
+read_at rs s = get_or rs s.reached (0, (0, 0))
 
 -- what is read there
-pub record SourceThere (C : CatalogData) (S : SurvivorsData) (F : Found) (c : ℕ) (s : Source) (m : KindedImage) : Type 0 where
-  pub in_image : s.row.1.1 < length m.image.pairs
+pub record SourceThere (C : CatalogData) (S : SurvivorsData) (rs : List Reached) (c : ℕ) (s : Source) (m : KindedImage) : Type 0 where
+  pub in_image : (read_at rs s).1.1 < length m.image.pairs
   pub in_row : s.place < length m.kinds
   pub kind : slice_index_or m.kinds s.place Kind.Int ≡ (column C c).kind
-  pub value : cell (image_row m.image s.row.1.1) s.place ≡ cell (found_row C (contents_of S) F) c
+  pub value : cell (image_row m.image (read_at rs s).1.1) s.place ≡ cell (found_row C (contents_of S) (through rs)) c
 
 abbrev found_cell : CatalogData → Contents → ℕ → Reached → Value
 found_cell C S c r = image_cell C S r.0 c r.1
 
-module _ (C : CatalogData) (S : SurvivorsData) (F : Found) (stand : AllStand C (contents_of S) F) (c : ℕ) (there : c < length C.columns) (s : Source) (source : IsSource C F c s) where
-  pub source_stands : Stands C (contents_of S) s.row
-  source_stands = first_holds (holds C F c) (Stands C (contents_of S)) F.reached s.row stand.reached source.first
+module _ (C : CatalogData) (S : SurvivorsData) (rs : List Reached) (stand : All (Stands C (contents_of S)) rs) (c : ℕ) (there : c < length C.columns) (s : Source) (source : IsSource C (numbers_of rs) c s) where
+  number_is : slice_index (numbers_of rs) s.reached ≡ (read_at rs s).0
+  number_is = get_or-map (λ (r : Reached). r.0) rs s.reached (0, (0, 0)) 0 (omega (arith, source.within, length-map rs (λ (r : Reached). r.0)))
 
-  column_is : slice_index (projection C s.row.0).columns s.place ≡ c
+  pub source_inside : s.reached < length rs
+  source_inside = omega (arith, source.within, length-map rs (λ (r : Reached). r.0))
+
+  pub source_stands : Stands C (contents_of S) (read_at rs s)
+  source_stands = stand s.reached (0, (0, 0)) source_inside
+
+  abbrev columns_there : List ℕ
+  columns_there = (projection C (read_at rs s).0).columns
+
+  place_is : s.place ≡ position_or_len (λ e. e == c) columns_there
+  place_is = source.place ∙ ap (λ (p : ℕ). position_or_len (λ e. e == c) (projection C p).columns) number_is
+
+  place_inside : s.place < length columns_there
+  place_inside = subst (λ (p : ℕ). s.place < length (projection C p).columns) number_is source.there
+
+  place_first : position_or_len (λ e. e == c) columns_there < length columns_there
+  place_first = subst (λ (n : ℕ). n < length columns_there) place_is place_inside
+
+  first_is : source_in C (through rs) c ≡ Some (read_at rs s)
+  first_is =
+      first_at (λ (r : Reached). holds_column C r.0 c) rs s.reached (0, (0, 0)) source_inside
+      (find_number (λ p. holds_column C p c) (take s.reached rs) (ap (find (λ p. holds_column C p c)) (sym (take-map (λ (r : Reached). r.0) s.reached rs)) ∙ source.before))
+      (found_in c columns_there place_first)
+
+  column_is : slice_index columns_there s.place ≡ c
   column_is =
-      let below : position_or_len (λ e. e == c) (projection C s.row.0).columns < length (projection C s.row.0).columns = subst (λ (n : ℕ). n < length (projection C s.row.0).columns) source.place source.there in
-      let first = position_first (λ e. e == c) (projection C s.row.0).columns 0 (found_in c (projection C s.row.0).columns below) in
-      ap (slice_index (projection C s.row.0).columns) source.place ∙ eqb-true _ c first.1
+      let first = position_first (λ e. e == c) columns_there 0 (found_in c columns_there place_first) in
+      ap (slice_index columns_there) place_is ∙ eqb-true _ c first.1
 
-  pub source_there : (m : KindedImage) → image_at S s.row.0 s.row.1.0 ≡ Some m → m.kinds ≡ kinds_at C s.row.0 → SourceThere C S F c s m
+  pub source_there : (m : KindedImage) → image_at S (read_at rs s).0 (read_at rs s).1.0 ≡ Some m → m.kinds ≡ kinds_at C (read_at rs s).0 → SourceThere C S rs c s m
   source_there m e kinds =
-      let q : ℕ = s.row.0 in
+      let q : ℕ = (read_at rs s).0 in
       let st = source_stands in
       let wide : length m.kinds ≡ length (projection C q).columns = ap length kinds ∙ length-map-range_with_len (kind_at C q) 0 (length (projection C q).columns) in
       let read : Option Reached → Value = λ o. option_map_or (found_cell C (contents_of S) c) o (Value.Int (pos 0)) in
       record {
-        in_image = subst (λ (o : Option KindedImage). s.row.1.1 < length (held o).pairs) e st.1.1;
-        in_row = omega (arith, wide, source.there);
-        kind = ap (λ (ks : List Kind). slice_index_or ks s.place Kind.Int) kinds ∙ get_or-map-range_with_len (kind_at C q) 0 (length (projection C q).columns) s.place s.place Kind.Int source.there (omega arith) ∙ ap (λ (x : ℕ). (column C x).kind) column_is;
-        value = sym (get_or-map-range_with_len (λ (x : ℕ). option_map_or (found_cell C (contents_of S) x) (source_in C F x) (Value.Int (pos 0))) 0 (length C.columns) c c (Value.Int (pos 0)) there (omega arith)
-            ∙ ap read source.first
-            ∙ (λ i. cell (image_row (held (e i)) s.row.1.1) (sym source.place i)));
+        in_image = subst (λ (o : Option KindedImage). (read_at rs s).1.1 < length (held o).pairs) e st.1.1;
+        in_row = omega (arith, wide, place_inside);
+        kind = ap (λ (ks : List Kind). slice_index_or ks s.place Kind.Int) kinds ∙ get_or-map-range_with_len (kind_at C q) 0 (length (projection C q).columns) s.place s.place Kind.Int place_inside (omega arith) ∙ ap (λ (x : ℕ). (column C x).kind) column_is;
+        value = sym (get_or-map-range_with_len (λ (x : ℕ). option_map_or (found_cell C (contents_of S) x) (source_in C (through rs) x) (Value.Int (pos 0))) 0 (length C.columns) c c (Value.Int (pos 0)) there (omega arith)
+            ∙ ap read first_is
+            ∙ (λ i. cell (image_row (held (e i)) (read_at rs s).1.1) (sym place_is i)));
       }
 
 -- ---- cells at the ends of columns

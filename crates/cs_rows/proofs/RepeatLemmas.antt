@@ -31,13 +31,13 @@ is_Equal Less h = absurd (true≢false (sym h))
 is_Equal Equal h = refl
 is_Equal Greater h = absurd (true≢false (sym h))
 
-same_from_eq : (v w : Value) → value_eq v w ≡ true → v ≡ w
+pub same_from_eq : (v w : Value) → value_eq v w ≡ true → v ≡ w
 same_from_eq v w h = value_cmp-IsAntisymmetric v w (is_Equal (value_cmp v w) h)
 
 tie : (v w : Value) → v ≡ w → value_cmp v w ≡ Equal
 tie v w e = subst (λ (x : Value). value_cmp v x ≡ Equal) e (tied_itself value_cmp_total v)
 
-eq_from_same : (v w : Value) → v ≡ w → value_eq v w ≡ true
+pub eq_from_same : (v w : Value) → v ≡ w → value_eq v w ≡ true
 eq_from_same v w e = ap is_eq (tie v w e)
 
 not_less : (r s : Ordering) → is_lt (ordering_then r s) ≡ false → is_lt r ≡ false

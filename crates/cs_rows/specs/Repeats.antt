@@ -1,7 +1,8 @@
 -- Rows whose key stands in an earlier row, by their numbers.
-use Rattle.std.specs.Prelude.{ℕ, ◌≡◌, ◌<◌, Bool, false, if◌then◌else◌, List, [], ◌∷◌, length, take, slice_index_or}
-use Rattle.std.specs.List.{list_any}
-use Rattle.std.specs.Ordering.{ordering_then, nat_cmp}
+use Rattle.std.specs.Prelude.{ℕ, ℤ, pos, ◌+ℤ◌, ◌≤ℤ◌, ◌<ℤ◌, ◌≡◌, ◌<◌, Bool, false, if◌then◌else◌, All, List, [], ◌∷◌, length, map, take, slice_index_or}
+use Rattle.std.specs.List.{list_any, range_with_len}
+use Rattle.std.specs.List.Sorted.{IsPermutation, IsSorted}
+use Rattle.std.specs.Ordering.{ordering_then, int_cmp, nat_cmp}
 use Rattle.std.specs.declared.cmp.Ordering.{Ordering}
 use Rattle.cs_schema.specs.declared.cells.Value.{Value}
 use Rattle.cs_schema.specs.Values.{value_cmp, value_eq}
@@ -19,6 +20,24 @@ is_repeat keys j = list_any (λ v. value_eq v (cell keys j)) (take j keys)
 pub record AreRepeats (keys : List Value) (marks : List Bool) : Type 0 where
   pub count : length marks ≡ length keys
   pub each : (j : ℕ) → j < length keys → slice_index_or marks j false ≡ is_repeat keys j
+
+-- a row's int and its number
+abbrev pub IsPairOf : List ℤ → ℤ × ℕ → Type 0
+IsPairOf ints pair = (pair.1 < length ints) × (pair.0 ≡ slice_index_or ints pair.1 (pos 0))
+
+-- the int is one of so many from the least on
+abbrev pub IsNear : ℤ → ℕ → ℤ → Type 0
+IsNear least count x = (least ≤ℤ x) × (x <ℤ (least +ℤ pos count))
+
+-- pairs by their ints, and those of one int by their rows
+abbrev pub pair_cmp : ℤ × ℕ → ℤ × ℕ → Ordering
+pair_cmp x y = ordering_then (int_cmp x.0 y.0) (nat_cmp x.1 y.1)
+
+-- the int and the number of each row, in ascending order
+pub record AreSortedPairs (ints : List ℤ) (pairs : List (ℤ × ℕ)) : Type 0 where
+  pub each : All (IsPairOf ints) pairs
+  pub rows : IsPermutation (range_with_len 0 (length ints)) (map (λ (pair : ℤ × ℕ). pair.1) pairs)
+  pub sorted : IsSorted pair_cmp pairs
 
 -- the elements that are not marked
 abbrev pub unmarked : {X : Type 0} → List Bool → List X → List X

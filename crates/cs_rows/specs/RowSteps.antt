@@ -1,17 +1,20 @@
 -- What the steps of a walk by rows need to know.
-use Rattle.std.specs.Prelude.{ℕ, ◌≡◌, ◌<◌, ◌==◌, ◌++◌, List, [], ◌∷◌, All, map, length, slice_index_or, Some, if◌then◌else◌}
-use Rattle.std.specs.List.{find, flat_map, position_or_len, range_with_len}
+use Rattle.std.specs.Prelude.{ℕ, Bool, true, ◌≡◌, ◌<◌, ◌==◌, ◌++◌, List, [], ◌∷◌, All, map, take, length, slice_index, slice_index_or, Some, None, if◌then◌else◌}
+use Rattle.std.specs.List.{find, flat_map, list_all, position_or_len, range_with_len}
+use Rattle.std.specs.Option.{is_some}
 use Rattle.cs_schema.specs.declared.cells.Cells.{Cells}
 use Rattle.cs_schema.specs.Values.{values, kind_of}
 use Rattle.cs_schema.specs.CatalogData.{CatalogData, projection, segments}
 use Rattle.cs_schema.specs.Lists.{numbers_below}
 use Rattle.cs_schema.specs.Losses.{Sites, lost}
 use Rattle.cs_schema.specs.Rows.{Row, cell}
+use Rattle.cs_safety.specs.Paths.{holds_column}
 use Rattle.cs_rows.specs.declared.levels.Landed.{Landed}
-use Rattle.cs_rows.specs.declared.by_rows.Source.{Source}
+use Rattle.cs_rows.specs.declared.sources.Source.{Source}
+use Rattle.cs_rows.specs.declared.sources.Reading.{Reading}
 use Rattle.cs_rows.specs.declared.range.WalkFault.{WalkFault}
 use Rattle.cs_rows.specs.Walk.{Contents}
-use Rattle.cs_rows.specs.WalkByRows.{Reached, Found, Landing, source_in}
+use Rattle.cs_rows.specs.WalkByRows.{Reached, Found, Landing, numbers_of}
 use Rattle.cs_rows.specs.RangeByRows.{is_stray_row}
 use Rattle.cs_rows.specs.Steps.{IsAt}
 
@@ -53,24 +56,35 @@ pub record AllStand (C : CatalogData) (S : Contents) (F : Found) : Type 0 where
 
 -- ---- rows
 
--- where a column of a found row is read: the first reached projection with it, and its number there
-pub record IsSource (C : CatalogData) (F : Found) (c : ℕ) (source : Source) : Type 0 where
-  pub first : source_in C F c ≡ Some source.row
-  pub place : source.place ≡ position_or_len (λ d. d == c) (projection C source.row.0).columns
-  pub there : source.place < length (projection C source.row.0).columns
+-- where a column is read of rows that were reached in some projections: at the first with it, and its number there
+pub record IsSource (C : CatalogData) (ps : List ℕ) (c : ℕ) (source : Source) : Type 0 where
+  pub within : source.reached < length ps
+  pub before : find (λ p. holds_column C p c) (take source.reached ps) ≡ None
+  pub place : source.place ≡ position_or_len (λ d. d == c) (projection C (slice_index ps source.reached)).columns
+  pub there : source.place < length (projection C (slice_index ps source.reached)).columns
 
-abbrev pub AreSources : CatalogData → Found → List Source → ℕ → Type 0
-AreSources C F sources n = (c : ℕ) (d : Source) → c < n → IsSource C F c (slice_index_or sources c d)
+abbrev pub AreSources : CatalogData → List ℕ → List Source → ℕ → Type 0
+AreSources C ps sources n = (c : ℕ) (d : Source) → c < n → IsSource C ps c (slice_index_or sources c d)
+
+-- each column is one of some projection
+abbrev pub have_all : CatalogData → List ℕ → Bool
+have_all C ps = list_all (λ c. is_some (find (λ p. holds_column C p c) ps)) (numbers_below (length C.columns))
+
+-- whether projections have all columns, and where each is read then
+pub record IsReading (C : CatalogData) (reading : Reading) : Type 0 where
+  pub count : length reading.sources.items ≡ length C.columns
+  pub full : reading.full ≡ have_all C reading.projections.items
+  pub each : reading.full ≡ true → AreSources C reading.projections.items reading.sources.items (length C.columns)
 
 -- where each column of a full row is read, which was found through rows that stand in images
-pub record AreSourcesOf (C : CatalogData) (S : Contents) (F : Found) (sources : List Source) : Type 0 where
+pub record AreSourcesOf (C : CatalogData) (S : Contents) (rs : List Reached) (sources : List Source) : Type 0 where
   pub count : length sources ≡ length C.columns
-  pub stand : AllStand C S F
-  pub each : AreSources C F sources (length C.columns)
+  pub stand : All (Stands C S) rs
+  pub each : AreSources C (numbers_of rs) sources (length C.columns)
 
--- where the columns of some full row are read
-abbrev pub AreSomeSources : CatalogData → Contents → List Source → Type 0
-AreSomeSources C S sources = (F : Found) × AreSourcesOf C S F sources
+-- what is found through the rows that were reached
+abbrev pub through : List Reached → Found
+through rs = record { reached = rs; last = []; marked = [] }
 
 -- the cells of a row stand at the end of each of the first n columns
 abbrev pub RowPushed : Row → List Cells → List Cells → ℕ → Type 0

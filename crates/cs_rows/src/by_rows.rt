@@ -1,5 +1,5 @@
 //! The walk by rows of a range of surviving rows.
-ghost use Rattle.std.specs.Prelude.{◌≡◌, ◌<◌, ◌≤◌, ◌-◌, ◌++◌, ◌∷◌, [], ℕ, List, length, map, true, All, IfOk, IfErr, OnOk, MatchOption, drop, take, None, Ok};
+ghost use Rattle.std.specs.Prelude.{◌≡◌, ◌<◌, ◌≤◌, ◌-◌, ◌++◌, ◌∷◌, [], List, length, map, true, false, IfOk, IfErr, OnOk, drop, take, None, Ok};
 ghost use Rattle.std.specs.List.{find, filter_map};
 ghost use Rattle.cs_schema.specs.CatalogData.{segments};
 ghost use Rattle.cs_schema.specs.CatalogRules.{IsCatalog};
@@ -7,106 +7,86 @@ ghost use Rattle.cs_schema.specs.Rows.{Row};
 ghost use Rattle.cs_rows.specs.Survivors.{contents_of};
 ghost use Rattle.cs_rows.specs.Columns.{ColumnsFit};
 ghost use Rattle.cs_rows.specs.Range.{IsWalkFault};
-ghost use Rattle.cs_rows.specs.WalkByRows.{Found, source_in, is_full, found_row};
+ghost use Rattle.cs_rows.specs.WalkByRows.{is_full, found_row};
 ghost use Rattle.cs_rows.specs.RangeByRows.{is_stray_row, row_from, surviving_between, found_among};
-ghost use Rattle.cs_rows.specs.RowSteps.{Stands, IsSource, AreSources, AreSourcesOf, AreSomeSources, RowPushed, AreRows, reached_from, projection_kept, IsStrayFault};
+ghost use Rattle.cs_rows.specs.RowSteps.{Stands, AllStand, IsReading, AreSourcesOf, through, RowPushed, AreRows, reached_from, projection_kept, IsStrayFault};
 
 use crate::catalog_of;
-use crate::catalog_of::columns_of;
 use crate::counts::{kept_in_projection, kept_in_segment};
 use crate::levels::{Finding, Landed, RowWalk, walk_from};
 use crate::numbers::{column_count, projection_count};
-use crate::range::{WalkFault, new_columns, place_in, push_cell};
+use crate::range::{WalkFault, new_columns, push_cell};
+use crate::sources::{Reading, Source};
 use crate::survivors::Survivors;
 use crate::walked::Walked;
 use cs_schema::{Catalog, Cells, Loss};
 use std::alloc::{AllocError, Global};
-
-/// Where a column of a found row is read: a reached row by its projection, and the column's number there.
-#[derive(Clone, Copy)]
-pub(crate) struct Source {
-    row: (u16, (u16, u32)),
-    place: usize,
-}
 
 /// Room for the walk from one row, made once for all rows.
 #[derive(Drop)]
 struct Desk {
     finding: Finding,
     landings: Vec<(u16, Landed)>,
-    sources: Vec<Source>,
+    reading: Reading,
 }
 
 /// Room for the walk from a row of a catalog.
 fn new_desk(alloc: Global, catalog: &Catalog) -> Result<Desk, AllocError>
-    ensures sources { IfOk result (λ desk. length desk.sources.items ≡ length catalog.now.columns) }
+    ensures reading { IfOk result (λ desk. IsReading catalog.now desk.reading) }
     ensures rules { IsCatalog catalog.now }
 {
     let projections = projection_count(catalog);
     let columns = column_count(catalog);
-    let mut sources = Vec::with_capacity(alloc, columns)?;
-    for _column in 0..columns {
-        sources.push(Source {
-            row: (0, (0, 0)),
-            place: 0,
-        })?;
-    }
     Ok(Desk {
         finding: Finding::new(alloc, projections)?,
         landings: Vec::with_capacity(alloc, projections)?,
-        sources,
+        reading: Reading::new(alloc, projections, columns)?,
     })
 }
 
-/// Where a column of a found row is read, if a projection with it is reached.
-fn first_source(survivors: &Survivors<'_>, finding: &Finding, c: usize) -> Option<Source>
-    requires { All (λ row. row.0 < length survivors.now.catalog.projections) finding.now.reached }
-    ensures { MatchOption result (source_in survivors.now.catalog finding.now c ≡ None) (IsSource survivors.now.catalog finding.now c) }
-{
-    for row in finding.reached() {
-        let columns = columns_of(survivors, row.0 as usize);
-        let place = place_in(columns, c);
-        if place < columns.len() {
-            return Some(Source { row: *row, place });
-        }
-    }
-    None
-}
-
-/// Finds where each column of a found row is read. Tells whether the row is full.
-fn find_sources(survivors: &Survivors<'_>, finding: &Finding, sources: &mut [Source]) -> bool
-    requires there { All (λ row. row.0 < length survivors.now.catalog.projections) finding.now.reached }
-    requires room { length sources.old ≡ length survivors.now.catalog.columns }
-    ensures full { result ≡ is_full survivors.now.catalog finding.now }
-    ensures sources { result ≡ true → AreSources survivors.now.catalog finding.now sources.new (length survivors.now.catalog.columns) }
-{
-    for c in 0..sources.len() {
-        match first_source(survivors, finding, c) {
-            Some(source) => sources[c] = source,
-            None => return false,
-        }
-    }
-    true
-}
-
-/// Puts the cells of a full row at the ends of the columns.
+/// Puts the cells of a full row at the ends of the columns, from the rows that were reached.
 fn push_row(
     survivors: &Survivors<'_>,
+    reached: &[(u16, (u16, u32))],
     sources: &[Source],
     columns: &mut Vec<Cells>,
 ) -> Result<(), AllocError>
-    requires sources { AreSomeSources survivors.now.catalog (contents_of survivors.now) sources.now }
+    requires sources { AreSourcesOf survivors.now.catalog (contents_of survivors.now) reached.now sources.now }
     requires columns { ColumnsFit survivors.now.catalog columns.old.items }
     ensures count { length columns.new.items ≡ length columns.old.items }
-    ensures ok { OnOk result ((finding : Found) → AreSourcesOf survivors.now.catalog (contents_of survivors.now) finding sources.now → RowPushed (found_row survivors.now.catalog (contents_of survivors.now) finding) columns.old.items columns.new.items (length survivors.now.catalog.columns)) }
+    ensures ok { OnOk result (RowPushed (found_row survivors.now.catalog (contents_of survivors.now) (through reached.now)) columns.old.items columns.new.items (length survivors.now.catalog.columns)) }
 {
     for c in 0..columns.len() {
         let source = sources[c];
-        let at = source.row.1;
-        match survivors.image(source.row.0 as usize, at.0 as usize) {
+        let row = reached[source.reached];
+        let at = row.1;
+        match survivors.image(row.0 as usize, at.0 as usize) {
             Some(image) => push_cell(&mut columns[c], image, at.1, source.place)?,
             None => unreachable!(),
         }
+    }
+    Ok(())
+}
+
+/// Adds what a walk has found, if that is full.
+fn push_found(
+    survivors: &Survivors<'_>,
+    finding: &Finding,
+    reading: &mut Reading,
+    columns: &mut Vec<Cells>,
+) -> Result<(), AllocError>
+    requires stand { AllStand survivors.now.catalog (contents_of survivors.now) finding.now }
+    requires reading { IsReading survivors.now.catalog reading.old }
+    requires columns { ColumnsFit survivors.now.catalog columns.old.items }
+    ensures reading { OnOk result (IsReading survivors.now.catalog reading.new) }
+    ensures count { length columns.new.items ≡ length columns.old.items }
+    ensures full { OnOk result (is_full survivors.now.catalog finding.now ≡ true → RowPushed (found_row survivors.now.catalog (contents_of survivors.now) finding.now) columns.old.items columns.new.items (length survivors.now.catalog.columns)) }
+    ensures not_full { OnOk result (is_full survivors.now.catalog finding.now ≡ false → columns.new.items ≡ columns.old.items) }
+{
+    let reached = finding.reached();
+    reading.update(survivors, reached)?;
+    if reading.full {
+        push_row(survivors, reached, reading.sources.as_slice(), columns)?;
     }
     Ok(())
 }
@@ -120,9 +100,9 @@ impl RowWalk<'_> {
         columns: &mut Vec<Cells>,
     ) -> Result<(), WalkFault>
         requires row { Stands self.now.survivors.now.catalog (contents_of self.now.survivors.now) row }
-        requires desk { length desk.old.sources.items ≡ length self.now.survivors.now.catalog.columns }
+        requires desk { IsReading self.now.survivors.now.catalog desk.old.reading }
         requires columns { ColumnsFit self.now.survivors.now.catalog columns.old.items }
-        ensures desk { length desk.new.sources.items ≡ length self.now.survivors.now.catalog.columns }
+        ensures desk { OnOk result (IsReading self.now.survivors.now.catalog desk.new.reading) }
         ensures fit { OnOk result (ColumnsFit self.now.survivors.now.catalog columns.new.items) }
         ensures sound { OnOk result (find (is_stray_row self.now.survivors.now.catalog self.now.loss (contents_of self.now.survivors.now)) (row ∷ []) ≡ None) }
         ensures cells { OnOk result ((rows : List Row) → AreRows self.now.survivors.now.catalog rows columns.old.items → AreRows self.now.survivors.now.catalog (rows ++ filter_map (row_from self.now.survivors.now.catalog self.now.loss (contents_of self.now.survivors.now)) (row ∷ [])) columns.new.items) }
@@ -135,9 +115,7 @@ impl RowWalk<'_> {
                 row: row.1.1,
             });
         }
-        if find_sources(self.survivors, &desk.finding, desk.sources.as_mut_slice()) {
-            push_row(self.survivors, desk.sources.as_slice(), columns)?;
-        }
+        push_found(self.survivors, &desk.finding, &mut desk.reading, columns)?;
         Ok(())
     }
 
@@ -149,13 +127,13 @@ impl RowWalk<'_> {
         desk: &mut Desk,
         columns: &mut Vec<Cells>,
     ) -> Result<(), WalkFault>
-        requires desk { length desk.old.sources.items ≡ length self.now.survivors.now.catalog.columns }
+        requires desk { IsReading self.now.survivors.now.catalog desk.old.reading }
         requires columns { ColumnsFit self.now.survivors.now.catalog columns.old.items }
         requires projection { segment.0 < length self.now.survivors.now.catalog.projections }
         requires segment { segment.1 < segments self.now.survivors.now.catalog segment.0 }
         requires order { rows.0 ≤ rows.1 }
         requires within { rows.1 ≤ length ((contents_of self.now.survivors.now).image segment.0 segment.1).pairs }
-        ensures desk { length desk.new.sources.items ≡ length self.now.survivors.now.catalog.columns }
+        ensures desk { OnOk result (IsReading self.now.survivors.now.catalog desk.new.reading) }
         ensures fit { OnOk result (ColumnsFit self.now.survivors.now.catalog columns.new.items) }
         ensures sound { OnOk result (find (is_stray_row self.now.survivors.now.catalog self.now.loss (contents_of self.now.survivors.now)) (reached_from segment.0 segment.1 rows.0 (rows.1 - rows.0)) ≡ None) }
         ensures cells { OnOk result ((found : List Row) → AreRows self.now.survivors.now.catalog found columns.old.items → AreRows self.now.survivors.now.catalog (found ++ filter_map (row_from self.now.survivors.now.catalog self.now.loss (contents_of self.now.survivors.now)) (reached_from segment.0 segment.1 rows.0 (rows.1 - rows.0))) columns.new.items) }
@@ -179,11 +157,11 @@ impl RowWalk<'_> {
         desk: &mut Desk,
         columns: &mut Vec<Cells>,
     ) -> Result<(), WalkFault>
-        requires desk { length desk.old.sources.items ≡ length self.now.survivors.now.catalog.columns }
+        requires desk { IsReading self.now.survivors.now.catalog desk.old.reading }
         requires columns { ColumnsFit self.now.survivors.now.catalog columns.old.items }
         requires projection { p < length self.now.survivors.now.catalog.projections }
         requires order { range.0 ≤ range.1 }
-        ensures desk { length desk.new.sources.items ≡ length self.now.survivors.now.catalog.columns }
+        ensures desk { OnOk result (IsReading self.now.survivors.now.catalog desk.new.reading) }
         ensures fit { OnOk result (ColumnsFit self.now.survivors.now.catalog columns.new.items) }
         ensures sound { OnOk result (find (is_stray_row self.now.survivors.now.catalog self.now.loss (contents_of self.now.survivors.now)) (drop range.0 (take range.1 (projection_kept self.now.survivors.now.catalog self.now.loss (contents_of self.now.survivors.now) p))) ≡ None) }
         ensures cells { OnOk result ((found : List Row) → AreRows self.now.survivors.now.catalog found columns.old.items → AreRows self.now.survivors.now.catalog (found ++ filter_map (row_from self.now.survivors.now.catalog self.now.loss (contents_of self.now.survivors.now)) (drop range.0 (take range.1 (projection_kept self.now.survivors.now.catalog self.now.loss (contents_of self.now.survivors.now) p)))) columns.new.items) }
@@ -210,7 +188,7 @@ impl RowWalk<'_> {
         desk: &mut Desk,
         columns: &mut Vec<Cells>,
     ) -> Result<(), WalkFault>
-        requires desk { length desk.old.sources.items ≡ length self.now.survivors.now.catalog.columns }
+        requires desk { IsReading self.now.survivors.now.catalog desk.old.reading }
         requires columns { ColumnsFit self.now.survivors.now.catalog columns.old.items }
         requires order { range.0 ≤ range.1 }
         ensures fit { OnOk result (ColumnsFit self.now.survivors.now.catalog columns.new.items) }

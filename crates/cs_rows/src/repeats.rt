@@ -1,17 +1,21 @@
-//! Rows whose key stands in an earlier row: found by sorting, and left out in place.
-ghost use Rattle.std.specs.Prelude.{◌≡◌, ℕ, ◌<◌, false, IfOk, All, map, length, replicate, slice_index_or, refl};
+//! Rows whose key stands in an earlier row.
+ghost use Rattle.std.specs.Prelude.{◌≡◌, ◌<◌, false, IfOk, All, map, length, replicate, refl};
 ghost use Rattle.std.specs.Ordering.{on, then_cmp, nat_cmp, eq_by_cmp, as_partial_cmp};
 ghost use Rattle.std.specs.Cmp.{then_total, on_total, nat_cmp_total, eq_by_cmp_equiv, partial_equiv_from_equiv, partial_order_from_total};
 ghost use Rattle.std.specs.List.{range_with_len};
 ghost use Rattle.std.specs.List.Sorted.{IsPermutation, IsSorted};
-ghost use Rattle.cs_schema.specs.Values.{values, kind_of, value_cmp};
+ghost use Rattle.cs_schema.specs.Values.{values, value_cmp};
 ghost use Rattle.cs_schema.specs.ValueOrder.{value_cmp_total};
 ghost use Rattle.cs_schema.specs.Rows.{cell};
-ghost use Rattle.cs_rows.specs.Repeats.{numbered_cmp, AreRepeats, unmarked};
+ghost use Rattle.cs_rows.specs.Repeats.{numbered_cmp, AreRepeats};
 
+use crate::int_repeats::mark_repeated_ints;
+use crate::marks::no_marks;
 use cs_schema::Cells;
+use rayon::prelude::*;
 use std::alloc::{AllocError, Global};
 use std::cmp::Ordering;
+use std::thread::Threads;
 
 /// A row by its number, with the column of the keys.
 #[derive(Clone, Copy)]
@@ -82,24 +86,19 @@ fn numbers(alloc: Global, rows: &[KeyedRow<'_>]) -> Result<Vec<usize>, AllocErro
 }
 
 /// The numbers of all rows by ascending keys, those of one key ascending.
-fn sorted_rows(alloc: Global, keys: &Cells) -> Result<Vec<usize>, AllocError>
+fn sorted_rows<R: Threads + Sync>(
+    rt: &R,
+    alloc: Global,
+    keys: &Cells,
+) -> Result<Vec<usize>, AllocError>
     ensures permutation { IfOk result (λ v. IsPermutation (range_with_len 0 (length (values keys.now))) v.items) }
     ensures sorted { IfOk result (λ v. IsSorted (numbered_cmp (values keys.now)) v.items) }
 {
     let mut rows = keyed_rows(alloc, keys)?;
-    rows.sort_unstable();
-    numbers(alloc, rows.as_slice())
-}
-
-/// A mark for each row, none set.
-fn no_marks(alloc: Global, count: usize) -> Result<Vec<bool>, AllocError>
-    ensures { IfOk result (λ v. v.items ≡ replicate count false) }
-{
-    let mut marks = Vec::with_capacity(alloc, count)?;
-    for _row in 0..count {
-        marks.push(false)?;
-    }
-    Ok(marks)
+    let rows = rows.as_mut_slice();
+    // no two rows tie, so none changes places with its equal
+    par_sort_unstable(rt, rows);
+    numbers(alloc, rows)
 }
 
 /// Marks each row whose left neighbour by ascending keys has its key.
@@ -117,52 +116,22 @@ fn mark_repeats(keys: &Cells, sorted: &[usize], marks: &mut [bool])
 }
 
 /// Marks the rows whose key stands in an earlier row, in n log n steps.
-pub(crate) fn find_repeats(alloc: Global, keys: &Cells) -> Result<Vec<bool>, AllocError>
+pub(crate) fn find_repeats<R: Threads + Sync>(
+    rt: &R,
+    alloc: Global,
+    keys: &Cells,
+) -> Result<Vec<bool>, AllocError>
     ensures { IfOk result (λ marks. AreRepeats (values keys.now) marks.items) }
 {
-    let sorted = sorted_rows(alloc, keys)?;
     let mut marks = no_marks(alloc, keys.len())?;
-    mark_repeats(keys, sorted.as_slice(), marks.as_mut_slice());
-    Ok(marks)
-}
-
-/// Leaves the unmarked elements, in their order. It takes no memory.
-fn keep_unmarked<T: Drop>(items: &mut Vec<T>, marks: &[bool])
-    requires { length marks.now ≡ length items.old.items }
-    ensures { items.new.items ≡ unmarked marks.now items.old.items }
-{
-    let mut place = 0;
-    for at in 0..marks.len() {
-        if !marks[at] {
-            items.swap(place, at);
-            place += 1;
+    match keys {
+        Cells::Ints(ints) => mark_repeated_ints(rt, alloc, ints, marks.as_mut_slice())?,
+        Cells::Texts(_) => {
+            let sorted = sorted_rows(rt, alloc, keys)?;
+            mark_repeats(keys, sorted.as_slice(), marks.as_mut_slice());
         }
     }
-    items.truncate(place);
-}
-
-/// Leaves the unmarked cells.
-fn keep_cells(cells: &mut Cells, marks: &[bool])
-    requires { length marks.now ≡ length (values cells.old) }
-    ensures kind { kind_of cells.new ≡ kind_of cells.old }
-    ensures cells { values cells.new ≡ unmarked marks.now (values cells.old) }
-{
-    match cells {
-        Cells::Ints(ints) => keep_unmarked(ints, marks),
-        Cells::Texts(texts) => keep_unmarked(texts, marks),
-    }
-}
-
-/// Leaves the unmarked cells of each column.
-pub(crate) fn keep_columns(columns: &mut Vec<Cells>, marks: &[bool])
-    requires { (c : ℕ) (d : Cells) → c < length columns.old.items → length marks.now ≡ length (values (slice_index_or columns.old.items c d)) }
-    ensures count { length columns.new.items ≡ length columns.old.items }
-    ensures kinds { (c : ℕ) (d : Cells) → c < length columns.old.items → kind_of (slice_index_or columns.new.items c d) ≡ kind_of (slice_index_or columns.old.items c d) }
-    ensures cells { (c : ℕ) (d : Cells) → c < length columns.old.items → values (slice_index_or columns.new.items c d) ≡ unmarked marks.now (values (slice_index_or columns.old.items c d)) }
-{
-    for c in 0..columns.len() {
-        keep_cells(&mut columns[c], marks);
-    }
+    Ok(marks)
 }
 
 /// The memory from which a column takes its own.

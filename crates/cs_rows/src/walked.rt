@@ -5,12 +5,14 @@ ghost use Rattle.cs_schema.specs.Rows.{cell};
 ghost use Rattle.cs_rows.specs.WalkByRows.{without_repeats};
 ghost use Rattle.cs_rows.specs.WalkedView.{walked_data, AreColumns};
 
+use crate::marks::keep_columns;
 use crate::numbers::key_column;
 use crate::range::new_columns;
-use crate::repeats::{find_repeats, keep_columns, memory_of};
+use crate::repeats::{find_repeats, memory_of};
 use cs_schema::{Catalog, Cells, Value};
 use std::alloc::{AllocError, Global};
 use std::marker::Model;
+use std::thread::Threads;
 
 /// Leaves so many cells in each column.
 fn truncate_columns(columns: &mut Vec<Cells>, rows: usize)
@@ -136,15 +138,15 @@ impl Walked {
     }
 
     /// Leaves out each row whose primary key stands in an earlier row, in n log n steps. A refusal changes nothing.
-    pub fn once(&mut self, catalog: &Catalog) -> Result<(), AllocError>
+    pub fn once<R: Threads + Sync>(&mut self, rt: &R, catalog: &Catalog) -> Result<(), AllocError>
         requires kinds { self.old.kinds ≡ map (λ c. c.kind) catalog.now.columns }
         ensures kinds { self.new.kinds ≡ self.old.kinds }
         ensures ok { OnOk result (self.new.rows ≡ without_repeats catalog.now self.old.rows) }
         ensures err { OnErr result (self.new ≡ self.old) }
     {
         let keys = &self.columns[key_column(catalog)];
-        let marks = find_repeats(memory_of(keys), keys)?;
-        keep_columns(&mut self.columns, marks.as_slice());
+        let marks = find_repeats(rt, memory_of(keys), keys)?;
+        keep_columns(rt, &mut self.columns, marks.as_slice());
         Ok(())
     }
 }

@@ -5,4 +5,5 @@ pub mod SegmentView
 pub mod Parts
 pub mod Bodies
 pub mod SegmentPieces
+pub mod Growing
 pub mod Laws

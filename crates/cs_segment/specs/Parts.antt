@@ -1,5 +1,5 @@
 -- The parts of a segment's file, one for each column.
-use Rattle.std.specs.Prelude.{◌≡◌, ℕ, ◌+◌, ◌≤◌, List, [], ◌∷◌, ◌++◌, length, codes}
+use Rattle.std.specs.Prelude.{◌≡◌, ℕ, ◌+◌, ◌≤◌, List, [], ◌∷◌, ◌++◌, length, take, codes}
 use Rattle.cs_schema.specs.declared.kinds.Kind.{Kind}
 use Rattle.cs_schema.specs.declared.kinds.Code.{Code}
 use Rattle.cs_schema.specs.declared.cells.Value.{Value}
@@ -7,7 +7,7 @@ use Rattle.cs_schema.specs.CatalogData.{CatalogData, projection}
 use Rattle.cs_schema.specs.Order.{row_limit}
 use Rattle.cs_segment.specs.Bytes.{be16, be32}
 use Rattle.cs_codec.specs.ColumnText.{column_text, FitsColumn}
-use Rattle.cs_segment.specs.SegmentFile.{code_number, kind_number}
+use Rattle.cs_segment.specs.SegmentFile.{Base, code_number, kind_number}
 use Rattle.cs_schema.specs.CatalogData.{code_at, kind_at}
 
 abbrev pub part_text : Code → Kind → List Value → List ℕ
@@ -42,3 +42,7 @@ head_text p s rows width = codes "CSSEG001" ++ be16 p ++ be16 s ++ be32 rows ++ 
 pub record BeginsWithHead (p s width : ℕ) (bytes : List ℕ) (rows : ℕ) (rest : List ℕ) : Type 0 where
   pub text : bytes ≡ head_text p s rows width ++ rest
   pub count : rows ≤ row_limit
+
+-- what stands in a segment's file before its column of this number
+abbrev pub text_before : CatalogData → ℕ → ℕ → Base → ℕ → List ℕ
+text_before C p s b j = head_text p s b.rows (length (projection C p).columns) ++ parts_text C p 0 (take j b.columns)

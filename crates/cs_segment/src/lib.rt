@@ -7,6 +7,7 @@
 pub mod bodies;
 pub mod bytes;
 pub mod fault;
+pub mod growing;
 pub mod laws;
 pub mod parallel;
 mod reader;
@@ -15,6 +16,7 @@ pub mod segment;
 pub mod writing;
 
 pub use fault::FileFault;
+pub use growing::GrowingFile;
 pub use parallel::par_read_segment;
 pub use segment::{Segment, read_segment};
-pub use writing::{write_segment, write_segment_owned};
+pub use writing::write_segment;

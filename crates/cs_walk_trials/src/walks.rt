@@ -11,6 +11,7 @@ use cs_schema::samples::SPLIT_COLUMNS;
 use cs_schema::{Catalog, Cells, Kind, Loss, Value};
 use std::alloc::{AllocGlobal, Global};
 use std::process::Abort;
+use std::thread::Threads;
 
 /// Whether a walk has these rows of ints.
 fn shows(walked: &Walked, catalog: &Catalog, rows: &[&[i64]]) -> bool
@@ -174,21 +175,27 @@ fn images_and_joins_that_were_put(rt: HostRuntime) {
 }
 
 /// Whether the walk by rows has so many rows, and these where each key stands once.
-fn gives_once(store: &Store<'_>, alloc: Global, loss: Loss, all: usize, rows: &[&[i64]]) -> bool {
-    let Ok(mut walked) = store.walk_by_rows(alloc, loss) else {
+fn gives_once(
+    rt: &(impl AllocGlobal + Threads + Sync),
+    store: &Store<'_>,
+    loss: Loss,
+    all: usize,
+    rows: &[&[i64]],
+) -> bool {
+    let Ok(mut walked) = store.walk_by_rows(rt.alloc(), loss) else {
         return false;
     };
     walked.rows() == all
-        && walked.once(store.survivors.catalog()).is_ok()
+        && walked.once(rt, store.survivors.catalog()).is_ok()
         && shows(&walked, store.survivors.catalog(), rows)
 }
 
 /// Whether no rows are no rows where each key stands once.
-fn keeps_no_rows(alloc: Global, catalog: &Catalog) -> bool {
-    let Ok(mut none) = Walked::none(alloc, catalog) else {
+fn keeps_no_rows(rt: &(impl AllocGlobal + Threads + Sync), catalog: &Catalog) -> bool {
+    let Ok(mut none) = Walked::none(rt.alloc(), catalog) else {
         return false;
     };
-    none.once(catalog).is_ok() && none.rows() == 0
+    none.once(rt, catalog).is_ok() && none.rows() == 0
 }
 
 // No projection is alive, and each row stands in a surviving segment.
@@ -201,8 +208,8 @@ fn rows_of_surviving_segments_with_ample_memory(rt: HostRuntime) {
     store.put_segment(&rt, 2, 0, &[&[2, 4, 3], &[10, 10, 20]], &[]);
     let loss = Loss::none().with(1).with(3).with(6);
     let rows: [&[i64]; 4] = [&[3, 20], &[4, 10], &[1, 30], &[2, 10]];
-    assert!(rt; gives_once(&store, rt.alloc(), loss, 7, &rows));
-    assert!(rt; keeps_no_rows(rt.alloc(), store.survivors.catalog()));
+    assert!(rt; gives_once(&rt, &store, loss, 7, &rows));
+    assert!(rt; keeps_no_rows(&rt, store.survivors.catalog()));
 }
 
 // One segment is left, in which a key stands twice.
@@ -213,7 +220,7 @@ fn rows_with_a_key_twice(rt: HostRuntime) {
     store.put_segment(&rt, 2, 0, &[&[2, 4, 3, 2], &[10, 10, 20, 30]], &[]);
     let loss = Loss::none().with(1).with(2).with(3).with(4).with(6);
     let rows: [&[i64]; 3] = [&[2, 10], &[4, 10], &[3, 20]];
-    assert!(rt; gives_once(&store, rt.alloc(), loss, 4, &rows));
+    assert!(rt; gives_once(&rt, &store, loss, 4, &rows));
 }
 
 // One segment of the second projection is lost: the rows there are marked, and full without it.
@@ -227,7 +234,7 @@ fn rows_with_a_marked_projection(rt: HostRuntime) {
     store.put_join(&rt, 0, 0, 1, &[(1, 1), (0, 1), (0, 2)]);
     store.put_join(&rt, 1, 1, 0, &[(0, 1)]);
     let rows: [&[i64]; 3] = [&[1, 2, 7], &[2, 1, 5], &[3, 1, 3]];
-    assert!(rt; gives_once(&store, rt.alloc(), loss, 4, &rows));
+    assert!(rt; gives_once(&rt, &store, loss, 4, &rows));
     store.put_join(&rt, 0, 0, 1, &[(1, 1), (0, 0), (0, 2)]);
     assert!(rt; is_astray(store.walk_by_rows(rt.alloc(), loss)));
 }

@@ -2,9 +2,9 @@ use Rattle.std.proofs.Common.{◌≡◌, List, ℕ, subst}
 use Rattle.cs_schema.specs.FileNames.{surviving}
 use Rattle.cs_schema.specs.declared.file_name.FileName.{FileName}
 use Rattle.cs_store.specs.FileSet.{contents_of}
-use Rattle.cs_inspection.specs.BadFiles.{AreBadFiles}
 use Rattle.cs_store.specs.LoadReadable.{LoadsReadable}
 use Rattle.cs_reading.specs.Standing.{standing}
+use Rattle.cs_checking.specs.Checks.{IsJudged}
 use Rattle.cs_checking.proofs.checking.check.Goals as goal
 
 pub returns-in-Ok-judge-clause-ok : goal.returns-in-Ok-judge-clause-ok
@@ -14,13 +14,10 @@ returns-in-Ok-judge-clause-ok g c =
       catalog = c.in-Ok.found.0;
       files = c.in-Ok-load_readable_side_by_side.found.files;
       unreadable = c.in-Ok-load_readable_side_by_side.found.unreadable.items;
-      is_bad = c.any_bad-is_bad.result;
       store = c.in-Ok.found.1;
       left = c.in-Ok.found.1;
       finds = c.in-Ok.ensures.ok;
       loads = subst (λ (L : List ℕ). LoadsReadable (standing g.P.Store.SharedSource.answers) (standing g.P.Store.SharedSource.fails) (surviving c.in-Ok.found.0 L) c.in-Ok.found.1 c.in-Ok-load_readable_side_by_side.found.files c.in-Ok-load_readable_side_by_side.found.unreadable.items c.in-Ok.found.1) c.none.ensures c.in-Ok-load_readable_side_by_side.ensures.ok;
-      inspected = subst (λ (U : List FileName). AreBadFiles c.in-Ok.found.0 (contents_of c.in-Ok-load_readable_side_by_side.found.files) U c.in-Ok-bad_files.bad.items) read c.in-Ok-bad_files.ensures;
-      none_bad = λ e. let none = c.any_bad-is_bad.ensures e in let listed = none.0 in let failed = none.1 in ((cc), (cc));
-      judged = c.in-Ok-judge.ensures;
+      judged = subst (λ (U : List FileName). IsJudged c.in-Ok.found.0 (contents_of c.in-Ok-load_readable_side_by_side.found.files) U c.in-Ok-judge.bad.items c.in-Ok-judge.verdict) read c.in-Ok-judge.ensures;
       unfinished = c.in-Ok-unfinished.ensures;
     }

@@ -2,7 +2,7 @@ use Rattle.std.proofs.Common.{◌≡◌, ◌<◌, ℕ, [], get_or, map, length, 
 use Rattle.std.proofs.lemmas.List.{get_or-map, length-drop, length-map, map_push}
 use Rattle.cs_schema.specs.declared.kinds.Kind.{Kind}
 use Rattle.cs_schema.specs.Values.{values, kind_of}
-use Rattle.cs_segment.proofs.PieceColumns.{one_less, one_there}
+use Rattle.cs_delta.proofs.Lefts.{one_less, one_there}
 use Rattle.cs_delta.specs.Edits.{AreEdits}
 use Rattle.cs_delta.specs.ItemView.{change_of, cell_edits, HasKind}
 use Rattle.cs_delta.proofs.PairColumns.{columns_more, kinds_more}

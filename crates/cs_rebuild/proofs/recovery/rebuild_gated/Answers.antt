@@ -1,12 +1,10 @@
-use Rattle.std.proofs.Common.{◌≡◌, refl, sym}
+use Rattle.std.proofs.Common.{◌≡◌, refl}
 use Rattle.std.specs.Prelude.{IfOk}
 use Rattle.cs_schema.specs.declared.file_name.FileName.{FileName}
 use Rattle.cs_store.specs.FileSet.{contents_of}
 use Rattle.cs_rows.specs.Survivors.{contents_of as held_by}
 use Rattle.cs_order.specs.Tables.{table_of}
 use Rattle.cs_recovery.specs.Expected.{written}
-use Rattle.cs_rebuild.specs.Steps.{HoldsTable}
-use Rattle.cs_rebuild.proofs.SoundFacts.{holds_table}
 use Rattle.cs_rebuild.proofs.Verdicts.{names_sites, not_rebuilt, on_store, written_answer, rebuild_ends}
 use Rattle.cs_rebuild.proofs.recovery.rebuild_gated.Goals as goal
 

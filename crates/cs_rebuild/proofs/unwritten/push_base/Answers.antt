@@ -10,7 +10,7 @@ returns-clause-each g c =
     let p = c.args.p in
     let s = c.args.s in
     let base : IsLostSegment x.catalog.now x.loss p s = record { segment = c.requires.segment; is_lost = sym c.lost.ensures ∙ c.if-not-lost.false } in
-    let segment : IsToWrite x (Unwritten.Segment p s c.in-Ok.columns) = record { from = (base, c.in-Ok.ensures.ok) } in
+    let segment : IsToWrite x (Unwritten.Segment p s c.args.run.now.cut c.in-Ok.pieces) = record { from = (base, c.in-Ok.ensures.ok) } in
     let delta : IsToWrite x (Unwritten.Delta p s) = record { from = base } in
-    let one = each_pushed x c.args.files.now.items c.push.new.self.items (Unwritten.Segment p s c.in-Ok.columns) c.in_ok-push.ensures.items c.requires.each segment in
+    let one = each_pushed x c.args.files.now.items c.push.new.self.items (Unwritten.Segment p s c.args.run.now.cut c.in-Ok.pieces) c.in_ok-push.ensures.items c.requires.each segment in
     each_pushed x c.push.new.self.items c.push-2.new.self.items (Unwritten.Delta p s) c.in_ok-push-2.ensures.items one delta

@@ -1,13 +1,9 @@
-use Rattle.std.proofs.Common.{◌≡◌, ◌<◌, ◌^◌, ap, length, subst, sym, ◌∙◌, Ok, Err}
-use Rattle.std.specs.Prelude.{IfOk, IfErr}
+use Rattle.std.proofs.Common.{◌≡◌, ◌<◌, ◌^◌, ap, length, subst, sym, ◌∙◌}
 use Rattle.cs_schema.specs.CatalogData.{CatalogData}
 use Rattle.cs_safety.specs.PlanData.{PlanData}
-use Rattle.cs_store.specs.Fault.{MemoryOr}
-use Rattle.cs_store.specs.declared.fault.Fault.{Fault}
 use Rattle.cs_rows.specs.Survivors.{SurvivorsData, contents_of}
-use Rattle.cs_rows.specs.Walk.{Stray, projection_rows, walked}
+use Rattle.cs_rows.specs.Walk.{projection_rows}
 use Rattle.cs_rows.specs.declared.plan_walk.PlanWalk.{PlanWalk}
-use Rattle.cs_rebuild.specs.Walking.{HasTableKinds}
 use Rattle.cs_rebuild.proofs.walking.walk_plan.Goals as goal
 
 -- what holds of a walk through survivors holds of these

@@ -1,9 +1,8 @@
-use Rattle.std.proofs.Common.{◌≡◌, ◌++◌, take, length}
-use Rattle.cs_schema.specs.CatalogData.{projection}
+use Rattle.std.proofs.Common.{◌≡◌}
 use Rattle.cs_segment.specs.SegmentFile.{Base}
-use Rattle.cs_segment.specs.Parts.{head_text, parts_text}
+use Rattle.cs_segment.specs.Parts.{text_before}
 use Rattle.cs_segment.specs.SegmentPieces.{ArePiecesOf}
 use Rattle.cs_segment.proofs.writing.write_segment.Given as goal
 
 abbrev pub invariant-loop-j : goal.invariant-loop-j
-invariant-loop-j l = (b : Base) → ArePiecesOf l.catalog l.p l.rows l.pieces b → l.out.items ≡ head_text l.p l.s l.rows (length (projection l.catalog l.p).columns) ++ parts_text l.catalog l.p 0 (take l.j b.columns)
+invariant-loop-j l = (b : Base) → ArePiecesOf l.catalog l.p l.rows l.pieces b → l.file ≡ text_before l.catalog l.p l.s b l.j

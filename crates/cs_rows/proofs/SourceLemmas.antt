@@ -1,0 +1,40 @@
+-- Where columns are read of rows that lead to the same projections.
+use Rattle.std.proofs.Common.{◌≡◌, ℕ, ◌<◌, List, length, get_or, sym, ap, ◌∙◌, subst, arith, true, ◌==◌}
+use Rattle.std.specs.Prelude.{All, slice_index}
+use Rattle.std.specs.List.{find, position_or_len}
+use Rattle.std.specs.Option.{is_some}
+use Rattle.std.proofs.lemmas.List.{length-map, get_or-map, get_or_default, same_lists}
+use Rattle.cs_schema.specs.CatalogData.{CatalogData, projection}
+use Rattle.cs_rows.specs.declared.sources.Source.{Source}
+use Rattle.cs_rows.specs.declared.sources.Reading.{Reading}
+use Rattle.cs_rows.specs.WalkByRows.{Reached, Found, numbers_of, is_full}
+use Rattle.cs_rows.specs.RowSteps.{IsSource, IsReading, have_all}
+use Rattle.cs_rows.proofs.FirstLemmas.{first_at, found_in}
+use Rattle.cs_rows.proofs.FoundRows.{holds, full_by_numbers}
+
+abbrev pub number : Reached → ℕ
+number r = r.0
+
+-- rows that were reached in some projections
+pub same_numbers : (rs : List Reached) (ps : List ℕ) → length rs ≡ length ps → ((k : ℕ) → k < length rs → number (get_or rs k (0, (0, 0))) ≡ get_or ps k 0) → numbers_of rs ≡ ps
+same_numbers rs ps e f =
+    same_lists (numbers_of rs) ps (length-map rs number ∙ e) (λ k d h.
+    let here : k < length rs = omega (arith, length-map rs number) in
+    get_or-map number rs k (0, (0, 0)) d here ∙ f k here ∙ get_or_default ps k 0 d (omega arith))
+
+-- a column that is read is one of some projection
+pub has_source : (C : CatalogData) (ps : List ℕ) (c : ℕ) (s : Source) → IsSource C ps c s → is_some (find (holds C c) ps) ≡ true
+has_source C ps c s source =
+    let columns : List ℕ = (projection C (slice_index ps s.reached)).columns in
+    let first : position_or_len (λ d. d == c) columns < length columns = subst (λ (n : ℕ). n < length columns) source.place source.there in
+    ap is_some (first_at (holds C c) ps s.reached 0 source.within source.before (found_in c columns first))
+
+-- a test of each number is one of each row
+pub all_numbers : (n : ℕ) (rs : List Reached) → All (λ (r : Reached). r.0 < n) rs → All (λ (p : ℕ). p < n) (numbers_of rs)
+all_numbers n rs all k d h =
+    let here : k < length rs = omega (arith, length-map rs number) in
+    subst (λ (p : ℕ). p < n) (sym (get_or-map number rs k (0, (0, 0)) d here)) (all k (0, (0, 0)) here)
+
+-- a reading of the rows that were reached tells whether what was found is full
+pub told_full : (C : CatalogData) (F : Found) (reading : Reading) (rs : List Reached) → rs ≡ F.reached → IsReading C reading → reading.projections.items ≡ numbers_of rs → reading.full ≡ is_full C F
+told_full C F reading rs same so numbers = so.full ∙ ap (have_all C) (numbers ∙ ap numbers_of same) ∙ full_by_numbers C F

@@ -1,0 +1,54 @@
+//! Rows whose key is an int that stands in an earlier row, where the ints lie close together.
+//!
+//! Each int from the least to the greatest has a mark then, so that rows are looked through once and nothing is sorted.
+ghost use Rattle.std.specs.Prelude.{◌≡◌, ◌≤◌, All, IfSome, OnOk, map, length};
+ghost use Rattle.cs_schema.specs.declared.cells.Value.{Value};
+ghost use Rattle.cs_rows.specs.Repeats.{AreRepeats, IsNear};
+
+use crate::marks::no_marks;
+use std::alloc::{AllocError, Global};
+
+/// How many marks may stand for each row: they take half the room of its pair.
+const MARKS: u64 = 8;
+
+/// The least int, and how many numbers there are from it to the greatest, where these are few for so many rows.
+pub(crate) fn near_ints(ints: &[i64]) -> Option<(i64, usize)>
+    ensures { IfSome result (λ near. All (IsNear near.0 near.1) ints.now) }
+{
+    let mut least = i64::MAX;
+    let mut most = i64::MIN;
+    for int in ints {
+        least = least.min(*int);
+        most = most.max(*int);
+    }
+    if most < least {
+        return None;
+    }
+    let above = most.abs_diff(least);
+    if above / MARKS < ints.len() as u64 {
+        Some((least, above as usize + 1))
+    } else {
+        None
+    }
+}
+
+/// Marks each row whose int stands in an earlier row, where each int is one of `count` from the least on.
+pub(crate) fn mark_near_ints(
+    alloc: Global,
+    ints: &[i64],
+    least: i64,
+    count: usize,
+    marks: &mut [bool],
+) -> Result<(), AllocError>
+    requires near { All (IsNear least count) ints.now }
+    requires marks { length marks.old ≡ length ints.now }
+    ensures { OnOk result (AreRepeats (map Value.Int ints.now) marks.new) }
+{
+    let mut seen = no_marks(alloc, count)?;
+    for (row, int) in ints.iter().enumerate() {
+        let place = int.abs_diff(least) as usize;
+        marks[row] = seen[place];
+        seen[place] = true;
+    }
+    Ok(())
+}

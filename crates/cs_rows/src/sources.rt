@@ -1,0 +1,128 @@
+//! Where the columns of found rows are read, sought once for rows that were found through the same projections.
+ghost use Rattle.std.specs.Prelude.{◌≡◌, ◌<◌, ◌↔◌, ℕ, length, true, All, IfOk, OnOk, IsTrue, MatchOption, None};
+ghost use Rattle.std.specs.List.{find};
+ghost use Rattle.cs_schema.specs.CatalogData.{CatalogData};
+ghost use Rattle.cs_safety.specs.Paths.{holds_column};
+ghost use Rattle.cs_rows.specs.WalkByRows.{numbers_of};
+ghost use Rattle.cs_rows.specs.RowSteps.{IsSource, AreSources, IsReading, have_all};
+
+use crate::catalog_of::columns_of;
+use crate::range::place_in;
+use crate::survivors::Survivors;
+use std::alloc::{AllocError, Global};
+
+/// Where a column of a found row is read: at one of the rows reached, and the column's number there.
+#[derive(Clone, Copy)]
+pub(crate) struct Source {
+    pub(crate) reached: usize,
+    pub(crate) place: usize,
+}
+
+/// Where each column is read of rows that were found through some projections, where these have all columns.
+#[derive(Drop)]
+pub(crate) struct Reading {
+    projections: Vec<u16>,
+    pub(crate) sources: Vec<Source>,
+    pub(crate) full: bool,
+}
+
+/// Where a column is read, if one of the projections has it: the first.
+fn first_source(survivors: &Survivors<'_>, projections: &[u16], c: usize) -> Option<Source>
+    requires { All (λ p. p < length survivors.now.catalog.projections) projections.now }
+    ensures { MatchOption result (find (λ p. holds_column survivors.now.catalog p c) projections.now ≡ None) (IsSource survivors.now.catalog projections.now c) }
+{
+    for at in 0..projections.len() {
+        let columns = columns_of(survivors, projections[at] as usize);
+        let place = place_in(columns, c);
+        if place < columns.len() {
+            return Some(Source { reached: at, place });
+        }
+    }
+    None
+}
+
+/// Finds where each column is read. Tells whether the projections have all.
+fn find_sources(survivors: &Survivors<'_>, projections: &[u16], sources: &mut Vec<Source>) -> bool
+    requires there { All (λ p. p < length survivors.now.catalog.projections) projections.now }
+    requires room { length sources.old.items ≡ length survivors.now.catalog.columns }
+    ensures room { length sources.new.items ≡ length survivors.now.catalog.columns }
+    ensures full { result ≡ have_all survivors.now.catalog projections.now }
+    ensures sources { result ≡ true → AreSources survivors.now.catalog projections.now sources.new.items (length survivors.now.catalog.columns) }
+{
+    for c in 0..sources.len() {
+        match first_source(survivors, projections, c) {
+            Some(source) => sources[c] = source,
+            None => return false,
+        }
+    }
+    true
+}
+
+/// Whether rows were reached in these projections, one after the other.
+fn are_in(reached: &[(u16, (u16, u32))], projections: &[u16]) -> bool
+    ensures { IsTrue result ↔ (numbers_of reached.now ≡ projections.now) }
+{
+    if reached.len() != projections.len() {
+        return false;
+    }
+    for at in 0..reached.len() {
+        if reached[at].0 != projections[at] {
+            return false;
+        }
+    }
+    true
+}
+
+/// Lists the projections in which rows were reached.
+fn list_projections(
+    projections: &mut Vec<u16>,
+    reached: &[(u16, (u16, u32))],
+) -> Result<(), AllocError>
+    ensures { OnOk result (projections.new.items ≡ numbers_of reached.now) }
+{
+    projections.clear();
+    for row in reached {
+        projections.push(row.0)?;
+    }
+    Ok(())
+}
+
+impl Reading {
+    /// Room for so many projections and columns, and no projection yet.
+    pub(crate) fn new(alloc: Global, projections: usize, columns: usize) -> Result<Self, AllocError>
+        requires { 0 < columns }
+        ensures { IfOk result (λ reading. (C : CatalogData) → length C.columns ≡ columns → IsReading C reading) }
+    {
+        let mut sources = Vec::with_capacity(alloc, columns)?;
+        for _column in 0..columns {
+            sources.push(Source {
+                reached: 0,
+                place: 0,
+            })?;
+        }
+        Ok(Reading {
+            projections: Vec::with_capacity(alloc, projections)?,
+            sources,
+            full: false,
+        })
+    }
+
+    /// Goes over to rows that were reached. There is nothing to find where the last ones were in the same projections.
+    pub(crate) fn update(
+        &mut self,
+        survivors: &Survivors<'_>,
+        reached: &[(u16, (u16, u32))],
+    ) -> Result<(), AllocError>
+        requires there { All (λ row. row.0 < length survivors.now.catalog.projections) reached.now }
+        requires reading { IsReading survivors.now.catalog self.old }
+        ensures reading { OnOk result (IsReading survivors.now.catalog self.new) }
+        ensures projections { OnOk result (self.new.projections.items ≡ numbers_of reached.now) }
+    {
+        if are_in(reached, self.projections.as_slice()) {
+            return Ok(());
+        }
+        list_projections(&mut self.projections, reached)?;
+        self.full = find_sources(survivors, self.projections.as_slice(), &mut self.sources);
+        Ok(())
+    }
+}
