@@ -9,7 +9,7 @@ use cs_codec::differences::Differences;
 use cs_codec::plain::Plain;
 use cs_codec::runs::Runs;
 use cs_codec::{Cell, Encoding};
-use cs_schema::Text;
+use cs_schema::Word;
 use std::alloc::Global;
 use std::rt::Clock;
 use std::time::Instant;
@@ -29,9 +29,9 @@ pub fn measure(rt: &(impl Print + Clock + AllocGlobal), rows: u32, timed: bool) 
     by_code::<i64, Bitmaps>(rt, "Bitmaps, distinct integers", &many, timed)?;
     rising_integers(rt, rows, timed)?;
     let few = texts(alloc, rows, 10)?;
-    by_code::<Text, Plain>(rt, "Plain, ten texts", &few, timed)?;
-    by_code::<Text, Runs>(rt, "Runs, ten texts in turn", &few, timed)?;
-    by_code::<Text, Bitmaps>(rt, "Bitmaps, ten texts", &few, timed)
+    by_code::<Word, Plain>(rt, "Plain, ten texts", &few, timed)?;
+    by_code::<Word, Runs>(rt, "Runs, ten texts in turn", &few, timed)?;
+    by_code::<Word, Bitmaps>(rt, "Bitmaps, ten texts", &few, timed)
 }
 
 /// Measures differences.
@@ -132,7 +132,7 @@ fn integers(alloc: Global, rows: u32, distinct: u32) -> Result<Vec<i64>>
 }
 
 /// So many texts, of which at most so many are distinct.
-fn texts(alloc: Global, rows: u32, distinct: u32) -> Result<Vec<Text>>
+fn texts(alloc: Global, rows: u32, distinct: u32) -> Result<Vec<Word>>
     requires { 0 < distinct }
     ensures { IfOk result (λ cells. length cells.items ≡ rows) }
 {
@@ -140,10 +140,10 @@ fn texts(alloc: Global, rows: u32, distinct: u32) -> Result<Vec<Text>>
     for row in 0..rows {
         let number = row % distinct;
         let text = format!(in alloc; "value {number}")?;
-        let Some(cell) = Text::new(alloc, text.as_str())? else {
-            return Err(anyhow!("a text is too long"));
-        };
-        cells.push(cell)?;
+        match Word::new(text.as_str()) {
+            Ok(cell) => cells.push(cell)?,
+            Err(_) => return Err(anyhow!("a text is too long")),
+        }
     }
     Ok(cells)
 }

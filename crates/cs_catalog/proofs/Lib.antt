@@ -4,3 +4,4 @@ pub mod SortedTexts
 pub mod CutLemmas
 pub mod Mapped
 pub mod Passing
+mod TextOrder

@@ -12,7 +12,7 @@ ghost use Rattle.cs_catalog.specs.Refusals.{IsRefusedUnlessMemory};
 use crate::CatalogFault;
 use crate::document::{ColumnEntry, Document, ProjectionEntry, push};
 use crate::lookups::{is_int_column, leading};
-use cs_schema::{Cells, Text, Word};
+use cs_schema::{Cells, Texts, Word};
 use std::alloc::Global;
 use toml::Value;
 
@@ -48,14 +48,14 @@ pub fn text_cut(value: &Value) -> Option<Word>
     }
 }
 
-fn text_cuts(alloc: Global, values: &[Value]) -> Result<Vec<Text>, CatalogFault>
-    ensures read { IfOk result (λ v. read_all cut_text (map cut_of (map view values.now)) ≡ Some (map Cell.Text v.items)) }
+fn text_cuts(alloc: Global, values: &[Value]) -> Result<Texts, CatalogFault>
+    ensures read { IfOk result (λ v. read_all cut_text (map cut_of (map view values.now)) ≡ Some (map Cell.Text v)) }
     ensures refused { IfErr result (IsRefusedUnlessMemory 11 (read_all cut_text (map cut_of (map view values.now)))) }
 {
-    let mut found = Vec::new(alloc);
+    let mut found = Texts::new(alloc);
     for value in values {
         match text_cut(value) {
-            Some(word) => push(&mut found, Text::of_word(alloc, &word)?)?,
+            Some(word) => found.push(word.as_str())?,
             None => return Err(CatalogFault::Rule(11)),
         }
     }
@@ -90,18 +90,13 @@ fn integers_ascend(numbers: &[i64]) -> bool
     true
 }
 
-fn texts_ascend(texts: &[Text]) -> bool
+fn texts_ascend(texts: &Texts) -> bool
     ensures { result ≡ ascends (map Cell.Text texts.now) }
 {
-    let Some((first, rest)) = texts.split_first() else {
-        return true;
-    };
-    let mut last = first;
-    for text in rest {
-        if last.cmp(text).is_ge() {
+    for next in 1..texts.len() {
+        if texts.compare(next - 1, texts, next).is_ge() {
             return false;
         }
-        last = text;
     }
     true
 }

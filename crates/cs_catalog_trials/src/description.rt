@@ -1,6 +1,6 @@
 //! What a catalog says, as text.
 use anyhow::Result;
-use cs_schema::{Catalog, Cells, Loss, Projection, Text};
+use cs_schema::{Catalog, Cells, Loss, Projection, Texts};
 use std::alloc::Global;
 use std::fmt::Write;
 
@@ -76,10 +76,10 @@ fn describe_cuts(text: &mut String, cuts: &Cells) -> Result<()> {
     }
 }
 
-fn describe_texts(text: &mut String, cuts: &[Text]) -> Result<()> {
+fn describe_texts(text: &mut String, cuts: &Texts) -> Result<()> {
     text.push_str("    text cuts")?;
-    for cut in cuts {
-        let cut = cut.as_str();
+    for place in 0..cuts.len() {
+        let cut = cuts.get(place);
         write!(text, " {cut:?}")?;
     }
     text.push_str("\n")?;

@@ -1,19 +1,20 @@
 -- How many sites may fail, by the greatest number of which any may.
-use Rattle.std.proofs.Common.{ℕ, ◌+◌, ◌<◌, ◌≤◌, [], length, arith}
+use Rattle.std.proofs.Common.{◌≡◌, ℕ, ◌+◌, ◌<◌, ◌≤◌, List, [], ◌∷◌, length, slice_get, None, refl, arith}
 use Rattle.std.specs.List.Sorted.{IsStrictlySortedBy}
 use Rattle.cs_schema.proofs.Ascending.{false≢true}
 use Rattle.cs_schema.specs.CatalogData.{CatalogData}
 use Rattle.cs_schema.specs.Losses.{Sites, IsLoss}
 use Rattle.cs_safety.specs.Safety.{IsSafe}
-use Rattle.cs_design.specs.Fatal.{IsSafeBeyond, IsFatalAt}
+use Rattle.cs_design.specs.Fatal.{IsSafeBeyond, IsFatalAt, AreFatalLosses}
+use Rattle.cs_checking.specs.Checks.{HasFatal}
 
 -- as many as may fail, or fewer
 pub safe_below : (C : CatalogData) (lost : Sites) (g k : ℕ) → IsSafeBeyond C lost g → k ≤ g → IsSafeBeyond C lost k
 safe_below C lost g k safe below = λ L loss few. let few' : length L ≤ g = omega arith in safe L loss few'
 
--- more than may fail
-pub unsafe_above : (C : CatalogData) (lost : Sites) (g k : ℕ) → IsFatalAt C lost (g + 1) → g < k → ¬ IsSafeBeyond C lost k
-unsafe_above C lost g k (L, fatal, count) above safe = let few : length L ≤ k = omega (arith, count) in fatal.is_unsafe (safe L fatal.loss few)
+-- one more than may fail, or more still
+pub fatal_above : (C : CatalogData) (g k : ℕ) → IsFatalAt C [] (g + 1) → g < k → HasFatal C k
+fatal_above C g k (L, fatal, count) above = let few : length L ≤ k = omega (arith, count) in (L, fatal, few)
 
 -- the loss of no site names sites of each catalog
 no_loss : (C : CatalogData) → IsLoss C []
@@ -21,5 +22,15 @@ unfolding IsStrictlySortedBy
 no_loss C = (tt, λ x h. false≢true h)
 
 -- no number may fail where the loss of no site is unsafe
-pub unsafe_already : (C : CatalogData) (k : ℕ) → ¬ IsSafe C [] → ¬ IsSafeBeyond C [] k
-unsafe_already C k bad safe = bad (safe [] (no_loss C) (omega arith))
+pub fatal_already : (C : CatalogData) (k : ℕ) → ¬ IsSafe C [] → HasFatal C k
+fatal_already C k bad = ([], record { loss = no_loss C; is_unsafe = bad }, omega arith)
+
+-- where some loss is fatal, the least fatal ones are some
+pub some_fatal : (C : CatalogData) (k : ℕ) (fatal : List Sites) → HasFatal C k → AreFatalLosses C [] fatal → fatal ≡ [] → ⊥
+some_fatal C k [] (L, is, few) all none = let (M, there, within) = (all.exact L is.loss).0 is.is_unsafe in absurd there
+some_fatal C k (M ∷ Ms) is all none = cc
+
+-- a list without a first element is empty
+pub none_first : {X : Type 0} (xs : List X) → slice_get xs 0 ≡ None → xs ≡ []
+none_first [] e = refl
+none_first (x ∷ xs) e = cc

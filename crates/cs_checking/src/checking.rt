@@ -22,7 +22,7 @@ pub fn check<R: Threads + Sync, G: Progress + Sync, P: Listings>(
     request: &Checking<'_>,
 ) -> Result<Checked, Stop>
     ensures ok { IfOk result (λ checked. ChecksStore P.reads P.opens (standing P.Store.answers) (standing P.Store.fails) P.leaves
-        places.old request.now.store.now checked places.new) }
+        places.old request.now.store.now request.now.k checked places.new) }
     ensures err { OnErr result (LooksUp P.reads P.misses places.old request.now.store.now places.new) }
 {
     let (rt, alloc) = (run.rt, run.alloc);

@@ -1,11 +1,12 @@
 //! The verdict on the files of a store.
-ghost use Rattle.std.specs.Prelude.{◌≡◌, [], Bool, IfOk, MatchResult};
-ghost use Rattle.cs_design.specs.Fatal.{IsSafeBeyond};
-ghost use Rattle.cs_schema.specs.FileNames.{FileContents};
+ghost use Rattle.std.specs.Prelude.{◌≡◌, ℕ, Option, IfOk, IfErr};
+ghost use Rattle.std.specs.Option.{unwrap_or};
+ghost use Rattle.cs_schema.specs.Losses.{Sites};
 ghost use Rattle.cs_store.specs.FileSet.{contents_of};
 ghost use Rattle.cs_recovery.specs.Claims.{IsCheckAnswer};
 ghost use Rattle.cs_inspection.specs.BadFiles.{AreBadFiles};
-ghost use Rattle.cs_checking.specs.Checks.{Judges, IsJudged};
+ghost use Rattle.cs_answers.specs.declared.checked.Verdict.TheVariants.{Fatal};
+ghost use Rattle.cs_checking.specs.Checks.{IsChosen, HasFatal, IsFirstFatal, IsJudged};
 
 use cs_answers::Verdict;
 use cs_design::{fatal_losses, greatest_k};
@@ -15,19 +16,20 @@ use cs_progress::{Progress, Stage};
 use cs_rebuild::{Run, check_gated};
 use cs_schema::{Catalog, FileName, Loss};
 use cs_store::{Fault, FileSet};
-use std::alloc::{AllocError, Global};
+use std::alloc::Global;
 use std::marker::Sync;
 use std::thread::Threads;
 
 /// How many sites may fail, whatever they are: the number that is asked for, or the greatest; an error where it is
 /// above the greatest.
-fn allowed(catalog: &Catalog, k: Option<u8>) -> Result<u8, u8>
-    ensures { MatchResult result (IsSafeBeyond catalog.now []) (λ k. ¬ IsSafeBeyond catalog.now [] k) }
+fn allowed(catalog: &Catalog, asked: Option<u8>) -> Result<u8, u8>
+    ensures ok { IfOk result (IsChosen catalog.now asked) }
+    ensures err { IfErr result (λ k. (k ≡ unwrap_or asked 0) × HasFatal catalog.now k) }
 {
     match greatest_k(catalog, Loss::none()) {
-        None => Err(k.unwrap_or(0)),
+        None => Err(asked.unwrap_or(0)),
         Some(greatest) => {
-            let wanted = k.unwrap_or(greatest);
+            let wanted = asked.unwrap_or(greatest);
             if wanted <= greatest {
                 Ok(wanted)
             } else {
@@ -37,23 +39,17 @@ fn allowed(catalog: &Catalog, k: Option<u8>) -> Result<u8, u8>
     }
 }
 
-/// The first loss of a catalog's sites that is not safe, or that of no site.
-fn first_fatal(alloc: Global, catalog: &Catalog) -> Result<Loss, AllocError> {
-    let fatal = fatal_losses(alloc, catalog, Loss::none())?;
-    match fatal.first() {
-        Some(loss) => Ok(*loss),
-        None => Ok(Loss::none()),
-    }
-}
-
 /// The verdict on a number of sites that is too high.
 fn too_high(alloc: Global, catalog: &Catalog, k: u8) -> Result<Verdict, Stop>
-    requires { ¬ IsSafeBeyond catalog.now [] k }
-    ensures { IfOk result (λ verdict. (F : FileContents) (b : Bool) → Judges catalog.now F b verdict) }
+    requires { HasFatal catalog.now k }
+    ensures { IfOk result (λ verdict. (loss : Sites) × (verdict ≡ Fatal k loss) × IsFirstFatal catalog.now loss) }
 {
-    match first_fatal(alloc, catalog) {
-        Ok(loss) => Ok(Verdict::Fatal { k, loss }),
-        Err(_) => Err(Stop::Memory),
+    let Ok(fatal) = fatal_losses(alloc, catalog, Loss::none()) else {
+        return Err(Stop::Memory);
+    };
+    match fatal.first() {
+        Some(loss) => Ok(Verdict::Fatal { k, loss: *loss }),
+        None => unreachable!(),
     }
 }
 
@@ -100,8 +96,8 @@ fn judge_files<R: Threads + Sync, G: Progress + Sync>(
     unreadable: &[FileName],
     k: u8,
 ) -> Result<(Vec<(FileName, Badness)>, Verdict), Stop>
-    requires { IsSafeBeyond catalog.now [] k }
-    ensures { IfOk result (λ judged. IsJudged catalog.now (contents_of files.now) unreadable.now judged.0.items judged.1) }
+    ensures { IfOk result (λ judged. (asked : Option ℕ) → IsChosen catalog.now asked k
+        → IsJudged catalog.now (contents_of files.now) unreadable.now asked judged.0.items judged.1) }
 {
     let _rules = catalog.projection_count();
     if !unreadable.is_empty() {
@@ -133,11 +129,11 @@ pub fn judge<R: Threads + Sync, G: Progress + Sync>(
     catalog: &Catalog,
     files: &FileSet,
     unreadable: &[FileName],
-    k: Option<u8>,
+    asked: Option<u8>,
 ) -> Result<(Vec<(FileName, Badness)>, Verdict), Stop>
-    ensures { IfOk result (λ judged. IsJudged catalog.now (contents_of files.now) unreadable.now judged.0.items judged.1) }
+    ensures { IfOk result (λ judged. IsJudged catalog.now (contents_of files.now) unreadable.now asked judged.0.items judged.1) }
 {
-    let k = match allowed(catalog, k) {
+    let k = match allowed(catalog, asked) {
         Ok(k) => return judge_files(run, catalog, files, unreadable, k),
         Err(k) => k,
     };

@@ -1,12 +1,12 @@
 -- The laws of the two kinds of cells, and of numbers.
-use Rattle.std.proofs.Common.{◌≡◌, ℕ, ◌+◌, ◌^◌, ◌<◌, ◌≤◌, List, ◌∷◌, ◌++◌, length, get_or, take, drop, refl, sym, ap, subst, ◌∙◌, arith, rules, inl, inr, ℤ}
-use Rattle.std.specs.Prelude.{Option, Some, None, IfSome, IfNone, MatchOption, IsUtf8}
+use Rattle.std.proofs.Common.{◌≡◌, ℕ, ◌+◌, ◌^◌, ◌<◌, ◌≤◌, List, ◌++◌, length, get_or, take, drop, refl, sym, ap, subst, ◌∙◌, arith, rules, inl, inr, ℤ}
+use Rattle.std.specs.Prelude.{Option, Some, None, IfSome, IfNone, MatchOption}
 use Rattle.std.specs.Int.{w32, w64, from_be_bytes, to_be_bytes, cast_unsigned, cast_signed}
 use Rattle.std.proofs.lemmas.Bool.{cases_lt}
 use Rattle.std.proofs.lemmas.Int.{to_z-of_z, of_z-to_z, ints}
-use Rattle.std.proofs.lemmas.List.{drop_more, take-append-drop, drop-drop, length-append, length-take, length-drop, get_or-drop, get_or-take, get_or_past}
+use Rattle.std.proofs.lemmas.List.{take-append-drop, drop-drop, length-append, length-take, length-drop, get_or-drop, get_or-take, get_or_past}
 use Rattle.std.proofs.lemmas.Nat.{be_bytes_4, be_bytes_8}
-use Rattle.cs_codec.specs.Cells.{number, int_cell, IsInt, text_cell, IsText, NumberStandsAt, StandsAt, NoneStandsAt}
+use Rattle.cs_codec.specs.Cells.{number, int_cell, IsInt, NumberStandsAt, StandsAt, NoneStandsAt}
 use Rattle.cs_codec.specs.CellLaws.{length-int_cell, length-number}
 
 abbrev pub IsBytes : List ℕ → Type 0
@@ -75,20 +75,3 @@ int_cell_is z bits h e = ap (to_be_bytes w64) (e ∙ ap (cast_unsigned w64) (to_
 pub int_stands_as : (text : List ℕ) (start n : ℕ) (z : ℤ) → IsBytes text → IsInt z → start + 8 ≤ length text → n ≡ from_be_bytes w64 (take 8 (drop start text)) → z ≡ cast_signed w64 n → StandsAt int_cell IsInt text start (cast_signed w64 (cast_unsigned w64 z)) (start + 8)
 int_stands_as text start n z fits h within e s =
     subst (λ (y : ℤ). StandsAt int_cell IsInt text start y (start + 8)) (sym (to_z-of_z w64 z h ∙ s)) (int_stands text start n fits within e)
-
--- what a text's bytes are, where its length and then they stand
-pub text_stands : (text : List ℕ) (start : ℕ) (word : List ℕ) → start < length text → start + 1 + get_or text start 0 ≤ length text → word ≡ take (get_or text start 0) (drop (start + 1) text) → IsUtf8 word → get_or text start 0 < 256 → StandsAt text_cell IsText text start word (start + 1 + get_or text start 0)
-text_stands text start word lt within e utf8 small =
-    let n = get_or text start 0 in
-    let len : length word ≡ get_or text start 0 = ap length e ∙ omega (arith, length-take (get_or text start 0) (drop (start + 1) text), length-drop (start + 1) text) in
-    record {
-      holds = (omega arith, utf8);
-      parts = drop_more text start 0 lt ∙ rw (len, e) (ap (λ (t : List ℕ). get_or text start 0 ∷ t) (part_of (start + 1) (get_or text start 0) text));
-      end_is = omega (arith, len);
-      within = within;
-    }
-
-pub text_read : (text : List ℕ) (start : ℕ) (word valid : List ℕ) (k : ℕ) → start < length text → start + 1 + get_or text start 0 ≤ length text → k ≡ get_or text start 0 → (valid ≡ take k (drop (start + 1) text)) × IsUtf8 (take k (drop (start + 1) text)) → word ≡ valid → get_or text start 0 < 256 → StandsAt text_cell IsText text start word (start + 1 + get_or text start 0)
-text_read text start word valid k lt within e cases same small =
-    let is : word ≡ take (get_or text start 0) (drop (start + 1) text) = same ∙ cases.0 ∙ ap (λ (n : ℕ). take n (drop (start + 1) text)) e in
-    text_stands text start word lt within is (subst IsUtf8 (sym (same ∙ cases.0)) cases.1) small

@@ -1,20 +1,34 @@
 -- Reading the entries of bitmaps: what every column with the text has in common.
-use Rattle.std.proofs.Common.{◌≡◌, ℕ, ◌+◌, ◌<◌, ◌≤◌, Bool, List, [], ◌∷◌, ◌++◌, length, drop, Some, None, refl, sym, ap, subst, ◌∙◌, append_assoc, arith, inl, inr}
+use Rattle.std.proofs.Common.{◌≡◌, ℕ, suc, ◌+◌, ◌^◌, ◌<◌, ◌≤◌, Bool, List, [], ◌∷◌, ◌++◌, length, drop, Option, Some, None, refl, sym, ap, subst, ◌∙◌, append_assoc, arith, inl}
 use Rattle.std.specs.Prelude.{flat_map}
 use Rattle.std.specs.List.{AllByRecursion}
 use Rattle.std.specs.Ordering.{is_eq}
 use Rattle.std.specs.declared.cmp.Ordering.{Ordering}
-use Rattle.std.specs.declared.cmp.Ordering.TheVariants.{Equal}
-use Rattle.std.proofs.lemmas.Bool.{cases_lt}
-use Rattle.std.proofs.lemmas.List.{append-nil, length-drop, drop_all}
+use Rattle.std.specs.declared.cmp.Ordering.TheVariants.{Less, Equal, Greater}
+use Rattle.std.proofs.lemmas.List.{append-nil, length-append, length-drop, drop_all}
 use Rattle.cs_codec.specs.Cells.{number, BeginsOne, StandsAt, NoneStandsAt, NumberStandsAt}
+use Rattle.cs_codec.specs.Columns.{Reads}
 use Rattle.cs_codec.specs.CellLaws.{number_begins_one}
 use Rattle.cs_codec.specs.Encodings.{IsColumn, IsShort}
 use Rattle.cs_codec.specs.Cells.{IsTest}
-use Rattle.cs_codec.specs.Texts.{distinct_values, bitmap_lengths, bitmap_text, bitmaps_text}
+use Rattle.cs_codec.specs.Texts.{place_value, insert_value, distinct_values, bitmap_lengths, bitmap_text, bitmaps_text}
 use Rattle.cs_codec.specs.BitmapLaws.{bitmap_lengths_fit, bitmap_count_fits, holds_distinct, no_bitmap}
-use Rattle.cs_codec.specs.BitmapReading.{ReadsNumbers, EntryAt, ReadsEntry, NoBitmaps}
+use Rattle.cs_codec.specs.BitmapReading.{ReadsNumbers, ReadsLengths, EntryAt, ReadsEntry, AddsEntry, NoBitmaps}
 use Rattle.cs_codec.proofs.BitmapKeys.{In, to_distinct}
+
+-- there are no more values than cells
+length_distinct : {C : Type 0} (cmp : C → C → Ordering) (xs : List C) → length (distinct_values cmp xs) ≤ length xs
+length_distinct cmp [] = omega arith
+length_distinct {C} cmp (x ∷ xs) = omega (arith, inserted (distinct_values cmp xs), length_distinct cmp xs)
+  where
+    placed : (o : Ordering) (y : C) (ys deeper : List C) → length deeper ≤ suc (length ys) → length (place_value o x y ys deeper) ≤ suc (suc (length ys))
+    placed Less y ys deeper h = omega arith
+    placed Equal y ys deeper h = omega arith
+    placed Greater y ys deeper h = omega arith
+
+    inserted : (ys : List C) → length (insert_value cmp x ys) ≤ suc (length ys)
+    inserted [] = omega arith
+    inserted (y ∷ ys) = placed (cmp x y) y ys (insert_value cmp x ys) (inserted ys)
 
 -- the values that were read, those still to be read, and what is known of the first ones
 pub record EntriesAt {C : Type 0} (bytes : C → List ℕ) (is_cell : C → Type 0) (eq : C → C → Bool) (cmp : C → C → Ordering) (text : List ℕ) (at : ℕ) (Known : List C → List C → Type 0) (xs : List C) : Type 0 where
@@ -68,6 +82,13 @@ module _ {C : Type 0} (bytes : C → List ℕ) (is_cell : C → Type 0) (eq : C 
         let next = next_entry xs h.list_fits lt (so_far xs h) in
         none next.x (bitmap_lengths eq next.x xs) (flat_map (bitmap_text bytes eq xs) next.rest) next.entry
 
+    -- some text is left, though there are as many values as rows
+    pub no_more : at < length text → ((xs done : List C) → Known done xs → rows ≤ length done) → NoBitmaps bytes is_cell eq cmp text rows
+    no_more lt full xs h =
+        let now = so_far xs h in
+        let next = next_entry xs h.list_fits lt now in
+        omega (arith, ap (λ (z : List C). length z) next.all, length-append now.done (next.x ∷ next.rest), length_distinct cmp xs, h.rows_are, full xs now.done now.known)
+
     -- one more entry is read
     pub one_more_entry : (numbers : List ℕ) (found : C × ℕ) (Now : List C → List C → Type 0) → at < length text → ReadsEntry bytes is_cell text at numbers (Some found) → ((xs done : List C) (x : C) → IsColumn (bitmaps_text bytes eq cmp) IsShort is_cell text rows xs → found.0 ≡ x → numbers ≡ bitmap_lengths eq x xs → Known done xs → Now (done ++ x ∷ []) xs) → EntriesSoFar bytes is_cell eq cmp text rows found.1 Now
     one_more_entry numbers found Now lt reads step = λ xs h.
@@ -97,6 +118,24 @@ module _ {C : Type 0} (bytes : C → List ℕ) (is_cell : C → Type 0) (eq : C 
 
 -- ---- one entry
 
+pub no_count : (text : List ℕ) (at : ℕ) (numbers : List ℕ) → ((n : ℕ) (rest : List ℕ) → drop at text ≡ number n ++ rest → ⊥) → ReadsLengths text at numbers None
+no_count text at numbers none = λ ls rest few fit e. none (length ls) (flat_map number ls ++ rest) e
+
+pub lengths_read : (text : List ℕ) (at count : ℕ) → NumberStandsAt text at count → (numbers : List ℕ) (found : Option ℕ) → ReadsNumbers text (at + 4) count numbers found → ReadsLengths text at numbers found
+lengths_read text at count counted numbers found reads = by_found found reads
+  where
+    count_is : (ls rest : List ℕ) → length ls < 2 ^ 32 → drop at text ≡ number (length ls) ++ (flat_map number ls ++ rest) → (count ≡ length ls) × (drop (at + 4) text ≡ flat_map number ls ++ rest)
+    count_is ls rest few e = number_begins_one count (length ls) (drop (at + 4) text) (flat_map number ls ++ rest) counted.fits few (sym counted.parts ∙ e)
+
+    by_found : (found : Option ℕ) → ReadsNumbers text (at + 4) count numbers found → ReadsLengths text at numbers found
+    by_found None none = λ ls rest few fit e. let c = count_is ls rest few e in none ls rest (sym c.0) fit c.1
+    by_found (Some end) reads =
+        let later = reads.0 in (
+          omega arith,
+          reads.1,
+          λ ls rest few fit e. let c = count_is ls rest few e in reads.2 ls rest (sym c.0) fit c.1,
+        )
+
 pub no_value : {C : Type 0} (bytes : C → List ℕ) (is_cell : C → Type 0) (text : List ℕ) (at : ℕ) (numbers : List ℕ) → NoneStandsAt bytes is_cell text at → ReadsEntry bytes is_cell text at numbers None
 no_value bytes is_cell text at numbers none = λ x ls rest e. none x (number (length ls) ++ (flat_map number ls ++ rest)) e.holds e.parts
 
@@ -104,40 +143,31 @@ module _ {C : Type 0} (bytes : C → List ℕ) (is_cell : C → Type 0) (one : B
   value_is : (x : C) (ls rest : List ℕ) → EntryAt bytes is_cell text at x ls rest → (v ≡ x) × (drop end text ≡ number (length ls) ++ (flat_map number ls ++ rest))
   value_is x ls rest e = one v x (drop end text) (number (length ls) ++ (flat_map number ls ++ rest)) found.holds e.holds (sym found.parts ∙ e.parts)
 
-  pub no_count : (numbers : List ℕ) → ((n : ℕ) (rest : List ℕ) → drop end text ≡ number n ++ rest → ⊥) → ReadsEntry bytes is_cell text at numbers None
-  no_count numbers none = λ x ls rest e. none (length ls) (flat_map number ls ++ rest) (value_is x ls rest e).1
+  pub no_lengths : (numbers : List ℕ) → ReadsLengths text end numbers None → ReadsEntry bytes is_cell text at numbers None
+  no_lengths numbers none = λ x ls rest e. none ls rest e.few e.fit (value_is x ls rest e).1
 
-  module _ (count : ℕ) (counted : NumberStandsAt text end count) where
-    count_is : (x : C) (ls rest : List ℕ) → EntryAt bytes is_cell text at x ls rest → (count ≡ length ls) × (drop (end + 4) text ≡ flat_map number ls ++ rest)
-    count_is x ls rest e = number_begins_one count (length ls) (drop (end + 4) text) (flat_map number ls ++ rest) counted.fits e.few (sym counted.parts ∙ (value_is x ls rest e).1)
+  pub entry_read : (numbers : List ℕ) (stop : ℕ) → ReadsLengths text end numbers (Some stop) → 0 < length (bytes v) → ReadsEntry bytes is_cell text at numbers (Some (v, stop))
+  entry_read numbers stop reads some =
+      let later = reads.0 in
+      let ends = found.end_is in (
+        omega arith,
+        reads.1,
+        found.holds,
+        λ x ls rest e.
+            let same = reads.2 ls rest e.few e.fit (value_is x ls rest e).1 in
+            ((value_is x ls rest e).0, same.0, same.1),
+      )
 
-    pub no_lengths : (numbers : List ℕ) → ReadsNumbers text (end + 4) count numbers None → ReadsEntry bytes is_cell text at numbers None
-    no_lengths numbers none = λ x ls rest e. let c = count_is x ls rest e in none ls rest (sym c.0) e.fit c.1
+-- the entry of the value that was added behind the others
+pub entry_added : {C : Type 0} (bytes : C → List ℕ) (is_cell : C → Type 0) (one : BeginsOne bytes is_cell) (some : (x : C) → 0 < length (bytes x)) (text : List ℕ) (at end : ℕ) (before after : List C) → Reads bytes is_cell text at before after end → (numbers : List ℕ) (found : Option ℕ) → ReadsLengths text end numbers found → AddsEntry bytes is_cell text at before after numbers found
+entry_added bytes is_cell one some text at end before after r numbers None none = no_lengths bytes is_cell one text at r.cell end r.stands numbers none
+entry_added bytes is_cell one some text at end before after r numbers (Some stop) reads = record { value = r.cell; added = r.added; reads = entry_read bytes is_cell one text at r.cell end r.stands numbers stop reads (some r.cell) }
 
-    pub entry_read : (numbers : List ℕ) (stop : ℕ) → ReadsNumbers text (end + 4) count numbers (Some stop) → ReadsEntry bytes is_cell text at numbers (Some (v, stop))
-    entry_read numbers stop reads =
-        let later = reads.0 in
-        let ends = found.end_is in (
-          omega arith,
-          reads.1,
-          found.holds,
-          λ x ls rest e.
-              let c = count_is x ls rest e in
-              let same = reads.2 ls rest (sym c.0) e.fit c.1 in
-              ((value_is x ls rest e).0, same.0, same.1),
-        )
-
-no_values : {C : Type 0} (cmp : C → C → Ordering) (tie : (x y : C) → cmp x y ≡ Equal → x ≡ y) (xs : List C) → 0 < length xs → distinct_values cmp xs ≡ [] → ⊥
-no_values cmp tie [] lt e = omega arith
-no_values {C} cmp tie (x ∷ xs) lt e = subst (λ (z : List C). In x z) e (to_distinct cmp tie x (x ∷ xs) (inl refl))
-
--- some cells have some text
-pub some_text : {C : Type 0} (bytes : C → List ℕ) (is_cell : C → Type 0) (eq : C → C → Bool) (t : IsTest eq) (cmp : C → C → Ordering) (ties : (x y : C) → eq x y ≡ is_eq (cmp x y)) (text : List ℕ) (rows : ℕ) (xs : List C) → 0 < rows → IsColumn (bitmaps_text bytes eq cmp) IsShort is_cell text rows xs → 0 < length text
-some_text {C} bytes is_cell eq t cmp ties text rows xs lt h = elim (cases_lt 0 (length text)) [
-  | inl some ↦ some
-  | inr ge ↦ absurd (no_values cmp (λ x y e. t.exact x y (ties x y ∙ ap is_eq e)) xs (omega (arith, h.rows_are)) (none_left (distinct_values cmp xs) (sym (drop_all 0 text ge) ∙ h.text_is)))
-]
+-- some cells have some value
+pub some_value : {C : Type 0} (eq : C → C → Bool) (t : IsTest eq) (cmp : C → C → Ordering) (ties : (x y : C) → eq x y ≡ is_eq (cmp x y)) (xs : List C) → 0 < length xs → 0 < length (distinct_values cmp xs)
+some_value eq t cmp ties [] lt = omega arith
+some_value {C} eq t cmp ties (x ∷ xs) lt = by_values (distinct_values cmp (x ∷ xs)) (to_distinct cmp (λ y z e. t.exact y z (ties y z ∙ ap is_eq e)) x (x ∷ xs) (inl refl))
   where
-    none_left : (rest : List C) → [] ≡ flat_map (bitmap_text bytes eq xs) rest → rest ≡ []
-    none_left [] e = refl
-    none_left (x ∷ rest) e = absurd (no_bitmap bytes eq xs x (flat_map (bitmap_text bytes eq xs) rest) e)
+    by_values : (values : List C) → In x values → 0 < length values
+    by_values [] m = absurd m
+    by_values (y ∷ values) m = omega arith

@@ -5,6 +5,9 @@ pub mod BitmapKeys
 pub mod BitmapEntries
 pub mod BitmapSteps
 pub mod RunReading
+pub mod RunColumns
+pub mod RunColumnReading
+pub mod ColumnRanges
 pub mod RiseLists
 pub mod EntryReading
 pub mod EntryPainting

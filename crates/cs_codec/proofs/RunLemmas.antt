@@ -2,9 +2,8 @@
 use Rattle.std.proofs.Common.{◌≡◌, ℕ, zero, suc, ◌+◌, ◌<◌, ◌≤◌, Bool, true, false, List, [], ◌∷◌, ◌++◌, length, get_or, take, drop, set, replicate, refl, sym, ap, subst, ◌∙◌, append_assoc, arith, add-zero}
 use Rattle.std.specs.List.{AllByRecursion}
 use Rattle.std.proofs.lemmas.List.{get_or_read, take-append-drop, append-nil, length-append, length-replicate, take_more, take_all, set_split, drop_all, replicate-append-replicate}
-use Rattle.cs_codec.specs.declared.runs.Run.{Run}
 use Rattle.cs_codec.specs.Cells.{number}
-use Rattle.cs_codec.specs.Runs.{expand, BeginsOther, IsProper, written_from}
+use Rattle.cs_codec.specs.Runs.{Run, expand, BeginsOther, IsProper, written_from}
 use Rattle.cs_codec.specs.Runs.{RunsHold}
 use Rattle.cs_codec.specs.Cells.{IsTest}
 

@@ -1,10 +1,9 @@
 -- Reading runs: what stands in the text, and why it is no text of runs.
 use Rattle.std.proofs.Common.{◌≡◌, ℕ, suc, ◌+◌, ◌^◌, ◌<◌, ◌≤◌, Bool, true, false, not, IsTrue, List, [], ◌∷◌, ◌++◌, length, get_or, drop, refl, sym, ap, subst, ◌∙◌, append_assoc, arith, add-zero}
 use Rattle.std.proofs.lemmas.List.{append-nil, length-append, length-drop, drop_all}
-use Rattle.cs_codec.specs.declared.runs.Run.{Run}
 use Rattle.cs_codec.specs.Cells.{number, BeginsOne, StandsAt, NumberStandsAt}
 use Rattle.cs_codec.specs.CellLaws.{same_fronts, length-number}
-use Rattle.cs_codec.specs.Runs.{expand, IsProper, written_from}
+use Rattle.cs_codec.specs.Runs.{Run, expand, IsProper, written_from}
 use Rattle.std.specs.List.{AllByRecursion}
 use Rattle.cs_codec.specs.Texts.{runs_text}
 use Rattle.cs_codec.specs.Encodings.{IsColumn, IsShort}

@@ -1,5 +1,5 @@
 -- What is read of a text of bitmaps.
-use Rattle.std.specs.Prelude.{◌≡◌, ℕ, ◌≤◌, ◌^◌, ◌<◌, Bool, List, ◌++◌, length, drop, flat_map, Option, Some, None}
+use Rattle.std.specs.Prelude.{◌≡◌, ℕ, ◌≤◌, ◌^◌, ◌<◌, Bool, List, [], ◌∷◌, ◌++◌, length, drop, flat_map, Option, Some, None}
 use Rattle.std.specs.List.{AllByRecursion}
 use Rattle.std.specs.declared.cmp.Ordering.{Ordering}
 use Rattle.cs_codec.specs.Cells.{number}
@@ -12,6 +12,11 @@ abbrev pub ReadsNumbers : List ℕ → ℕ → ℕ → List ℕ → Option ℕ �
 ReadsNumbers bytes start count numbers None = (ls rest : List ℕ) → length ls ≡ count → AreNumbers ls → drop start bytes ≡ flat_map number ls ++ rest → ⊥
 ReadsNumbers bytes start count numbers (Some end) = (start ≤ end) × (end ≤ length bytes) × ((ls rest : List ℕ) → length ls ≡ count → AreNumbers ls → drop start bytes ≡ flat_map number ls ++ rest → (numbers ≡ ls) × (drop end bytes ≡ rest))
 
+-- the count of some numbers and these numbers stand there up to the end, or no such
+abbrev pub ReadsLengths : List ℕ → ℕ → List ℕ → Option ℕ → Type 0
+ReadsLengths bytes start numbers None = (ls rest : List ℕ) → length ls < 2 ^ 32 → AreNumbers ls → drop start bytes ≡ number (length ls) ++ (flat_map number ls ++ rest) → ⊥
+ReadsLengths bytes start numbers (Some end) = (start ≤ end) × (end ≤ length bytes) × ((ls rest : List ℕ) → length ls < 2 ^ 32 → AreNumbers ls → drop start bytes ≡ number (length ls) ++ (flat_map number ls ++ rest) → (numbers ≡ ls) × (drop end bytes ≡ rest))
+
 -- The text goes on with the entry of a value, these lengths, and then the rest.
 pub record EntryAt {C : Type 0} (bytes : C → List ℕ) (is_cell : C → Type 0) (text : List ℕ) (start : ℕ) (x : C) (ls rest : List ℕ) : Type 0 where
   pub holds : is_cell x
@@ -23,6 +28,17 @@ pub record EntryAt {C : Type 0} (bytes : C → List ℕ) (is_cell : C → Type 0
 abbrev pub ReadsEntry : {C : Type 0} → (C → List ℕ) → (C → Type 0) → List ℕ → ℕ → List ℕ → Option (C × ℕ) → Type 0
 ReadsEntry {C} bytes is_cell text start numbers None = (x : C) (ls rest : List ℕ) → EntryAt bytes is_cell text start x ls rest → ⊥
 ReadsEntry {C} bytes is_cell text start numbers (Some found) = (start < found.1) × (found.1 ≤ length text) × is_cell found.0 × ((x : C) (ls rest : List ℕ) → EntryAt bytes is_cell text start x ls rest → (found.0 ≡ x) × (numbers ≡ ls) × (drop found.1 text ≡ rest))
+
+-- One entry stands there with these lengths, and its value was added behind the others.
+pub record AddsValue {C : Type 0} (bytes : C → List ℕ) (is_cell : C → Type 0) (text : List ℕ) (start : ℕ) (before after : List C) (numbers : List ℕ) (end : ℕ) : Type 0 where
+  pub value : C
+  pub added : after ≡ before ++ value ∷ []
+  pub reads : ReadsEntry bytes is_cell text start numbers (Some (value, end))
+
+-- the one entry that stands there, or none stands there
+abbrev pub AddsEntry : {C : Type 0} → (C → List ℕ) → (C → Type 0) → List ℕ → ℕ → List C → List C → List ℕ → Option ℕ → Type 0
+AddsEntry bytes is_cell text start before after numbers None = ReadsEntry bytes is_cell text start numbers None
+AddsEntry bytes is_cell text start before after numbers (Some end) = AddsValue bytes is_cell text start before after numbers end
 
 -- So many cells; and a column with this text has just these.
 pub record IsOnlyCandidate {C : Type 0} (bytes : C → List ℕ) (is_cell : C → Type 0) (eq : C → C → Bool) (cmp : C → C → Ordering) (text : List ℕ) (rows : ℕ) (cells : List C) : Type 0 where

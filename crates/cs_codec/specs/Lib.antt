@@ -1,4 +1,5 @@
 pub mod Cells
+pub mod Columns
 pub mod Texts
 pub mod ColumnText
 pub mod TextMaps

@@ -2,11 +2,10 @@
 use Rattle.std.proofs.Common.{◌≡◌, ℕ, zero, suc, ◌+◌, ◌^◌, ◌<◌, ◌≤◌, Bool, true, false, cond, not, List, [], ◌∷◌, ◌++◌, length, replicate, Option, Some, None, refl, sym, ap, subst, ◌∙◌, append_assoc, arith, add-zero, zero-add}
 use Rattle.std.specs.List.{AllByRecursion}
 use Rattle.std.proofs.lemmas.List.{length-append, length-replicate}
-use Rattle.cs_codec.specs.declared.runs.Run.{Run}
 use Rattle.cs_codec.specs.Cells.{number, BeginsOne}
 use Rattle.cs_codec.specs.CellLaws.{number_begins_one, length-number}
 use Rattle.cs_codec.specs.Texts.{differs, kept, runs_text_from, runs_text}
-use Rattle.cs_codec.specs.Runs.{expand, BeginsOther, IsProper, written_from}
+use Rattle.cs_codec.specs.Runs.{Run, expand, BeginsOther, IsProper, written_from}
 use Rattle.cs_codec.specs.Cells.{IsTest}
 use Rattle.cs_codec.specs.Runs.{RunsHold}
 
@@ -70,7 +69,7 @@ abbrev pub runs_of : {C : Type 0} → (C → C → Bool) → List C → List (Ru
 runs_of eq [] = []
 runs_of eq (x ∷ xs) = before_runs eq x (runs_of eq xs)
 
-cases_bool : {P : Type 0} (b : Bool) → (b ≡ true → P) → (b ≡ false → P) → P
+pub cases_bool : {P : Type 0} (b : Bool) → (b ≡ true → P) → (b ≡ false → P) → P
 cases_bool true f g = f refl
 cases_bool false f g = g refl
 

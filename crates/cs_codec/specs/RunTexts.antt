@@ -1,8 +1,7 @@
 -- What stands in the text of runs.
-use Rattle.std.specs.Prelude.{◌≡◌, ℕ, ◌^◌, ◌<◌, ◌≤◌, Bool, List, ◌++◌, length, drop}
-use Rattle.cs_codec.specs.declared.runs.Run.{Run}
+use Rattle.std.specs.Prelude.{◌≡◌, ℕ, ◌-◌, ◌^◌, ◌<◌, ◌≤◌, Bool, List, [], ◌∷◌, ◌++◌, length, drop, slice_get}
 use Rattle.cs_codec.specs.Cells.{number}
-use Rattle.cs_codec.specs.Runs.{expand, IsProper, written_from}
+use Rattle.cs_codec.specs.Runs.{Run, expand, IsProper, written_from}
 use Rattle.cs_codec.specs.Runs.{RunsHold}
 
 -- A run stands in the text at `start`, with this position, up to `end`.
@@ -25,6 +24,22 @@ pub record AreRunsOf {C : Type 0} (bytes : C → List ℕ) (is_cell : C → Type
   pub proper : IsProper eq runs
   pub hold : RunsHold is_cell runs
 
--- The text is that of no runs with so many cells.
-abbrev pub NoRunsOf : {C : Type 0} → (C → List ℕ) → (C → Type 0) → (C → C → Bool) → List ℕ → ℕ → Type 0
-NoRunsOf {C} bytes is_cell eq text rows = (runs : List (Run C)) → AreRunsOf bytes is_cell eq text rows runs → ⊥
+-- A run stands in the text at `start`, and its value was added behind the others.
+pub record ReadsRun {C : Type 0} (bytes : C → List ℕ) (is_cell : C → Type 0) (text : List ℕ) (start : ℕ) (before after : List C) (position count end : ℕ) : Type 0 where
+  pub value : C
+  pub added : after ≡ before ++ value ∷ []
+  pub stands : RunStandsAt bytes is_cell text start (record { value = value; count = count }) position end
+
+-- The cell at a place is another one than the cell before it, if there is one.
+abbrev pub Differs : {C : Type 0} → List C → ℕ → Type 0
+Differs cells at = 0 < at → slice_get cells (at - 1) ≡ slice_get cells at → ⊥
+
+-- These cells were read as runs.
+pub record HasRead {C : Type 0} (bytes : C → List ℕ) (is_cell : C → Type 0) (eq : C → C → Bool) (text : List ℕ) (rows at : ℕ) (cells : List C) : Type 0 where
+  pub runs : List (Run C)
+  pub cells_are : expand runs ≡ cells
+  pub written : text ≡ written_from bytes 1 runs ++ drop at text
+  pub proper : IsProper eq runs
+  pub hold : RunsHold is_cell runs
+  pub few : length cells ≤ rows
+  pub within : at ≤ length text

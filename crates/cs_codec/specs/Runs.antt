@@ -1,7 +1,17 @@
 -- Lists of runs, and the lists of cells that they stand for.
 use Rattle.std.specs.Prelude.{◌≡◌, ℕ, ◌+◌, ◌<◌, ◌≤◌, Bool, false, List, [], ◌∷◌, ◌++◌, length, replicate, Option, Some, None}
-use Rattle.cs_codec.specs.declared.runs.Run.{Run}
 use Rattle.cs_codec.specs.Cells.{number}
+
+-- neighbouring cells of one value
+pub record Run (C : Type 0) : Type 0 where
+  pub value : C
+  pub count : ℕ
+
+-- the runs with these values and these lengths
+abbrev pub zip_runs : {C : Type 0} → List C → List ℕ → List (Run C)
+zip_runs [] counts = []
+zip_runs (v ∷ values) [] = []
+zip_runs (v ∷ values) (n ∷ counts) = record { value = v; count = n } ∷ zip_runs values counts
 
 -- the cells of the runs, one after the other
 abbrev pub expand : {C : Type 0} → List (Run C) → List C
@@ -28,11 +38,16 @@ abbrev pub kept_cells : {C : Type 0} → (ℕ → C) → Option ℕ → List (Ru
 kept_cells of_bits None runs = expand runs
 kept_cells of_bits (Some n) runs = of_bits n ∷ []
 
+-- values and lengths are those of proper runs, one beside the other
+pub record AreColumnsOfRuns {C : Type 0} (eq : C → C → Bool) (values : List C) (counts : List ℕ) : Type 0 where
+  pub aligned : length values ≡ length counts
+  pub proper : IsProper eq (zip_runs values counts)
+
 -- what a part of a column keeps of its runs
-pub record AreRuns {C : Type 0} (of_bits : ℕ → C) (eq : C → C → Bool) (lone : Option ℕ) (runs : List (Run C)) (count : ℕ) : Type 0 where
-  pub proper : IsProper eq runs
-  pub short : length (kept_cells of_bits lone runs) ≤ 1048576
-  pub count_is : count ≡ length (kept_cells of_bits lone runs)
+pub record AreRuns {C : Type 0} (of_bits : ℕ → C) (eq : C → C → Bool) (lone : Option ℕ) (values : List C) (counts : List ℕ) (count : ℕ) : Type 0 where
+  pub runs : AreColumnsOfRuns eq values counts
+  pub short : length (kept_cells of_bits lone (zip_runs values counts)) ≤ 1048576
+  pub count_is : count ≡ length (kept_cells of_bits lone (zip_runs values counts))
 
 -- each run's value is a cell
 abbrev pub RunsHold : {C : Type 0} → (C → Type 0) → List (Run C) → Type 0

@@ -1,12 +1,12 @@
 //! The column that bytes may be the bitmaps of.
-ghost use Rattle.std.specs.Prelude.{◌≡◌, ◌≤◌, ◌<◌, false, IsTrue, IfOk, IfSome, IfNone, OnOk, length};
-ghost use Rattle.std.specs.List.{AllByRecursion};
-ghost use Rattle.cs_codec.specs.Bitmaps.{bits_from};
-ghost use Rattle.cs_codec.specs.Bitmaps.{total, ones_of};
+ghost use Rattle.std.specs.Prelude.{◌≡◌, ◌≤◌, ◌<◌, false, replicate, IsTrue, IfOk, IfSome, IfNone, length};
+ghost use Rattle.cs_codec.specs.Bitmaps.{bits_from, total, ones_of};
 ghost use Rattle.cs_codec.specs.Painting.{PaintsRun, Painted};
-ghost use Rattle.cs_codec.specs.BitmapReading.{ReadsNumbers, ReadsEntry, NoBitmaps, IsOnlyCandidate};
+ghost use Rattle.cs_codec.specs.BitmapReading.{ReadsNumbers, ReadsLengths, ReadsEntry, AddsEntry, NoBitmaps};
+ghost use Rattle.cs_codec.specs.BitmapReading.{IsOnlyCandidate};
 
 use crate::cell::Cell;
+use crate::column::Column;
 use crate::numbers::read_number;
 use std::alloc::{AllocError, Global};
 
@@ -32,49 +32,37 @@ fn read_numbers(
     Ok(Some(end))
 }
 
-/// Gives the positions from `start` up to `stop` the value.
-fn paint_run<C: Cell>(
-    cells: &mut Vec<C>,
-    value: &C,
-    start: usize,
-    stop: usize,
-) -> Result<(), AllocError>
+/// Gives the rows from `start` up to `stop` the number.
+fn paint_run(numbers: &mut Vec<u32>, number: u32, start: usize, stop: usize)
     requires order { start ≤ stop }
-    requires within { stop ≤ length cells.old.items }
-    ensures painted { OnOk result (PaintsRun value.now start stop cells.old.items cells.new.items) }
-    ensures hold { OnOk result (C.is_cell value.now → AllByRecursion C.is_cell cells.old.items
-        → AllByRecursion C.is_cell cells.new.items) }
+    requires within { stop ≤ length numbers.old.items }
+    ensures { PaintsRun number start stop numbers.old.items numbers.new.items }
 {
     for k in start..stop {
-        cells[k] = value.copy(*cells.allocator())?;
+        numbers[k] = number;
     }
-    Ok(())
 }
 
-/// Gives the positions that the lengths of a bitmap name the value; not where they go past the last one.
-fn paint<C: Cell>(cells: &mut Vec<C>, value: &C, lengths: &[u32]) -> Result<bool, AllocError>
-    ensures painted { IfOk result (λ all. IsTrue all
-        → Painted value.now (bits_from false lengths.now) cells.old.items cells.new.items) }
-    ensures too_long { IfOk result (λ all. all ≡ false → length cells.old.items < total lengths.now) }
-    ensures size { OnOk result (length cells.new.items ≡ length cells.old.items) }
-    ensures hold { OnOk result (C.is_cell value.now → AllByRecursion C.is_cell cells.old.items
-        → AllByRecursion C.is_cell cells.new.items) }
+/// Gives the rows that the lengths of a bitmap name the number; not where they go past the last one.
+fn paint(numbers: &mut Vec<u32>, number: u32, lengths: &[u32]) -> bool
+    ensures painted { IsTrue result → Painted number (bits_from false lengths.now) numbers.old.items numbers.new.items }
+    ensures too_long { result ≡ false → length numbers.old.items < total lengths.now }
 {
     let mut position = 0;
     let mut ones = false;
     for length in lengths {
         let count = *length as usize;
-        if count > cells.len() - position {
-            return Ok(false);
+        if count > numbers.len() - position {
+            return false;
         }
         let stop = position + count;
         if ones {
-            paint_run(cells, value, position, stop)?;
+            paint_run(numbers, number, position, stop);
         }
         position = stop;
         ones = !ones;
     }
-    Ok(true)
+    true
 }
 
 /// How many ones the lengths count, if these are at most `limit`.
@@ -97,6 +85,20 @@ fn count_ones(lengths: &[u32], limit: u32) -> Option<u32>
     Some(count)
 }
 
+/// The end of an entry whose value ends at `at`. `lengths` becomes the lengths of its bitmap.
+fn read_lengths(
+    lengths: &mut Vec<u32>,
+    bytes: &[u8],
+    at: usize,
+) -> Result<Option<usize>, AllocError>
+    ensures { IfOk result (λ found. ReadsLengths bytes.now at lengths.new.items found) }
+{
+    let Some(count) = read_number(bytes, at) else {
+        return Ok(None);
+    };
+    read_numbers(lengths, bytes, at + 4, count)
+}
+
 /// The value of the entry that stands at `at`, and the entry's end. `lengths` becomes the lengths of its bitmap.
 fn read_entry<C: Cell>(
     lengths: &mut Vec<u32>,
@@ -105,16 +107,30 @@ fn read_entry<C: Cell>(
 ) -> Result<Option<(C, usize)>, AllocError>
     ensures { IfOk result (λ found. ReadsEntry C.bytes C.is_cell bytes.now at lengths.new.items found) }
 {
-    let Some((value, end)) = C::read(*lengths.allocator(), bytes, at)? else {
+    let Some((value, end)) = C::read(bytes, at) else {
         return Ok(None);
     };
-    let Some(count) = read_number(bytes, end) else {
-        return Ok(None);
-    };
-    let Some(stop) = read_numbers(lengths, bytes, end + 4, count)? else {
+    let Some(stop) = read_lengths(lengths, bytes, end)? else {
         return Ok(None);
     };
     Ok(Some((value, stop)))
+}
+
+/// The end of the entry that stands at `at`, whose value becomes the last one of the values. `lengths` becomes the
+/// lengths of its bitmap.
+fn add_entry<C: Cell, L: Column<C>>(
+    values: &mut L,
+    lengths: &mut Vec<u32>,
+    bytes: &[u8],
+    at: usize,
+) -> Result<Option<usize>, AllocError>
+    ensures { IfOk result (λ found.
+        AddsEntry C.bytes C.is_cell bytes.now at (L.cells values.old) (L.cells values.new) lengths.new.items found) }
+{
+    let Some(end) = values.read(bytes, at)? else {
+        return Ok(None);
+    };
+    read_lengths(lengths, bytes, end)
 }
 
 /// Whether the entries name as many positions as there are rows, before anything is reserved for these.
@@ -142,53 +158,50 @@ pub(crate) fn names_all_rows<C: Cell>(
     Ok(named == rows)
 }
 
-/// The one column whose text the bytes may be, where the entries name as many positions as there are rows.
-pub(crate) fn candidate<C: Cell>(
+/// The one column whose text the bytes may be, where the entries name as many positions as there are rows. The values
+/// come in their order, and not in that of the rows: each row has the number of its value, until all are there.
+pub(crate) fn candidate<C: Cell, L: Column<C>>(
     alloc: Global,
     bytes: &[u8],
     rows: u32,
-) -> Result<Option<Vec<C>>, AllocError>
-    ensures found { IfOk result (λ found. IfSome found (λ cells.
-        IsOnlyCandidate C.bytes C.is_cell C.eq C.cmp bytes.now rows cells.items)) }
+) -> Result<Option<L>, AllocError>
+    ensures found { IfOk result (λ found. IfSome found (λ column.
+        IsOnlyCandidate C.bytes C.is_cell C.eq C.cmp bytes.now rows (L.cells column))) }
     ensures none { IfOk result (λ found. IfNone found (NoBitmaps C.bytes C.is_cell C.eq C.cmp bytes.now rows)) }
 {
-    let Some(mut cells) = first_cells(alloc, bytes, rows)? else {
-        return Ok(None);
-    };
+    let mut values = L::new(alloc);
+    let mut numbers = zeros(alloc, rows)?;
     let mut lengths = Vec::new(alloc);
+    let mut count = 0;
     let mut at = 0;
     while at < bytes.len() {
-        let Some((value, next)) = read_entry(&mut lengths, bytes, at)? else {
-            return Ok(None);
-        };
-        let all = paint(&mut cells, &value, &lengths)?;
-        if !all {
+        if count == rows {
             return Ok(None);
         }
+        let Some(next) = add_entry(&mut values, &mut lengths, bytes, at)? else {
+            return Ok(None);
+        };
+        if !paint(&mut numbers, count, &lengths) {
+            return Ok(None);
+        }
+        count += 1;
         at = next;
     }
-    Ok(Some(cells))
+    if count == 0 && rows > 0 {
+        return Ok(None);
+    }
+    let mut column = L::new(alloc);
+    column.push_at(&values, &numbers)?;
+    Ok(Some(column))
 }
 
-/// So many times the first value.
-fn first_cells<C: Cell>(
-    alloc: Global,
-    bytes: &[u8],
-    rows: u32,
-) -> Result<Option<Vec<C>>, AllocError>
-    ensures size { IfOk result (λ found. IfSome found (λ cells. length cells.items ≡ rows)) }
-    ensures hold { IfOk result (λ found. IfSome found (λ cells. AllByRecursion C.is_cell cells.items)) }
-    ensures none { IfOk result (λ found. IfNone found (NoBitmaps C.bytes C.is_cell C.eq C.cmp bytes.now rows)) }
+/// So many zeros.
+fn zeros(alloc: Global, rows: u32) -> Result<Vec<u32>, AllocError>
+    ensures { IfOk result (λ numbers. numbers.items ≡ replicate rows 0) }
 {
-    if rows == 0 {
-        return Ok(Some(Vec::new(alloc)));
-    }
-    let Some((first, _)) = C::read(alloc, bytes, 0)? else {
-        return Ok(None);
-    };
-    let mut cells = Vec::with_capacity(alloc, rows as usize)?;
+    let mut numbers = Vec::with_capacity(alloc, rows as usize)?;
     for _ in 0..rows {
-        cells.push(first.copy(alloc)?)?;
+        numbers.push(0)?;
     }
-    Ok(Some(cells))
+    Ok(numbers)
 }

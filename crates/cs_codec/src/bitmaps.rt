@@ -1,5 +1,5 @@
 //! Columns as the positions of each value.
-ghost use Rattle.std.specs.Prelude.{◌≡◌, ◌≤◌, ◌<◌, ◌+◌, ◌++◌, List, [], ◌∷◌, IfOk, OnOk, length, flat_map};
+ghost use Rattle.std.specs.Prelude.{◌≡◌, ◌≤◌, ◌<◌, ◌+◌, ◌-◌, ◌++◌, List, [], ◌∷◌, IfOk, OnOk, length, take, drop, flat_map};
 ghost use Rattle.cs_codec.specs.Encodings.{IsShort};
 ghost use Rattle.cs_codec.specs.Texts.{bitmaps_text};
 ghost use Rattle.cs_codec.specs.Bitmaps.{entry_text, total, or_empty};
@@ -12,7 +12,8 @@ ghost use Rattle.cs_codec.specs.TextMaps.{bitmaps_of_code};
 use crate::bitmap::Bitmap;
 use crate::bitmap_reading::{candidate, names_all_rows};
 use crate::cell::Cell;
-use crate::encoding::{CodecFault, Encoding};
+use crate::column::Column;
+use crate::encoding::{CodecFault, ColumnEncoding};
 use crate::few_cells::{FEW, FewCells, copies};
 use crate::numbers::write_number;
 use cs_schema::Code;
@@ -54,7 +55,7 @@ fn add_one<C: Cell>(
     }
     let mut bitmap = Bitmap::new(alloc);
     bitmap.add(position)?;
-    bitmaps.insert(value.copy(alloc)?, bitmap)?;
+    bitmaps.insert(value.copy(), bitmap)?;
     Ok(())
 }
 
@@ -80,19 +81,24 @@ fn add_bitmap<C: Cell>(
     Ok(())
 }
 
-/// Adds the cells that come after the first `before` ones.
-fn add_cells<C: Cell>(
+/// Adds the cells of a column from one place up to another, which come after the first `before` ones.
+fn add_cells<C: Cell, L: Column<C>>(
     alloc: Global,
     bitmaps: &mut BTreeMap<C, Bitmap>,
     before: u32,
-    cells: &[C],
+    column: &L,
+    from: usize,
+    to: usize,
 ) -> Result<(), AllocError>
-    requires { HasRoom C.eq C.cmp bitmaps.old before (length cells.now) }
-    ensures { OnOk result (GoOn C.eq C.cmp bitmaps.old bitmaps.new before cells.now) }
+    requires order { from ≤ to }
+    requires within { to ≤ length (L.cells column.now) }
+    requires room { HasRoom C.eq C.cmp bitmaps.old before (to - from) }
+    ensures { OnOk result (GoOn C.eq C.cmp bitmaps.old bitmaps.new before
+        (take (to - from) (drop from (L.cells column.now)))) }
 {
     let mut position = before;
-    for cell in cells {
-        add_one(alloc, bitmaps, cell, position)?;
+    for at in from..to {
+        add_one(alloc, bitmaps, &column.cell(at), position)?;
         position += 1;
     }
     Ok(())
@@ -115,25 +121,51 @@ fn add_bitmaps<C: Cell>(
     Ok(())
 }
 
-/// The bitmaps of these cells.
-fn bitmaps_of<C: Cell>(alloc: Global, cells: &[C]) -> Result<BTreeMap<C, Bitmap>, AllocError>
-    requires { IsShort cells.now }
-    ensures { IfOk result (λ bitmaps. AreBitmaps C.eq C.cmp bitmaps cells.now) }
+/// The bitmaps of the cells of a column from one place up to another.
+fn bitmaps_of<C: Cell, L: Column<C>>(
+    alloc: Global,
+    column: &L,
+    from: usize,
+    to: usize,
+) -> Result<BTreeMap<C, Bitmap>, AllocError>
+    requires order { from ≤ to }
+    requires within { to ≤ length (L.cells column.now) }
+    requires short { to - from ≤ 1048576 }
+    ensures { IfOk result (λ bitmaps. AreBitmaps C.eq C.cmp bitmaps
+        (take (to - from) (drop from (L.cells column.now)))) }
 {
     let mut bitmaps = BTreeMap::new(alloc);
-    add_cells(alloc, &mut bitmaps, 0, cells)?;
+    add_cells(alloc, &mut bitmaps, 0, column, from, to)?;
     Ok(bitmaps)
 }
 
-/// What a part keeps of these cells.
-fn keep<C: Cell>(alloc: Global, cells: &[C]) -> Result<Kept<C>, AllocError>
-    requires { IsShort cells.now }
-    ensures { IfOk result (λ kept. Keeps C.eq C.cmp kept cells.now) }
+/// The bitmaps of the cells of a column.
+fn bitmaps_of_all<C: Cell, L: Column<C>>(
+    alloc: Global,
+    column: &L,
+) -> Result<BTreeMap<C, Bitmap>, AllocError>
+    requires { IsShort (L.cells column.now) }
+    ensures { IfOk result (λ bitmaps. AreBitmaps C.eq C.cmp bitmaps (L.cells column.now)) }
 {
-    if cells.len() <= FEW {
-        return Ok(Kept::Cells(copies(alloc, cells)?));
+    bitmaps_of(alloc, column, 0, column.len())
+}
+
+/// What a part keeps of the cells of a column from one place up to another.
+fn keep<C: Cell, L: Column<C>>(
+    alloc: Global,
+    column: &L,
+    from: usize,
+    to: usize,
+) -> Result<Kept<C>, AllocError>
+    requires order { from ≤ to }
+    requires within { to ≤ length (L.cells column.now) }
+    requires short { to - from ≤ 1048576 }
+    ensures { IfOk result (λ kept. Keeps C.eq C.cmp kept (take (to - from) (drop from (L.cells column.now)))) }
+{
+    if to - from <= FEW {
+        return Ok(Kept::Cells(copies(alloc, column, from, to)?));
     }
-    Ok(Kept::Bitmaps(bitmaps_of(alloc, cells)?))
+    Ok(Kept::Bitmaps(bitmaps_of(alloc, column, from, to)?))
 }
 
 /// The bitmaps of what a part keeps.
@@ -142,7 +174,7 @@ fn into_bitmaps<C: Cell>(kept: Kept<C>) -> Result<BTreeMap<C, Bitmap>, AllocErro
         → AreBitmaps C.eq C.cmp bitmaps cells) }
 {
     match kept {
-        Kept::Cells(few) => bitmaps_of(*few.cells.allocator(), &few.cells),
+        Kept::Cells(few) => bitmaps_of_all(*few.cells.allocator(), &few.cells),
         Kept::Bitmaps(bitmaps) => Ok(bitmaps),
     }
 }
@@ -158,7 +190,10 @@ fn add_kept<C: Cell>(
         → GoOn C.eq C.cmp bitmaps.old bitmaps.new before cells) }
 {
     match kept {
-        Kept::Cells(few) => add_cells(*few.cells.allocator(), bitmaps, before, &few.cells),
+        Kept::Cells(few) => {
+            let cells = &few.cells;
+            add_cells(*cells.allocator(), bitmaps, before, cells, 0, cells.len())
+        }
         Kept::Bitmaps(others) => add_bitmaps(bitmaps, before, others),
     }
 }
@@ -189,7 +224,7 @@ fn text_of<C: Cell>(alloc: Global, bitmaps: &BTreeMap<C, Bitmap>) -> Result<Vec<
 /// Columns as bitmaps: of each distinct value, ascending, the lengths of the runs of positions without and with it.
 pub struct Bitmaps;
 
-impl<C: Cell> Encoding<C> for Bitmaps {
+impl<C: Cell, L: Column<C>> ColumnEncoding<C, L> for Bitmaps {
     const CODE: Code = Code::Bitmaps;
 
     ghost CODE = { Code.Bitmaps };
@@ -202,10 +237,15 @@ impl<C: Cell> Encoding<C> for Bitmaps {
 
     ghost is_part = { IsBitmapsPart C.eq C.cmp };
 
-    fn encode(alloc: Global, cells: &[C]) -> Result<BitmapsPart<C>, AllocError> {
+    fn encode(
+        alloc: Global,
+        column: &L,
+        from: usize,
+        to: usize,
+    ) -> Result<BitmapsPart<C>, AllocError> {
         Ok(BitmapsPart {
-            kept: keep(alloc, cells)?,
-            count: cells.len() as u32,
+            kept: keep(alloc, column, from, to)?,
+            count: (to - from) as u32,
         })
     }
 
@@ -224,24 +264,24 @@ impl<C: Cell> Encoding<C> for Bitmaps {
 
     fn write(alloc: Global, part: &BitmapsPart<C>) -> Result<Vec<u8>, AllocError> {
         match &part.kept {
-            Kept::Cells(few) => text_of(alloc, &bitmaps_of(alloc, &few.cells)?),
+            Kept::Cells(few) => text_of(alloc, &bitmaps_of_all(alloc, &few.cells)?),
             Kept::Bitmaps(bitmaps) => text_of(alloc, bitmaps),
         }
     }
 
-    fn read(alloc: Global, bytes: &[u8], rows: u32) -> Result<Vec<C>, CodecFault> {
+    fn read(alloc: Global, bytes: &[u8], rows: u32) -> Result<L, CodecFault> {
         if !names_all_rows::<C>(alloc, bytes, rows)? {
             return Err(CodecFault::NotAText);
         }
-        let Some(cells) = candidate(alloc, bytes, rows)? else {
+        let Some(column) = candidate::<C, L>(alloc, bytes, rows)? else {
             return Err(CodecFault::NotAText);
         };
-        let bitmaps = bitmaps_of(alloc, &cells)?;
+        let bitmaps = bitmaps_of_all::<C, L>(alloc, &column)?;
         let text = text_of(alloc, &bitmaps)?;
         if text.as_slice() != bytes {
             return Err(CodecFault::NotAText);
         }
-        Ok(cells)
+        Ok(column)
     }
 
     ghost one_list = { bitmaps_have_one_list C.bytes C.is_cell C.eq C.cmp

@@ -1,15 +1,14 @@
 //! Cells as bytes: an integer in eight, in two's complement, the highest first; a text as its length and its bytes.
-ghost use Rattle.std.specs.Prelude.{◌≡◌, ℕ, ◌+◌, ◌≤◌, List, ◌++◌, OnOk, OnErr, IfSome, IfNone, true, IfOk, length, ◌<◌, [], ◌∷◌};
+ghost use Rattle.std.specs.Prelude.{◌≡◌, ℕ, ◌+◌, ◌≤◌, List, ◌++◌, OnOk, OnErr, IfSome, IfNone, true, length, ◌<◌, []};
 ghost use Rattle.std.specs.Int.{w64, to_be_bytes, cast_signed};
 ghost use Rattle.cs_schema.specs.declared.cells.Value.{Value};
-ghost use Rattle.cs_codec.specs.Cells.{number, int_cell, IsInt, text_cell, IsText, StandsAt, NoneStandsAt, BeginsOne};
-ghost use Rattle.cs_codec.specs.Texts.{plain_text};
+ghost use Rattle.cs_codec.specs.Cells.{int_cell, IsInt, text_cell, IsText, StandsAt, NoneStandsAt, BeginsOne};
 ghost use Rattle.cs_codec.specs.TextMaps.{IsValueOf, ints_are_values, texts_are_values};
 ghost use Rattle.cs_codec.specs.CellLaws.{int_exact, int_begins_one, text_exact, text_begins_one, int_some_bytes, text_some_bytes};
 
 use crate::numbers::u64_at;
-use cs_schema::Text;
-use std::alloc::{AllocError, Global};
+use cs_schema::Word;
+use std::alloc::AllocError;
 use std::str;
 
 /// What a column holds: values with an order, each with bytes of its own.
@@ -32,13 +31,13 @@ pub trait Cell: Ord + Drop {
         ensures err { OnErr result (out.new.items ≡ out.old.items) };
 
     /// The cell that stands at `at`, and its end.
-    fn read(alloc: Global, text: &[u8], at: usize) -> Result<Option<(Self, usize)>, AllocError>
-        ensures found { IfOk result (λ read. IfSome read (λ found. StandsAt bytes is_cell text.now at found.0 found.1)) }
-        ensures none { IfOk result (λ read. IfNone read (NoneStandsAt bytes is_cell text.now at)) };
+    fn read(text: &[u8], at: usize) -> Option<(Self, usize)>
+        ensures found { IfSome result (λ found. StandsAt bytes is_cell text.now at found.0 found.1) }
+        ensures none { IfNone result (NoneStandsAt bytes is_cell text.now at) };
 
     /// The same cell once more.
-    fn copy(&self, alloc: Global) -> Result<Self, AllocError>
-        ensures { IfOk result (λ copy. copy ≡ self.now) };
+    fn copy(&self) -> Self
+        ensures { result ≡ self.now };
 
     /// The number in the cell's bytes, where the cells are numbers of eight bytes: a part of one such cell keeps it, and
     /// takes no memory.
@@ -61,18 +60,6 @@ pub trait Cell: Ord + Drop {
 
     /// Bytes, equality and order of a cell are those of its value.
     ghost is_value: { IsValueOf value bytes Self.eq Self.cmp };
-}
-
-/// The cell's number, where there is one cell and it has one.
-#[inline]
-pub(crate) fn lone_bits<C: Cell>(cells: &[C]) -> Option<u64>
-    ensures bytes { IfSome result (λ n. plain_text C.bytes cells.now ≡ to_be_bytes w64 n) }
-    ensures cell { IfSome result (λ n. cells.now ≡ C.of_bits n ∷ []) }
-{
-    if cells.len() != 1 {
-        return None;
-    }
-    cells[0].as_bits()
 }
 
 /// The int that stands at `at`, and its end.
@@ -101,13 +88,13 @@ impl Cell for i64 {
     }
 
     #[inline]
-    fn read(_alloc: Global, text: &[u8], at: usize) -> Result<Option<(i64, usize)>, AllocError> {
-        Ok(read_int(text, at))
+    fn read(text: &[u8], at: usize) -> Option<(i64, usize)> {
+        read_int(text, at)
     }
 
     #[inline]
-    fn copy(&self, _alloc: Global) -> Result<i64, AllocError> {
-        Ok(*self)
+    fn copy(&self) -> i64 {
+        *self
     }
 
     #[inline]
@@ -129,7 +116,44 @@ impl Cell for i64 {
     ghost is_value = { ints_are_values };
 }
 
-impl Cell for Text {
+/// The text that stands at `at`, and its end.
+#[inline]
+pub(crate) fn read_text(text: &[u8], at: usize) -> Option<(&str, usize)>
+    ensures found { IfSome result (λ found. StandsAt text_cell IsText text.now at found.0.now found.1) }
+    ensures fits { IfSome result (λ found. length found.0.now ≤ 255) }
+    ensures none { IfNone result (NoneStandsAt text_cell IsText text.now at) }
+{
+    if at >= text.len() {
+        return None;
+    }
+    let start = at + 1;
+    let len = text[at] as usize;
+    if text.len() - start < len {
+        return None;
+    }
+    let end = start + len;
+    let Ok(valid) = str::from_utf8(&text[start..end]) else {
+        return None;
+    };
+    Some((valid, end))
+}
+
+/// Appends the bytes of a text. A refusal changes nothing.
+#[inline]
+pub(crate) fn write_text(text: &str, out: &mut Vec<u8>) -> Result<(), AllocError>
+    requires { length text.now ≤ 255 }
+    ensures ok { OnOk result (out.new.items ≡ out.old.items ++ text_cell text.now) }
+    ensures err { OnErr result (out.new.items ≡ out.old.items) }
+{
+    out.push(text.len() as u8)?;
+    let added = out.extend_from_slice(text.as_bytes());
+    if added.is_err() {
+        out.pop();
+    }
+    added
+}
+
+impl Cell for Word {
     ghost bytes = { text_cell };
 
     ghost is_cell = { IsText };
@@ -140,38 +164,23 @@ impl Cell for Text {
 
     #[inline]
     fn write(&self, out: &mut Vec<u8>) -> Result<(), AllocError> {
-        let text = self.as_str().as_bytes();
-        out.push(text.len() as u8)?;
-        let added = out.extend_from_slice(text);
-        if added.is_err() {
-            out.pop();
-        }
-        added
+        write_text(self.as_str(), out)
     }
 
     #[inline]
-    fn read(alloc: Global, text: &[u8], at: usize) -> Result<Option<(Text, usize)>, AllocError> {
-        if at >= text.len() {
-            return Ok(None);
-        }
-        let start = at + 1;
-        let len = text[at] as usize;
-        if text.len() - start < len {
-            return Ok(None);
-        }
-        let end = start + len;
-        let Ok(valid) = str::from_utf8(&text[start..end]) else {
-            return Ok(None);
+    fn read(text: &[u8], at: usize) -> Option<(Word, usize)> {
+        let Some((text, end)) = read_text(text, at) else {
+            return None;
         };
-        let Some(cell) = Text::new(alloc, valid)? else {
-            return Ok(None);
-        };
-        Ok(Some((cell, end)))
+        match Word::new(text) {
+            Ok(word) => Some((word, end)),
+            Err(_) => unreachable!(),
+        }
     }
 
     #[inline]
-    fn copy(&self, alloc: Global) -> Result<Text, AllocError> {
-        self.copy(alloc)
+    fn copy(&self) -> Word {
+        self.copy()
     }
 
     #[inline]
@@ -180,8 +189,8 @@ impl Cell for Text {
     }
 
     #[inline]
-    fn from_bits(_bits: u64) -> Text {
-        Text::empty()
+    fn from_bits(_bits: u64) -> Word {
+        Word::empty()
     }
 
     ghost exact = { text_exact };

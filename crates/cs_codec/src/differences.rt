@@ -9,7 +9,7 @@ ghost use Rattle.cs_schema.specs.declared.kinds.Code.{Code};
 ghost use Rattle.cs_codec.specs.TextMaps.{differences_of_code};
 
 use crate::cell::{Cell, read_int};
-use crate::encoding::{CodecFault, Encoding};
+use crate::encoding::{CodecFault, ColumnEncoding};
 use crate::numbers::{read_number, write_number};
 use cs_schema::Code;
 use std::alloc::{AllocError, Global};
@@ -246,7 +246,7 @@ fn read_value(bytes: &[u8], at: usize, position: u32, before: i64) -> Option<(i6
 /// Columns of integers that never fall: the first of each 128 positions in full, the others as differences.
 pub struct Differences;
 
-impl Encoding<i64> for Differences {
+impl ColumnEncoding<i64, Vec<i64>> for Differences {
     const CODE: Code = Code::Differences;
 
     ghost CODE = { Code.Differences };
@@ -259,8 +259,13 @@ impl Encoding<i64> for Differences {
 
     ghost is_part = { λ part cells. part ≡ cells };
 
-    fn encode(alloc: Global, cells: &[i64]) -> Result<DifferencesPart, AllocError> {
-        DifferencesPart::of(alloc, cells)
+    fn encode(
+        alloc: Global,
+        column: &Vec<i64>,
+        from: usize,
+        to: usize,
+    ) -> Result<DifferencesPart, AllocError> {
+        DifferencesPart::of(alloc, &column.as_slice()[from..to])
     }
 
     fn can_join(left: &DifferencesPart, right: &DifferencesPart) -> bool {

@@ -1,5 +1,5 @@
 //! A code of a column, with the laws that each code keeps.
-ghost use Rattle.std.specs.Prelude.{◌≡◌, ℕ, ◌≤◌, List, ◌++◌, length, IfOk, OnErr, IsErrOf};
+ghost use Rattle.std.specs.Prelude.{◌≡◌, ℕ, ◌≤◌, ◌-◌, List, ◌++◌, length, take, drop, IfOk};
 ghost use Rattle.std.specs.List.{AllByRecursion};
 ghost use Rattle.cs_codec.specs.Encodings.{JoinFits, TellsJoin, IsColumn, NoColumn, HasOneText, JoinsTo, Writes};
 ghost use Rattle.cs_codec.specs.TextMaps.{IsTextOfCode};
@@ -7,6 +7,7 @@ ghost use Rattle.cs_schema.specs.declared.kinds.Code.{Code};
 ghost use Rattle.cs_codec.specs.declared.encoding.CodecFault.TheVariants.{Memory};
 
 use crate::cell::Cell;
+use crate::column::Column;
 use cs_schema::Code;
 use std::alloc::{AllocError, AllocFailed, Global};
 
@@ -76,6 +77,58 @@ pub trait Encoding<C: Cell> {
     fn read(alloc: Global, bytes: &[u8], rows: u32) -> Result<Vec<C>, CodecFault>
         requires { rows ≤ 1048576 }
         ensures found { IfOk result (λ cells. IsColumn text fits C.is_cell bytes.now rows cells.items) }
+        ensures not_a_text { result ≡ Err CodecFault.NotAText → NoColumn text fits C.is_cell bytes.now rows };
+
+    /// No two lists have one text.
+    ghost one_list: { HasOneText text fits C.is_cell };
+
+    /// The text of a list is that of the column of its values under the code.
+    ghost of_code: { IsTextOfCode C.value CODE text };
+}
+
+/// One code at one kind of cell, over columns: it encodes a part of a column where it lies, and reads straight into one.
+pub trait ColumnEncoding<C: Cell, L: Column<C>> {
+    /// The code as a catalog names it.
+    const CODE: Code;
+
+    ghost CODE: { Code };
+
+    /// What stands for some cells of a column, and is joined with what stands for the next ones.
+    type Part: Drop;
+
+    /// The text of a list.
+    ghost text: { List C → List ℕ };
+
+    /// Which lists have a text.
+    ghost fits: { List C → Type 0 };
+
+    /// When a part stands for a list.
+    ghost is_part: { Self.Part → List C → Type 0 };
+
+    /// The part that stands for the cells from one place up to another, which fit.
+    fn encode(alloc: Global, column: &L, from: usize, to: usize) -> Result<Self::Part, AllocError>
+        requires order { from ≤ to }
+        requires within { to ≤ length (L.cells column.now) }
+        requires fits { fits (take (to - from) (drop from (L.cells column.now))) }
+        ensures { IfOk result (λ part. is_part part (take (to - from) (drop from (L.cells column.now)))) };
+
+    /// Whether the lists of both parts, one after the other, fit.
+    fn can_join(left: &Self::Part, right: &Self::Part) -> bool
+        ensures { TellsJoin fits is_part left.now right.now result };
+
+    /// The part that stands for both lists, one after the other. A refusal gives up both parts.
+    fn join(left: Self::Part, right: Self::Part) -> Result<Self::Part, AllocError>
+        requires { JoinFits fits is_part left right }
+        ensures { IfOk result (JoinsTo is_part left right) };
+
+    /// The text of the list that the part stands for.
+    fn write(alloc: Global, part: &Self::Part) -> Result<Vec<u8>, AllocError>
+        ensures { IfOk result (λ out. Writes text is_part part.now out.items) };
+
+    /// The column of so many cells that the bytes are the text of. `NotAText` where there is none.
+    fn read(alloc: Global, bytes: &[u8], rows: u32) -> Result<L, CodecFault>
+        requires { rows ≤ 1048576 }
+        ensures found { IfOk result (λ column. IsColumn text fits C.is_cell bytes.now rows (L.cells column)) }
         ensures not_a_text { result ≡ Err CodecFault.NotAText → NoColumn text fits C.is_cell bytes.now rows };
 
     /// No two lists have one text.

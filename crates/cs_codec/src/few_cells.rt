@@ -1,7 +1,8 @@
 //! Cells that are so few that bitmaps of their own would cost more than they do.
-ghost use Rattle.std.specs.Prelude.{◌≡◌, ◌≤◌, length, IfOk};
+ghost use Rattle.std.specs.Prelude.{◌≡◌, ◌-◌, ◌≤◌, length, take, drop, IfOk};
 
 use crate::cell::Cell;
+use crate::column::Column;
 use std::alloc::{AllocError, Global};
 
 /// At most so many cells are few.
@@ -14,14 +15,21 @@ pub(crate) struct FewCells<C> {
     ghost few: { length cells.items ≤ 16 },
 }
 
-/// A few cells once more.
-pub(crate) fn copies<C: Cell>(alloc: Global, cells: &[C]) -> Result<FewCells<C>, AllocError>
-    requires { length cells.now ≤ 16 }
-    ensures { IfOk result (λ few. few.cells.items ≡ cells.now) }
+/// The few cells of a column from one place up to another.
+pub(crate) fn copies<C: Cell, L: Column<C>>(
+    alloc: Global,
+    column: &L,
+    from: usize,
+    to: usize,
+) -> Result<FewCells<C>, AllocError>
+    requires order { from ≤ to }
+    requires within { to ≤ length (L.cells column.now) }
+    requires few { to - from ≤ 16 }
+    ensures { IfOk result (λ few. few.cells.items ≡ take (to - from) (drop from (L.cells column.now))) }
 {
-    let mut few = Vec::with_capacity(alloc, cells.len())?;
-    for cell in cells {
-        few.push(cell.copy(alloc)?)?;
+    let mut few = Vec::with_capacity(alloc, to - from)?;
+    for at in from..to {
+        few.push(column.cell(at))?;
     }
     Ok(FewCells { cells: few })
 }

@@ -7,13 +7,16 @@ mod bitmap;
 mod bitmap_reading;
 pub mod bitmaps;
 pub mod cell;
+pub mod column;
 pub mod differences;
 pub mod encoding;
 mod few_cells;
+mod lists;
 pub mod numbers;
 pub mod plain;
 mod run_reading;
 pub mod runs;
 
 pub use cell::Cell;
-pub use encoding::{CodecFault, Encoding};
+pub use column::Column;
+pub use encoding::{CodecFault, ColumnEncoding, Encoding};

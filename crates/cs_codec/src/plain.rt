@@ -1,5 +1,6 @@
 //! Columns as cells, one after the other.
-ghost use Rattle.std.specs.Prelude.{◌≡◌, ℕ, ◌+◌, ◌≤◌, List, ◌++◌, length, IfOk, OnOk};
+ghost use Rattle.std.specs.Prelude.{◌≡◌, ℕ, ◌+◌, ◌<◌, ◌≤◌, ◌++◌, length, slice_index, IfOk, OnOk};
+ghost use Rattle.cs_codec.specs.Columns.{cells_at};
 ghost use Rattle.cs_codec.specs.Encodings.{IsShort};
 ghost use Rattle.cs_codec.specs.Texts.{plain_text};
 ghost use Rattle.cs_codec.specs.Plain.{kept_bytes, IsPlainPart};
@@ -7,8 +8,9 @@ ghost use Rattle.cs_codec.specs.PlainLaws.{plain_one_list};
 ghost use Rattle.cs_schema.specs.declared.kinds.Code.{Code};
 ghost use Rattle.cs_codec.specs.TextMaps.{plain_of_code};
 
-use crate::cell::{Cell, lone_bits};
-use crate::encoding::{CodecFault, Encoding};
+use crate::cell::Cell;
+use crate::column::{Column, lone_bits};
+use crate::encoding::{CodecFault, ColumnEncoding};
 use cs_schema::Code;
 use std::alloc::{AllocError, Global};
 
@@ -60,7 +62,28 @@ impl PlainPart {
 /// Columns as cells, one after the other.
 pub struct Plain;
 
-impl<C: Cell> Encoding<C> for Plain {
+/// The part that stands for the cells at some places, in the order of the places, written straight from the column.
+pub fn encode_at<C: Cell, L: Column<C>>(
+    alloc: Global,
+    column: &L,
+    places: &[u32],
+) -> Result<PlainPart, AllocError>
+    requires within { (k : ℕ) → k < length places.now → slice_index places.now k < length (L.cells column.now) }
+    requires few { length places.now ≤ 1048576 }
+    ensures { IfOk result (λ part. IsPlainPart C.bytes part (cells_at (L.cells column.now) places.now)) }
+{
+    let mut bytes = Vec::with_capacity(alloc, places.len().saturating_mul(8))?;
+    for place in places {
+        column.write(*place as usize, &mut bytes)?;
+    }
+    Ok(PlainPart {
+        bytes,
+        lone: None,
+        count: places.len() as u32,
+    })
+}
+
+impl<C: Cell, L: Column<C>> ColumnEncoding<C, L> for Plain {
     const CODE: Code = Code::Plain;
 
     ghost CODE = { Code.Plain };
@@ -73,22 +96,22 @@ impl<C: Cell> Encoding<C> for Plain {
 
     ghost is_part = { IsPlainPart C.bytes };
 
-    fn encode(alloc: Global, cells: &[C]) -> Result<PlainPart, AllocError> {
-        if let Some(bits) = lone_bits(cells) {
+    fn encode(alloc: Global, column: &L, from: usize, to: usize) -> Result<PlainPart, AllocError> {
+        if let Some(bits) = lone_bits(column, from, to) {
             return Ok(PlainPart {
                 bytes: Vec::new(alloc),
                 lone: Some(bits),
                 count: 1,
             });
         }
-        let mut bytes = Vec::with_capacity(alloc, cells.len().saturating_mul(8))?;
-        for cell in cells {
-            cell.write(&mut bytes)?;
+        let mut bytes = Vec::with_capacity(alloc, (to - from).saturating_mul(8))?;
+        for at in from..to {
+            column.write(at, &mut bytes)?;
         }
         Ok(PlainPart {
             bytes,
             lone: None,
-            count: cells.len() as u32,
+            count: (to - from) as u32,
         })
     }
 
@@ -113,20 +136,20 @@ impl<C: Cell> Encoding<C> for Plain {
         Ok(out)
     }
 
-    fn read(alloc: Global, bytes: &[u8], rows: u32) -> Result<Vec<C>, CodecFault> {
-        let mut cells = Vec::with_capacity(alloc, bytes.len().min(rows as usize))?;
+    fn read(alloc: Global, bytes: &[u8], rows: u32) -> Result<L, CodecFault> {
+        let mut column = L::new(alloc);
+        column.reserve(bytes.len().min(rows as usize), bytes.len())?;
         let mut at = 0;
         for _ in 0..rows {
-            let Some((cell, end)) = C::read(alloc, bytes, at)? else {
+            let Some(end) = column.read(bytes, at)? else {
                 return Err(CodecFault::NotAText);
             };
-            cells.push(cell)?;
             at = end;
         }
         if at != bytes.len() {
             return Err(CodecFault::NotAText);
         }
-        Ok(cells)
+        Ok(column)
     }
 
     ghost one_list = { plain_one_list C.bytes C.is_cell C.begins_one C.some_bytes };

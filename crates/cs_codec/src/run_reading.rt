@@ -1,26 +1,27 @@
-//! Reading the runs that bytes are the text of.
-ghost use Rattle.std.specs.Prelude.{◌≡◌, ◌≤◌, List, [], ◌∷◌, ◌++◌, false, IfOk, IfSome, IfNone, IsTrue};
-ghost use Rattle.cs_codec.specs.RunTexts.{RunStandsAt, NoRunStandsAt, AreRunsOf, NoRunsOf};
-ghost use Rattle.cs_codec.specs.Runs.{expand, IsProper};
+//! Reading a column from the text of its runs.
+ghost use Rattle.std.specs.Prelude.{◌≡◌, ℕ, ◌-◌, ◌≤◌, ◌<◌, ◌++◌, length, replicate, slice_get, Some, Err, false, IfOk, OnOk, IfSome, IfNone, IsTrue};
+ghost use Rattle.cs_codec.specs.Encodings.{IsColumn, NoColumn, IsShort};
+ghost use Rattle.cs_codec.specs.RunTexts.{NoRunStandsAt, ReadsRun, Differs};
+ghost use Rattle.cs_codec.specs.Texts.{runs_text};
 
 use crate::cell::Cell;
+use crate::column::Column;
 use crate::encoding::CodecFault;
 use crate::numbers::read_number;
-use crate::runs::Run;
 use std::alloc::{AllocError, Global};
 
-/// The run that stands at `at`, its position and its end.
+/// The position and the length of the run that stands at `at`, whose cell is added, and the run's end.
 #[inline]
-fn read_run<C: Cell>(
-    alloc: Global,
+fn read_run<C: Cell, L: Column<C>>(
+    cells: &mut L,
     bytes: &[u8],
     at: usize,
-) -> Result<Option<(Run<C>, u32, usize)>, AllocError>
+) -> Result<Option<(u32, u32, usize)>, AllocError>
     ensures found { IfOk result (λ read. IfSome read (λ found.
-        RunStandsAt C.bytes C.is_cell bytes.now at found.0 found.1 found.2)) }
+        ReadsRun C.bytes C.is_cell bytes.now at (L.cells cells.old) (L.cells cells.new) found.0 found.1 found.2)) }
     ensures none { IfOk result (λ read. IfNone read (NoRunStandsAt C.bytes C.is_cell bytes.now at)) }
 {
-    let Some((value, end)) = C::read(alloc, bytes, at)? else {
+    let Some(end) = cells.read(bytes, at)? else {
         return Ok(None);
     };
     let Some(position) = read_number(bytes, end) else {
@@ -29,74 +30,78 @@ fn read_run<C: Cell>(
     let Some(count) = read_number(bytes, end + 4) else {
         return Ok(None);
     };
-    Ok(Some((Run { value, count }, position, end + 8)))
+    Ok(Some((position, count, end + 8)))
 }
 
-/// Whether a run may come after the others.
+/// Whether the cell at a place is another one than the cell before it.
 #[inline]
-fn goes_on<C: Cell>(runs: &Vec<Run<C>>, run: &Run<C>) -> bool
-    ensures yes { IsTrue result → IsProper C.eq runs.now.items → IsProper C.eq (runs.now.items ++ run.now ∷ []) }
-    ensures no { result ≡ false → (rest : List (Run C)) → IsProper C.eq (runs.now.items ++ run.now ∷ rest) → ⊥ }
+fn differs<C: Cell, L: Column<C>>(cells: &L, at: usize) -> bool
+    requires { at < length (L.cells cells.now) }
+    ensures yes { IsTrue result → Differs (L.cells cells.now) at }
+    ensures no { result ≡ false → Differs (L.cells cells.now) at → ⊥ }
 {
-    let len = runs.len();
-    if run.count == 0 {
-        return false;
+    at == 0 || !cells.same(at - 1, cells, at)
+}
+
+/// Adds the cell at a place so many times more at the end. Room is made for all that may come, once a cell is repeated.
+#[inline]
+fn repeat_at<C: Cell, L: Column<C>>(
+    cells: &mut L,
+    at: usize,
+    more: u32,
+    room: u32,
+) -> Result<(), AllocError>
+    requires { at < length (L.cells cells.old) }
+    ensures { OnOk result ((c : C) → slice_get (L.cells cells.old) at ≡ Some c → L.cells cells.new ≡ L.cells cells.old ++ replicate more c) }
+{
+    if more == 0 {
+        return Ok(());
     }
-    len == 0 || runs[len - 1].value != run.value
+    cells.reserve(room as usize, 0)?;
+    let cell = cells.cell(at);
+    cells.repeat(&cell, more)
 }
 
 /// The text of a run has at least so many bytes.
 const LEAST_RUN: usize = 9;
 
-/// The runs that the bytes are the text of.
-pub(crate) fn read_runs<C: Cell>(
+/// The column of so many cells that the bytes are the text of. Room is made for as many cells as there can be runs, and
+/// for the others when a run says that they come.
+pub(crate) fn read_column<C: Cell, L: Column<C>>(
     alloc: Global,
     bytes: &[u8],
     rows: u32,
-) -> Result<Vec<Run<C>>, CodecFault>
+) -> Result<L, CodecFault>
     requires { rows ≤ 1048576 }
-    ensures found { IfOk result (λ runs. AreRunsOf C.bytes C.is_cell C.eq bytes.now rows runs.items) }
-    ensures not_a_text { result ≡ Err CodecFault.NotAText → NoRunsOf C.bytes C.is_cell C.eq bytes.now rows }
+    ensures found { IfOk result (λ cells. IsColumn (runs_text C.bytes C.eq) IsShort C.is_cell bytes.now rows (L.cells cells)) }
+    ensures not_a_text { result ≡ Err CodecFault.NotAText → NoColumn (runs_text C.bytes C.eq) IsShort C.is_cell bytes.now rows }
 {
-    let mut runs = Vec::with_capacity(alloc, (bytes.len() / LEAST_RUN).min(rows as usize))?;
+    let mut cells = L::new(alloc);
+    cells.reserve((bytes.len() / LEAST_RUN).min(rows as usize), bytes.len())?;
     let mut count = 0;
     let mut at = 0;
     while at < bytes.len() {
-        let Some((run, position, end)) = read_run(alloc, bytes, at)? else {
+        let Some((position, length, end)) = read_run(&mut cells, bytes, at)? else {
             return Err(CodecFault::NotAText);
         };
         if position != count + 1 {
             return Err(CodecFault::NotAText);
         }
-        if run.count > rows - count {
+        if length > rows - count {
             return Err(CodecFault::NotAText);
         }
-        if !goes_on(&runs, &run) {
+        if length == 0 {
             return Err(CodecFault::NotAText);
         }
-        count += run.count;
-        runs.push(run)?;
+        if !differs(&cells, count as usize) {
+            return Err(CodecFault::NotAText);
+        }
+        repeat_at(&mut cells, count as usize, length - 1, rows - count - 1)?;
+        count += length;
         at = end;
     }
     if count != rows {
         return Err(CodecFault::NotAText);
-    }
-    Ok(runs)
-}
-
-/// The cells of the runs.
-pub(crate) fn spread<C: Cell>(
-    alloc: Global,
-    runs: &[Run<C>],
-    rows: u32,
-) -> Result<Vec<C>, AllocError>
-    ensures { IfOk result (λ cells. cells.items ≡ expand runs.now) }
-{
-    let mut cells = Vec::with_capacity(alloc, rows as usize)?;
-    for run in runs {
-        for _ in 0..run.count {
-            cells.push(run.value.copy(alloc)?)?;
-        }
     }
     Ok(cells)
 }

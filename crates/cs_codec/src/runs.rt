@@ -1,69 +1,72 @@
 //! Runs of equal cells.
-ghost use Rattle.std.specs.Prelude.{◌≡◌, ℕ, ◌+◌, ◌≤◌, ◌<◌, List, [], ◌∷◌, ◌++◌, length, replicate, IfOk, OnOk};
+ghost use Rattle.std.specs.Prelude.{◌≡◌, ◌+◌, ◌-◌, ◌≤◌, ◌<◌, take, drop, slice_get, Some, [], ◌∷◌, ◌++◌, length, IfOk, OnOk};
 ghost use Rattle.cs_codec.specs.Encodings.{IsShort};
 ghost use Rattle.cs_codec.specs.Texts.{runs_text};
 ghost use Rattle.cs_codec.specs.RunLaws.{runs_one_list};
-ghost use Rattle.cs_codec.specs.Runs.{expand, IsProper};
+ghost use Rattle.cs_codec.specs.Runs.{expand, zip_runs, AreColumnsOfRuns};
 ghost use Rattle.cs_schema.specs.declared.kinds.Code.{Code};
 ghost use Rattle.cs_codec.specs.TextMaps.{runs_of_code};
 
-use crate::cell::{Cell, lone_bits};
-use crate::encoding::{CodecFault, Encoding};
+use crate::cell::Cell;
+use crate::column::{Column, lone_bits};
+use crate::encoding::{CodecFault, ColumnEncoding};
 use crate::numbers::write_number;
-use crate::run_reading::{read_runs, spread};
+use crate::run_reading::read_column;
 use cs_schema::Code;
 use std::alloc::{AllocError, Global};
-use std::marker::Model;
+use std::marker::{Model, PhantomData};
 
-/// Neighbouring cells of one value.
+/// What stands for some cells of a column: the value of each of their runs, and its length. Of one cell that a number
+/// stands for, it is the number, so that such a part takes no memory. A contract sees the cells.
 #[derive(Drop)]
-pub struct Run<C> {
-    pub value: C,
-    pub count: u32,
-}
-
-/// What stands for some cells of a column: their runs. Of one cell that a number stands for, it is the number, so that
-/// such a part takes no memory. A contract sees the cells.
-#[derive(Drop)]
-pub struct RunsPart<C: Cell> {
-    runs: Vec<Run<C>>,
+pub struct RunsPart<C: Cell, L: Column<C>> {
+    values: L,
+    counts: Vec<u32>,
     lone: Option<u64>,
     count: u32,
+    of: PhantomData<C>,
 }
 
-impl<C: Cell> Model for RunsPart<C> {
+impl<C: Cell, L: Column<C>> Model for RunsPart<C, L> {
     ghost use Rattle.std.specs.Prelude.{List};
 
     ghost Value = { List C };
 
-    ghost use Rattle.cs_codec.specs.Runs.{kept_cells, AreRuns};
+    ghost use Rattle.cs_codec.specs.Runs.{kept_cells, zip_runs, AreRuns};
 
-    ghost view = { λ part. kept_cells C.of_bits part.lone part.runs.items };
+    ghost view = { λ part. kept_cells C.of_bits part.lone (zip_runs (L.cells part.values) part.counts.items) };
 
-    ghost invariant = { λ part. AreRuns C.of_bits C.eq part.lone part.runs.items part.count };
+    ghost invariant = { λ part. AreRuns C.of_bits C.eq part.lone (L.cells part.values) part.counts.items part.count };
 }
 
-impl<C: Cell> RunsPart<C> {
-    /// The part that stands for these cells.
-    fn of(alloc: Global, cells: &[C]) -> Result<Self, AllocError>
-        requires { IsShort cells.now }
-        ensures { IfOk result (λ part. part ≡ cells.now) }
+impl<C: Cell, L: Column<C>> RunsPart<C, L> {
+    /// The part that stands for the cells from one place up to another.
+    fn of(alloc: Global, column: &L, from: usize, to: usize) -> Result<Self, AllocError>
+        requires order { from ≤ to }
+        requires within { to ≤ length (L.cells column.now) }
+        requires short { IsShort (take (to - from) (drop from (L.cells column.now))) }
+        ensures { IfOk result (λ part. part ≡ take (to - from) (drop from (L.cells column.now))) }
     {
-        if let Some(bits) = lone_bits(cells) {
+        let mut values = L::new(alloc);
+        if let Some(bits) = lone_bits(column, from, to) {
             return Ok(RunsPart {
-                runs: Vec::new(alloc),
+                values,
+                counts: Vec::new(alloc),
                 lone: Some(bits),
                 count: 1,
+                of: PhantomData,
             });
         }
-        let mut runs = Vec::with_capacity(alloc, cells.len().min(1))?;
-        for cell in cells {
-            push_run(&mut runs, cell, 1)?;
+        let mut counts = Vec::with_capacity(alloc, (to - from).min(1))?;
+        for at in from..to {
+            push_run(&mut values, &mut counts, column, at)?;
         }
         Ok(RunsPart {
-            runs,
+            values,
+            counts,
             lone: None,
-            count: cells.len() as u32,
+            count: (to - from) as u32,
+            of: PhantomData,
         })
     }
 
@@ -71,22 +74,25 @@ impl<C: Cell> RunsPart<C> {
     pub fn reserve(&mut self, parts: u32) -> Result<(), AllocError>
         ensures { self.new ≡ self.old }
     {
-        self.runs
-            .reserve(self.runs.len().saturating_mul(parts as usize))
+        let more = self.counts.len().saturating_mul(parts as usize);
+        self.values.reserve(more, more.saturating_mul(8))?;
+        self.counts.reserve(more)
     }
 
-    /// The runs of the part.
+    /// The values and the lengths of the part's runs.
     #[inline]
-    fn into_runs(self) -> Result<Vec<Run<C>>, AllocError>
-        ensures cells { IfOk result (λ runs. expand runs.items ≡ self) }
-        ensures proper { IfOk result (λ runs. IsProper C.eq runs.items) }
+    fn into_runs(self) -> Result<(L, Vec<u32>), AllocError>
+        ensures cells { IfOk result (λ runs. expand (zip_runs (L.cells runs.0) runs.1.items) ≡ self) }
+        ensures runs { IfOk result (λ runs. AreColumnsOfRuns C.eq (L.cells runs.0) runs.1.items) }
     {
-        let mut runs = self.runs;
+        let mut values = self.values;
+        let mut counts = self.counts;
         if let Some(bits) = self.lone {
-            runs.clear();
-            push_run(&mut runs, &C::from_bits(bits), 1)?;
+            values.truncate(0);
+            counts.clear();
+            push_cell(&mut values, &mut counts, &C::from_bits(bits))?;
         }
-        Ok(runs)
+        Ok((values, counts))
     }
 
     fn followed_by(self, other: Self) -> Result<Self, AllocError>
@@ -94,15 +100,19 @@ impl<C: Cell> RunsPart<C> {
         ensures { IfOk result (λ part. part ≡ self ++ other) }
     {
         let count = self.count + other.count;
-        let mut runs = self.into_runs()?;
+        let (mut values, mut counts) = self.into_runs()?;
+        let others = other.values;
+        let other_counts = other.counts;
         match other.lone {
-            Some(bits) => push_run(&mut runs, &C::from_bits(bits), 1)?,
-            None => append_runs(&mut runs, other.runs)?,
+            Some(bits) => push_cell(&mut values, &mut counts, &C::from_bits(bits))?,
+            None => append_runs(&mut values, &mut counts, others, other_counts)?,
         }
         Ok(RunsPart {
-            runs,
+            values,
+            counts,
             lone: None,
             count,
+            of: PhantomData,
         })
     }
 
@@ -111,7 +121,7 @@ impl<C: Cell> RunsPart<C> {
     {
         match self.lone {
             Some(bits) => write_lone(alloc, &C::from_bits(bits)),
-            None => write_runs(alloc, &self.runs),
+            None => write_runs(alloc, &self.values, &self.counts),
         }
     }
 }
@@ -128,72 +138,107 @@ fn write_lone<C: Cell>(alloc: Global, value: &C) -> Result<Vec<u8>, AllocError>
 }
 
 /// The text of the cells of some runs.
-fn write_runs<C: Cell>(alloc: Global, runs: &[Run<C>]) -> Result<Vec<u8>, AllocError>
-    requires short { length (expand runs.now) ≤ 1048576 }
-    requires proper { IsProper C.eq runs.now }
-    ensures { IfOk result (λ out. out.items ≡ runs_text C.bytes C.eq (expand runs.now)) }
+fn write_runs<C: Cell, L: Column<C>>(
+    alloc: Global,
+    values: &L,
+    counts: &[u32],
+) -> Result<Vec<u8>, AllocError>
+    requires short { length (expand (zip_runs (L.cells values.now) counts.now)) ≤ 1048576 }
+    requires runs { AreColumnsOfRuns C.eq (L.cells values.now) counts.now }
+    ensures { IfOk result (λ out. out.items ≡ runs_text C.bytes C.eq (expand (zip_runs (L.cells values.now) counts.now))) }
 {
-    let mut out = Vec::with_capacity(alloc, runs.len().saturating_mul(16))?;
+    let mut out = Vec::with_capacity(alloc, counts.len().saturating_mul(16))?;
     let mut position = 1;
-    for run in runs {
-        run.value.write(&mut out)?;
+    for (at, count) in counts.iter().enumerate() {
+        values.write(at, &mut out)?;
         write_number(&mut out, position)?;
-        write_number(&mut out, run.count)?;
-        position += run.count;
+        write_number(&mut out, *count)?;
+        position += *count;
     }
     Ok(out)
 }
 
 /// Moves runs after the others. Where the first of them has the value of the last one, the two become one.
-fn append_runs<C: Cell>(runs: &mut Vec<Run<C>>, others: Vec<Run<C>>) -> Result<(), AllocError>
-    requires short { length (expand runs.old.items) + length (expand others.items) ≤ 1048576 }
-    requires proper { IsProper C.eq runs.old.items }
-    requires others { IsProper C.eq others.items }
-    ensures cells { OnOk result (expand runs.new.items ≡ expand runs.old.items ++ expand others.items) }
-    ensures proper { OnOk result (IsProper C.eq runs.new.items) }
+fn append_runs<C: Cell, L: Column<C>>(
+    values: &mut L,
+    counts: &mut Vec<u32>,
+    others: L,
+    other_counts: Vec<u32>,
+) -> Result<(), AllocError>
+    requires short { length (expand (zip_runs (L.cells values.old) counts.old.items)) + length (expand (zip_runs (L.cells others) other_counts.items)) ≤ 1048576 }
+    requires runs { AreColumnsOfRuns C.eq (L.cells values.old) counts.old.items }
+    requires others { AreColumnsOfRuns C.eq (L.cells others) other_counts.items }
+    ensures cells { OnOk result (expand (zip_runs (L.cells values.new) counts.new.items) ≡ expand (zip_runs (L.cells values.old) counts.old.items) ++ expand (zip_runs (L.cells others) other_counts.items)) }
+    ensures runs { OnOk result (AreColumnsOfRuns C.eq (L.cells values.new) counts.new.items) }
 {
-    let mut others = others;
-    let len = runs.len();
-    let more = others.len();
-    if len > 0 && more > 0 && runs[len - 1].value == others[0].value {
-        others[0].count += runs[len - 1].count;
-        runs.truncate(len - 1);
+    let mut other_counts = other_counts;
+    let len = counts.len();
+    let more = other_counts.len();
+    if len > 0 && more > 0 && values.same(len - 1, &others, 0) {
+        other_counts[0] += counts[len - 1];
+        values.truncate(len - 1);
+        counts.truncate(len - 1);
     }
-    runs.append(&mut others)?;
+    values.append(others)?;
+    counts.append(&mut other_counts)?;
     Ok(())
 }
 
-/// Adds so many cells of a value after the others, to the last run if that has the value.
+/// Adds a cell of a column after the others, to the last run if that has the value.
 #[inline]
-fn push_run<C: Cell>(runs: &mut Vec<Run<C>>, value: &C, count: u32) -> Result<(), AllocError>
-    requires short { length (expand runs.old.items) + count ≤ 1048576 }
-    requires some { 0 < count }
-    requires proper { IsProper C.eq runs.old.items }
-    ensures cells { OnOk result (expand runs.new.items ≡ expand runs.old.items ++ replicate count value.now) }
-    ensures proper { OnOk result (IsProper C.eq runs.new.items) }
+fn push_run<C: Cell, L: Column<C>>(
+    values: &mut L,
+    counts: &mut Vec<u32>,
+    column: &L,
+    at: usize,
+) -> Result<(), AllocError>
+    requires at { at < length (L.cells column.now) }
+    requires short { length (expand (zip_runs (L.cells values.old) counts.old.items)) + 1 ≤ 1048576 }
+    requires runs { AreColumnsOfRuns C.eq (L.cells values.old) counts.old.items }
+    ensures cells { OnOk result ((c : C) → slice_get (L.cells column.now) at ≡ Some c → expand (zip_runs (L.cells values.new) counts.new.items) ≡ expand (zip_runs (L.cells values.old) counts.old.items) ++ c ∷ []) }
+    ensures runs { OnOk result (AreColumnsOfRuns C.eq (L.cells values.new) counts.new.items) }
 {
-    let len = runs.len();
-    if len > 0 && runs[len - 1].value == *value {
-        runs[len - 1].count += count;
+    let len = counts.len();
+    if len > 0 && values.same(len - 1, column, at) {
+        counts[len - 1] += 1;
         return Ok(());
     }
-    let run = Run {
-        value: value.copy(*runs.allocator())?,
-        count,
-    };
-    runs.push(run)?;
+    values.push_cell(column, at)?;
+    counts.push(1)?;
+    Ok(())
+}
+
+/// Adds a cell after the others, to the last run if that has the value.
+#[inline]
+fn push_cell<C: Cell, L: Column<C>>(
+    values: &mut L,
+    counts: &mut Vec<u32>,
+    cell: &C,
+) -> Result<(), AllocError>
+    requires short { length (expand (zip_runs (L.cells values.old) counts.old.items)) + 1 ≤ 1048576 }
+    requires runs { AreColumnsOfRuns C.eq (L.cells values.old) counts.old.items }
+    ensures cells { OnOk result (expand (zip_runs (L.cells values.new) counts.new.items) ≡ expand (zip_runs (L.cells values.old) counts.old.items) ++ cell.now ∷ []) }
+    ensures runs { OnOk result (AreColumnsOfRuns C.eq (L.cells values.new) counts.new.items) }
+{
+    let len = counts.len();
+    if len > 0 && values.cell(len - 1) == *cell {
+        counts[len - 1] += 1;
+        return Ok(());
+    }
+    values.repeat(cell, 1)?;
+    counts.push(1)?;
     Ok(())
 }
 
 /// Columns as runs of equal cells: of each run the cell, its first position, from 1, and its length.
 pub struct Runs;
 
-impl<C: Cell> Encoding<C> for Runs {
+impl<C: Cell, L: Column<C>> ColumnEncoding<C, L> for Runs {
     const CODE: Code = Code::Runs;
 
     ghost CODE = { Code.Runs };
 
-    type Part = RunsPart<C>;
+    type Part = RunsPart<C, L>;
 
     ghost text = { runs_text C.bytes C.eq };
 
@@ -201,25 +246,29 @@ impl<C: Cell> Encoding<C> for Runs {
 
     ghost is_part = { λ part cells. part ≡ cells };
 
-    fn encode(alloc: Global, cells: &[C]) -> Result<RunsPart<C>, AllocError> {
-        RunsPart::of(alloc, cells)
+    fn encode(
+        alloc: Global,
+        column: &L,
+        from: usize,
+        to: usize,
+    ) -> Result<RunsPart<C, L>, AllocError> {
+        RunsPart::of(alloc, column, from, to)
     }
 
-    fn can_join(left: &RunsPart<C>, right: &RunsPart<C>) -> bool {
+    fn can_join(left: &RunsPart<C, L>, right: &RunsPart<C, L>) -> bool {
         u64::from(left.count) + u64::from(right.count) <= 1_048_576
     }
 
-    fn join(left: RunsPart<C>, right: RunsPart<C>) -> Result<RunsPart<C>, AllocError> {
+    fn join(left: RunsPart<C, L>, right: RunsPart<C, L>) -> Result<RunsPart<C, L>, AllocError> {
         left.followed_by(right)
     }
 
-    fn write(alloc: Global, part: &RunsPart<C>) -> Result<Vec<u8>, AllocError> {
+    fn write(alloc: Global, part: &RunsPart<C, L>) -> Result<Vec<u8>, AllocError> {
         part.text(alloc)
     }
 
-    fn read(alloc: Global, bytes: &[u8], rows: u32) -> Result<Vec<C>, CodecFault> {
-        let runs = read_runs(alloc, bytes, rows)?;
-        Ok(spread(alloc, &runs, rows)?)
+    fn read(alloc: Global, bytes: &[u8], rows: u32) -> Result<L, CodecFault> {
+        read_column(alloc, bytes, rows)
     }
 
     ghost one_list = { runs_one_list C.bytes C.is_cell C.eq

@@ -59,7 +59,7 @@ fn read_row<R: Read>(
             cells: row.len(),
         });
     }
-    match push_record(alloc, row, places, cells) {
+    match push_record(row, places, cells) {
         Ok(()) => Ok(true),
         Err(fault) => Err(CsvFault::of_field(n, fault)),
     }

@@ -7,9 +7,8 @@ ghost use Rattle.cs_csv.specs.Faults.{AddsField, IsFirstRefused, Refuses, kinds_
 
 use crate::excerpt::Excerpt;
 use crate::fault::{FieldFault, RecordFault};
-use cs_schema::{Cells, Text};
+use cs_schema::Cells;
 use csv::ByteRecord;
-use std::alloc::Global;
 use std::str;
 
 /// The field of a record at a place.
@@ -24,7 +23,7 @@ pub(crate) fn field_at(row: &ByteRecord, place: usize) -> &[u8]
 }
 
 /// Adds the cell that a field is.
-fn push_field(alloc: Global, text: &[u8], cells: &mut Cells) -> Result<(), FieldFault>
+fn push_field(text: &[u8], cells: &mut Cells) -> Result<(), FieldFault>
     ensures kind { kind_of cells.new ≡ kind_of cells.old }
     ensures fits { OnOk result (IsCellOf (kind_of cells.old) text.now) }
     ensures ok { OnOk result (values cells.new ≡ values cells.old ++ cell_of (kind_of cells.old) text.now ∷ []) }
@@ -54,12 +53,6 @@ fn push_field(alloc: Global, text: &[u8], cells: &mut Cells) -> Result<(), Field
             if text.len() > 255 {
                 return Err(FieldFault::TooLong { bytes: text.len() });
             }
-            let Ok(found) = Text::new(alloc, text) else {
-                return Err(FieldFault::Memory);
-            };
-            let Some(text) = found else {
-                unreachable!();
-            };
             if texts.push(text).is_err() {
                 return Err(FieldFault::Memory);
             }
@@ -70,7 +63,6 @@ fn push_field(alloc: Global, text: &[u8], cells: &mut Cells) -> Result<(), Field
 
 /// Adds the cells that the fields of a record are: each column's field stands at its place.
 pub(crate) fn push_record(
-    alloc: Global,
     row: &ByteRecord,
     places: &[usize],
     cells: &mut Vec<Cells>,
@@ -83,7 +75,7 @@ pub(crate) fn push_record(
 {
     for column in 0..places.len() {
         let text = field_at(row, places[column]);
-        match push_field(alloc, text, &mut cells[column]) {
+        match push_field(text, &mut cells[column]) {
             Ok(()) => {}
             Err(why) => return Err(RecordFault { column, why }),
         }

@@ -28,7 +28,7 @@ fn push_cell(row: &mut ByteRecord, cells: &Cells, n: usize) -> Result<(), AllocE
             let mut buffer = Buffer::new();
             row.push_field(buffer.format(ints[n]).as_bytes())
         }
-        Cells::Texts(texts) => row.push_field(texts[n].as_str().as_bytes()),
+        Cells::Texts(texts) => row.push_field(texts.get(n).as_bytes()),
     }
 }
 

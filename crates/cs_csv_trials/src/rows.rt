@@ -19,8 +19,8 @@ fn column_text(rt: &HostRuntime, cells: &Cells) -> Result<String, Fail> {
             }
         }
         Cells::Texts(texts) => {
-            for cell in texts {
-                let cell = cell.as_str();
+            for row in 0..texts.len() {
+                let cell = texts.get(row);
                 text = format!(in alloc; "{text}<{cell}>")?;
             }
         }

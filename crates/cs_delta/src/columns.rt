@@ -11,10 +11,7 @@ pub fn empty_like(alloc: Global, cells: &Cells) -> Cells
     ensures values { values result ≡ [] }
     ensures kind { kind_of result ≡ kind_of cells.now }
 {
-    match cells {
-        Cells::Ints(_) => Cells::Ints(Vec::new(alloc)),
-        Cells::Texts(_) => Cells::Texts(Vec::new(alloc)),
-    }
+    Cells::new(alloc, cells.kind())
 }
 
 /// Whether cells are of one kind.
@@ -55,10 +52,7 @@ pub fn empty_in(alloc: Global, spent: &mut Vec<Cells>, cells: &Cells) -> Cells
 pub fn count(cells: &Cells) -> usize
     ensures { result ≡ length (values cells.now) }
 {
-    match cells {
-        Cells::Ints(ints) => ints.len(),
-        Cells::Texts(texts) => texts.len(),
-    }
+    cells.len()
 }
 
 /// Appends a cell.
@@ -69,10 +63,7 @@ pub fn push(out: &mut Cells, cell: &ItemCell) -> Result<(), AllocError>
 {
     match (out, &cell.place) {
         (Cells::Ints(out), CellPlace::Int(int)) => out.push(*int)?,
-        (Cells::Texts(out), CellPlace::Text(text)) => {
-            let text = text.copy(*out.allocator())?;
-            out.push(text)?
-        }
+        (Cells::Texts(out), CellPlace::Text(text)) => out.push(text.as_str())?,
         _ => unreachable!(),
     }
     Ok(())

@@ -2,7 +2,7 @@
 ghost use Rattle.std.specs.Prelude.{◌≡◌, IfOk};
 ghost use Rattle.cs_schema.specs.declared.cells.Value.{Value as ValueData};
 
-use cs_schema::Text;
+use cs_schema::Word;
 use std::alloc::{AllocError, Global};
 use std::marker::Model;
 
@@ -10,7 +10,7 @@ use std::marker::Model;
 #[derive(Drop)]
 pub enum CellPlace {
     Int(i64),
-    Text(Box<Text>),
+    Text(Box<Word>),
 }
 
 /// A cell that an item gives.
@@ -40,7 +40,7 @@ impl ItemCell {
     }
 
     /// A text.
-    pub fn text(alloc: Global, text: Text) -> Result<Self, AllocError>
+    pub fn text(alloc: Global, text: Word) -> Result<Self, AllocError>
         ensures { IfOk result (λ cell. cell ≡ ValueData.Text text) }
     {
         match Box::new(alloc, text) {

@@ -8,7 +8,7 @@ use crate::item::Item;
 use crate::item_cell::ItemCell;
 use crate::item_list::{are_in_order, rows_left};
 use cs_codec::Cell;
-use cs_schema::{Catalog, Kind, Text};
+use cs_schema::{Catalog, Kind, Word};
 use cs_segment::bytes::{after, number};
 use cs_segment::fault::FileFault;
 use std::alloc::Global;
@@ -20,13 +20,13 @@ fn read_cell(alloc: Global, kind: Kind, bytes: &[u8]) -> Result<(ItemCell, &[u8]
 {
     match kind {
         Kind::Int => {
-            let Some((int, end)) = <i64 as Cell>::read(alloc, bytes, 0)? else {
+            let Some((int, end)) = <i64 as Cell>::read(bytes, 0) else {
                 return Err(FileFault::Damaged);
             };
             Ok((ItemCell::int(int), &bytes[end..]))
         }
         Kind::Text => {
-            let Some((text, end)) = <Text as Cell>::read(alloc, bytes, 0)? else {
+            let Some((text, end)) = <Word as Cell>::read(bytes, 0) else {
                 return Err(FileFault::Damaged);
             };
             Ok((ItemCell::text(alloc, text)?, &bytes[end..]))

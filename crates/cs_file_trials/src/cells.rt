@@ -1,7 +1,7 @@
 //! Words, texts and cells.
 ghost use Rattle.std.specs.Prelude.{◌≤◌};
 
-use cs_schema::{Cells, Kind, Text, Value, Word, WordFault};
+use cs_schema::{Cells, Kind, Texts, Value, Word, WordFault};
 use std::alloc::{AllocError, Global};
 
 /// 256 times the letter a.
@@ -35,26 +35,51 @@ fn words_have_at_most_255_bytes(rt: HostRuntime) {
     }
 }
 
-/// Whether so many letters are kept, and copied as they are.
+/// Adds a text to a block, where it has at most 255 bytes.
+fn push_text(texts: &mut Texts, text: &str) -> Result<bool, AllocError> {
+    match Word::new(text) {
+        Ok(word) => {
+            texts.push(word.as_str())?;
+            Ok(true)
+        }
+        Err(_) => Ok(false),
+    }
+}
+
+/// Whether the block has é, these letters and the empty text, twice.
+fn is_twice(texts: &Texts, letters: &str) -> bool {
+    texts.len() == 6
+        && texts.get(1) == letters
+        && texts.get(3) == "é"
+        && texts.same(4, texts, 1)
+        && texts.word(4).as_str() == letters
+        && texts.compare(5, texts, 0).is_lt()
+}
+
+/// Whether so many letters are kept between other texts, and copied as they are.
 fn keeps_letters(alloc: Global, count: usize) -> Result<bool, AllocError>
-    requires { count ≤ 256 }
+    requires { count ≤ 255 }
 {
-    let Some(cell) = Text::new(alloc, letters(count))? else {
-        return Ok(false);
-    };
-    let copy = cell.copy(alloc)?;
-    Ok(copy == cell && copy >= Text::empty() && copy.as_bytes().len() == count)
+    let mut texts = Texts::new(alloc);
+    for text in ["é", letters(count), ""] {
+        if !push_text(&mut texts, text)? {
+            return Ok(false);
+        }
+    }
+    let mut twice = Texts::new(alloc);
+    twice.extend(&texts, 0, texts.len())?;
+    twice.append(texts)?;
+    Ok(is_twice(&twice, letters(count)))
 }
 
 #[test]
 fn texts_are_kept_with_ample_memory(rt: HostRuntime) {
-    for count in [0usize, 24, 25, 255] {
+    for count in [0usize, 1, 255] {
         assert!(rt;
             keeps_letters(rt.alloc(), count) == Ok(true),
             "{count} letters"
         );
     }
-    assert!(rt; matches!(Text::new(rt.alloc(), letters(256)), Ok(None)));
 }
 
 #[test]

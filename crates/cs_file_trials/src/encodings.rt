@@ -8,7 +8,7 @@ use cs_codec::differences::{Differences, DifferencesPart};
 use cs_codec::encoding::{CodecFault, Encoding};
 use cs_codec::plain::Plain;
 use cs_codec::runs::Runs;
-use cs_schema::Text;
+use cs_schema::Word;
 use std::alloc::{AllocError, Global};
 
 /// The text of two lists, one after the other, each of which had a part of its own.
@@ -236,7 +236,7 @@ fn plain_ints_are_written_with_ample_memory(rt: HostRuntime) {
 const WORDS: [u8; 4] = [0, 2, 0xc3, 0xa9];
 
 /// Whether the words are these.
-fn are_words(words: &[Text], wanted: &[&str]) -> bool {
+fn are_words(words: &[Word], wanted: &[&str]) -> bool {
     words.len() == wanted.len()
         && words
             .iter()
@@ -248,9 +248,9 @@ fn are_words(words: &[Text], wanted: &[&str]) -> bool {
 fn is_text_of_words(alloc: Global, text: &[u8], wanted: &[&str]) -> Result<bool, CodecFault>
     requires { length wanted.now ≤ 1048576 }
 {
-    let words = <Plain as Encoding<Text>>::read(alloc, text, wanted.len() as u32)?;
-    let part = <Plain as Encoding<Text>>::encode(alloc, &words)?;
-    let written = <Plain as Encoding<Text>>::write(alloc, &part)?;
+    let words = <Plain as Encoding<Word>>::read(alloc, text, wanted.len() as u32)?;
+    let part = <Plain as Encoding<Word>>::encode(alloc, &words)?;
+    let written = <Plain as Encoding<Word>>::write(alloc, &part)?;
     Ok(are_words(&words, wanted) && written.as_slice() == text)
 }
 
@@ -262,6 +262,6 @@ fn plain_texts_are_read_and_written_with_ample_memory(rt: HostRuntime) {
 #[test]
 fn bytes_that_are_no_plain_texts(rt: HostRuntime) {
     for bytes in [[1, 0xff], [0, 0]] {
-        assert!(rt; refuses::<Text, Plain>(rt.alloc(), &bytes, 1));
+        assert!(rt; refuses::<Word, Plain>(rt.alloc(), &bytes, 1));
     }
 }

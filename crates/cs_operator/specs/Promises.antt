@@ -108,7 +108,7 @@ module _ {P S K I N B : Type 0} (reads : P → List ℕ → List ℕ → P → T
   -- what was done for this answer; for a help text nothing
   abbrev pub Performs : P → P → Answer → Type 0
   Performs s t (answer.Told text) = t ≡ s
-  Performs s t (answer.Checked checked) = (path : List ℕ) × ChecksStore reads opens gives refuses leaves s path checked t
+  Performs s t (answer.Checked checked) = (path : List ℕ) × (asked : Option ℕ) × ChecksStore reads opens gives refuses leaves s path asked checked t
   Performs s t (answer.Shown view) = (path : List ℕ) × ShowsStore reads opens gives refuses lists leaves s path view t
   Performs s t (answer.ShownFile view) = (path : List ℕ) × (text : List ℕ) × ShowsFile reads opens gives s path text view t
   Performs s t (answer.Diagnosed diagnosed) = (path : List ℕ) × (manifest : Option (List ℕ)) × (at_most : Option ℕ) × (disputes : ℕ) × DiagnosesStore reads opens gives refuses opens_table remaining leaves s path manifest at_most disputes diagnosed t

@@ -7,8 +7,8 @@ use cs_codec::bitmaps::Bitmaps;
 use cs_codec::differences::Differences;
 use cs_codec::plain::Plain;
 use cs_codec::runs::Runs;
-use cs_codec::{CodecFault, Encoding};
-use cs_schema::{Cells, Code, Kind, Text};
+use cs_codec::{CodecFault, ColumnEncoding};
+use cs_schema::{Cells, Code, Kind, Texts, Word};
 use std::alloc::Global;
 
 /// The column of so many rows that the bytes are the text of. `NotAText` where there is none.
@@ -26,29 +26,31 @@ pub fn read_column(
 {
     Ok(match (code, kind) {
         (Code::Runs, Kind::Int) => {
-            Cells::Ints(<Runs as Encoding<i64>>::read(alloc, bytes, rows)?)
+            Cells::Ints(<Runs as ColumnEncoding<i64, Vec<i64>>>::read(alloc, bytes, rows)?)
         }
         (Code::Runs, Kind::Text) => {
-            Cells::Texts(<Runs as Encoding<Text>>::read(alloc, bytes, rows)?)
+            Cells::Texts(<Runs as ColumnEncoding<Word, Texts>>::read(alloc, bytes, rows)?)
         }
         (Code::Bitmaps, Kind::Int) => {
-            Cells::Ints(<Bitmaps as Encoding<i64>>::read(alloc, bytes, rows)?)
+            Cells::Ints(<Bitmaps as ColumnEncoding<i64, Vec<i64>>>::read(alloc, bytes, rows)?)
         }
         (Code::Bitmaps, Kind::Text) => {
-            Cells::Texts(<Bitmaps as Encoding<Text>>::read(alloc, bytes, rows)?)
+            Cells::Texts(<Bitmaps as ColumnEncoding<Word, Texts>>::read(alloc, bytes, rows)?)
         }
-        (Code::Differences, Kind::Int) => { Cells::Ints(Differences::read(alloc, bytes, rows)?) }
+        (Code::Differences, Kind::Int) => {
+            Cells::Ints(<Differences as ColumnEncoding<i64, Vec<i64>>>::read(alloc, bytes, rows)?)
+        }
         (Code::Plain, Kind::Int) => {
-            Cells::Ints(<Plain as Encoding<i64>>::read(alloc, bytes, rows)?)
+            Cells::Ints(<Plain as ColumnEncoding<i64, Vec<i64>>>::read(alloc, bytes, rows)?)
         }
         (Code::Plain, Kind::Text) => {
-            Cells::Texts(<Plain as Encoding<Text>>::read(alloc, bytes, rows)?)
+            Cells::Texts(<Plain as ColumnEncoding<Word, Texts>>::read(alloc, bytes, rows)?)
         }
         (Code::Differences, Kind::Text) => {
             if rows != 0 || bytes.len() != 0 {
                 return Err(CodecFault::NotAText);
             }
-            Cells::Texts(Vec::new(alloc))
+            Cells::Texts(Texts::new(alloc))
         }
     })
 }

@@ -7,21 +7,21 @@ ghost use Rattle.cs_schema.specs.Values.{values, kind_of};
 ghost use Rattle.cs_piece.specs.Columns.{CanEncode};
 ghost use Rattle.cs_piece.specs.Pieces.{IsPieceOf, PiecesFit, TellsFit, IsJoined, IsTextOf, IsShortTextOf};
 
-use cs_codec::Encoding;
+use cs_codec::ColumnEncoding;
 use cs_codec::bitmaps::{Bitmaps, BitmapsPart};
 use cs_codec::differences::{Differences, DifferencesPart};
 use cs_codec::plain::{Plain, PlainPart};
 use cs_codec::runs::{Runs, RunsPart};
-use cs_schema::{Cells, Code, Text};
+use cs_schema::{Cells, Code, Texts, Word};
 use std::alloc::{AllocError, Global};
 
 /// A part of a column of some code and kind, which can be joined with the part that comes next.
 #[derive(Drop)]
 pub enum Piece {
-    IntRuns(RunsPart<i64>),
-    TextRuns(RunsPart<Text>),
+    IntRuns(RunsPart<i64, Vec<i64>>),
+    TextRuns(RunsPart<Word, Texts>),
     IntBitmaps(BitmapsPart<i64>),
-    TextBitmaps(BitmapsPart<Text>),
+    TextBitmaps(BitmapsPart<Word>),
     RisingInts(DifferencesPart),
     /// The empty column of texts under `Code::Differences`.
     NoTexts,
@@ -36,25 +36,25 @@ impl Piece {
     {
         match (self, other) {
             (Piece::IntRuns(left), Piece::IntRuns(right)) => {
-                <Runs as Encoding<i64>>::can_join(left, right)
+                <Runs as ColumnEncoding<i64, Vec<i64>>>::can_join(left, right)
             }
             (Piece::TextRuns(left), Piece::TextRuns(right)) => {
-                <Runs as Encoding<Text>>::can_join(left, right)
+                <Runs as ColumnEncoding<Word, Texts>>::can_join(left, right)
             }
             (Piece::IntBitmaps(left), Piece::IntBitmaps(right)) => {
-                <Bitmaps as Encoding<i64>>::can_join(left, right)
+                <Bitmaps as ColumnEncoding<i64, Vec<i64>>>::can_join(left, right)
             }
             (Piece::TextBitmaps(left), Piece::TextBitmaps(right)) => {
-                <Bitmaps as Encoding<Text>>::can_join(left, right)
+                <Bitmaps as ColumnEncoding<Word, Texts>>::can_join(left, right)
             }
             (Piece::RisingInts(left), Piece::RisingInts(right)) => {
-                Differences::can_join(left, right)
+                <Differences as ColumnEncoding<i64, Vec<i64>>>::can_join(left, right)
             }
             (Piece::PlainInts(left), Piece::PlainInts(right)) => {
-                <Plain as Encoding<i64>>::can_join(left, right)
+                <Plain as ColumnEncoding<i64, Vec<i64>>>::can_join(left, right)
             }
             (Piece::PlainTexts(left), Piece::PlainTexts(right)) => {
-                <Plain as Encoding<Text>>::can_join(left, right)
+                <Plain as ColumnEncoding<Word, Texts>>::can_join(left, right)
             }
             (Piece::NoTexts, Piece::NoTexts) => true,
             _ => false,
@@ -84,25 +84,60 @@ pub fn encode_piece(alloc: Global, code: Code, cells: &Cells) -> Result<Piece, A
 {
     Ok(match (code, cells) {
         (Code::Runs, Cells::Ints(cells)) => {
-            Piece::IntRuns(<Runs as Encoding<i64>>::encode(alloc, cells)?)
+            Piece::IntRuns(<Runs as ColumnEncoding<i64, Vec<i64>>>::encode(
+                alloc,
+                cells,
+                0,
+                cells.len(),
+            )?)
         }
         (Code::Runs, Cells::Texts(cells)) => {
-            Piece::TextRuns(<Runs as Encoding<Text>>::encode(alloc, cells)?)
+            Piece::TextRuns(<Runs as ColumnEncoding<Word, Texts>>::encode(
+                alloc,
+                cells,
+                0,
+                cells.len(),
+            )?)
         }
         (Code::Bitmaps, Cells::Ints(cells)) => {
-            Piece::IntBitmaps(<Bitmaps as Encoding<i64>>::encode(alloc, cells)?)
+            Piece::IntBitmaps(<Bitmaps as ColumnEncoding<i64, Vec<i64>>>::encode(
+                alloc,
+                cells,
+                0,
+                cells.len(),
+            )?)
         }
         (Code::Bitmaps, Cells::Texts(cells)) => {
-            Piece::TextBitmaps(<Bitmaps as Encoding<Text>>::encode(alloc, cells)?)
+            Piece::TextBitmaps(<Bitmaps as ColumnEncoding<Word, Texts>>::encode(
+                alloc,
+                cells,
+                0,
+                cells.len(),
+            )?)
         }
         (Code::Differences, Cells::Ints(cells)) => {
-            Piece::RisingInts(Differences::encode(alloc, cells)?)
+            Piece::RisingInts(<Differences as ColumnEncoding<i64, Vec<i64>>>::encode(
+                alloc,
+                cells,
+                0,
+                cells.len(),
+            )?)
         }
         (Code::Plain, Cells::Ints(cells)) => {
-            Piece::PlainInts(<Plain as Encoding<i64>>::encode(alloc, cells)?)
+            Piece::PlainInts(<Plain as ColumnEncoding<i64, Vec<i64>>>::encode(
+                alloc,
+                cells,
+                0,
+                cells.len(),
+            )?)
         }
         (Code::Plain, Cells::Texts(cells)) => {
-            Piece::PlainTexts(<Plain as Encoding<Text>>::encode(alloc, cells)?)
+            Piece::PlainTexts(<Plain as ColumnEncoding<Word, Texts>>::encode(
+                alloc,
+                cells,
+                0,
+                cells.len(),
+            )?)
         }
         (Code::Differences, Cells::Texts(_)) => Piece::NoTexts,
     })
@@ -115,25 +150,25 @@ pub fn join_pieces(left: Piece, right: Piece) -> Result<Piece, AllocError>
 {
     Ok(match (left, right) {
         (Piece::IntRuns(left), Piece::IntRuns(right)) => {
-            Piece::IntRuns(<Runs as Encoding<i64>>::join(left, right)?)
+            Piece::IntRuns(<Runs as ColumnEncoding<i64, Vec<i64>>>::join(left, right)?)
         }
         (Piece::TextRuns(left), Piece::TextRuns(right)) => {
-            Piece::TextRuns(<Runs as Encoding<Text>>::join(left, right)?)
+            Piece::TextRuns(<Runs as ColumnEncoding<Word, Texts>>::join(left, right)?)
         }
         (Piece::IntBitmaps(left), Piece::IntBitmaps(right)) => {
-            Piece::IntBitmaps(<Bitmaps as Encoding<i64>>::join(left, right)?)
+            Piece::IntBitmaps(<Bitmaps as ColumnEncoding<i64, Vec<i64>>>::join(left, right)?)
         }
         (Piece::TextBitmaps(left), Piece::TextBitmaps(right)) => {
-            Piece::TextBitmaps(<Bitmaps as Encoding<Text>>::join(left, right)?)
+            Piece::TextBitmaps(<Bitmaps as ColumnEncoding<Word, Texts>>::join(left, right)?)
         }
         (Piece::RisingInts(left), Piece::RisingInts(right)) => {
-            Piece::RisingInts(Differences::join(left, right)?)
+            Piece::RisingInts(<Differences as ColumnEncoding<i64, Vec<i64>>>::join(left, right)?)
         }
         (Piece::PlainInts(left), Piece::PlainInts(right)) => {
-            Piece::PlainInts(<Plain as Encoding<i64>>::join(left, right)?)
+            Piece::PlainInts(<Plain as ColumnEncoding<i64, Vec<i64>>>::join(left, right)?)
         }
         (Piece::PlainTexts(left), Piece::PlainTexts(right)) => {
-            Piece::PlainTexts(<Plain as Encoding<Text>>::join(left, right)?)
+            Piece::PlainTexts(<Plain as ColumnEncoding<Word, Texts>>::join(left, right)?)
         }
         (Piece::NoTexts, Piece::NoTexts) => Piece::NoTexts,
         _ => unreachable!(),
@@ -146,13 +181,15 @@ pub fn write_piece(alloc: Global, piece: &Piece) -> Result<Vec<u8>, AllocError>
     ensures short { IfOk result (λ out. IsShortTextOf piece.now out.items) }
 {
     match piece {
-        Piece::IntRuns(part) => <Runs as Encoding<i64>>::write(alloc, part),
-        Piece::TextRuns(part) => <Runs as Encoding<Text>>::write(alloc, part),
-        Piece::IntBitmaps(part) => <Bitmaps as Encoding<i64>>::write(alloc, part),
-        Piece::TextBitmaps(part) => <Bitmaps as Encoding<Text>>::write(alloc, part),
-        Piece::RisingInts(part) => <Differences as Encoding<i64>>::write(alloc, part),
-        Piece::PlainInts(part) => <Plain as Encoding<i64>>::write(alloc, part),
-        Piece::PlainTexts(part) => <Plain as Encoding<Text>>::write(alloc, part),
+        Piece::IntRuns(part) => <Runs as ColumnEncoding<i64, Vec<i64>>>::write(alloc, part),
+        Piece::TextRuns(part) => <Runs as ColumnEncoding<Word, Texts>>::write(alloc, part),
+        Piece::IntBitmaps(part) => <Bitmaps as ColumnEncoding<i64, Vec<i64>>>::write(alloc, part),
+        Piece::TextBitmaps(part) => <Bitmaps as ColumnEncoding<Word, Texts>>::write(alloc, part),
+        Piece::RisingInts(part) => <Differences as ColumnEncoding<i64, Vec<i64>>>::write(
+            alloc, part,
+        ),
+        Piece::PlainInts(part) => <Plain as ColumnEncoding<i64, Vec<i64>>>::write(alloc, part),
+        Piece::PlainTexts(part) => <Plain as ColumnEncoding<Word, Texts>>::write(alloc, part),
         Piece::NoTexts => Ok(Vec::new(alloc)),
     }
 }

@@ -20,26 +20,11 @@ use Rattle.cs_rows.specs.TableView.{over}
 use Rattle.cs_rows.specs.Walk.{At, Contents, walked_row, walked_cell, image_cell}
 use Rattle.cs_rows.specs.WalkByRows.{Reached, Found, found_from, found_row, full_row, is_full, source_in}
 use Rattle.cs_rows.specs.WalkedView.{WalkedData}
+use Rattle.cs_rows.proofs.Collected.{each_made}
 use Rattle.cs_rows.proofs.TableLemmas as table
 use Rattle.cs_rebuild.specs.Walking.{HasTableWidth, IsColumnOf}
 
 -- ---- columns, one by one
-
--- results that are all there, by the numbers for which they were made
-pub all_there : {X E V : Type 0} (R : ℕ → Result X E → Type 0) (items : V → List X) (n : ℕ) (numbers : List ℕ) (results : List (Result X E)) (r : Result V E)
-    → numbers ≡ range_with_len 0 (n - 0) → AllZip R numbers results → MatchResult r (λ v. (xs : List X) × (results ≡ map Ok xs) × (items v ≡ xs)) (λ e. Contains results (Err e))
-    → IfOk r (λ v. AllZip R (range_with_len 0 n) (map Ok (items v)))
-all_there R items n numbers results (Ok v) e zipped there =
-    let whole : n - 0 ≡ n = omega arith in
-    subst (λ ns. AllZip R ns (map Ok (items v))) (e ∙ ap (range_with_len 0) whole) (subst (AllZip R numbers) (there.1 ∙ ap (map Ok) (sym there.2)) zipped)
-all_there R items n numbers results (Err x) e zipped there = tt
-
--- results place by place, by what is known of each
-pub zipped_as : {X Y : Type 0} {R : X → Y → Type 0} (S : X → Y → Type 0) (xs : List X) (ys : List Y) → AllZip R xs ys → ((x : X) (y : Y) → R x y → S x y) → AllZip S xs ys
-zipped_as S [] [] h turn = tt
-zipped_as S [] (y ∷ ys) h turn = h
-zipped_as S (x ∷ xs) [] h turn = h
-zipped_as S (x ∷ xs) (y ∷ ys) h turn = (turn x y h.0, zipped_as S xs ys h.1 turn)
 
 module _ (C : CatalogData) (rows : List Row) (lent : List (Option Cells)) where
   -- a column, or what is lent in its place, has the cells of the rows
@@ -49,28 +34,14 @@ module _ (C : CatalogData) (rows : List Row) (lent : List (Option Cells)) where
   abbrev pub IsJoined : ℕ → Result Cells AllocError → Type 0
   IsJoined c r = IfOk r (IsColumn c)
 
-  columns_from : (a n : ℕ) (columns : List Cells) → AllZip IsJoined (range_with_len a n) (map Ok columns)
-      → (length columns ≡ n) × ((k : ℕ) (d : Cells) → k < n → IsColumn (a + k) (get_or columns k d))
-  columns_from a zero [] h = (refl, λ k d l. absurd (omega arith))
-  columns_from a zero (x ∷ xs) h = absurd h
-  columns_from a (suc n) [] h = absurd h
-  columns_from a (suc n) (x ∷ xs) h = go (columns_from (a + 1) n xs h.1)
-    where
-      go : (length xs ≡ n) × ((k : ℕ) (d : Cells) → k < n → IsColumn (a + 1 + k) (get_or xs k d)) → (length (x ∷ xs) ≡ suc n) × ((k : ℕ) (d : Cells) → k < suc n → IsColumn (a + k) (get_or (x ∷ xs) k d))
-      go rest = (ap suc rest.0, each)
-        where
-          each : (k : ℕ) (d : Cells) → k < suc n → IsColumn (a + k) (get_or (x ∷ xs) k d)
-          each zero d l = subst (λ c. IsColumn c x) (let e : a ≡ a + 0 = omega arith in e) h.0
-          each (suc k) d l = subst (λ c. IsColumn c (get_or xs k d)) (let e : a + 1 + k ≡ a + suc k = omega arith in e) (rest.1 k d (omega arith))
-
   module _ (columns : List Cells) (joined : AllZip IsJoined (range_with_len 0 (length C.columns)) (map Ok columns)) where
     long : length columns ≡ length C.columns
-    long = (columns_from 0 (length C.columns) columns joined).0
+    long = (each_made AllocError IsColumn (length C.columns) columns joined).0
 
     each : (k : ℕ) (d : Cells) → k < length C.columns → IsColumnOf C rows k (get_or (over columns lent) k d)
     each k d l =
         subst (IsColumnOf C rows k) (sym (table.each columns lent k d (omega (arith, l, long))))
-        (subst (λ c. IsColumn c (get_or columns k d)) (let e : 0 + k ≡ k = omega arith in e) ((columns_from 0 (length C.columns) columns joined).1 k d l))
+        ((each_made AllocError IsColumn (length C.columns) columns joined).1 k d l)
 
     pub joined_fit : ColumnsFit C (over columns lent)
     joined_fit = record { count = table.count columns lent ∙ long; kinds = λ c d l. (each c d l).0 }

@@ -26,3 +26,4 @@ pub mod OneKind
 pub mod BuiltFiles
 pub mod PickedColumns
 pub mod FewRows
+pub mod PlacedCells

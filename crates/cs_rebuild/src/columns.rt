@@ -43,9 +43,6 @@ pub fn cells_at(alloc: Global, column: &Cells, numbers: &[u32]) -> Result<Cells,
     ensures cells { IfOk result (λ cells. values cells ≡ map (cell (values column.now)) numbers.now) }
 {
     let mut cells = Cells::new(alloc, column.kind());
-    cells.reserve(numbers.len())?;
-    for k in 0..numbers.len() {
-        cells.push_cell(column, numbers[k] as usize)?;
-    }
+    cells.push_at(column, numbers)?;
     Ok(cells)
 }

@@ -8,7 +8,7 @@ ghost use Rattle.cs_rebuild.specs.Building.{IsOneKind, IsShortText};
 
 use crate::lending::column_count;
 use cs_rows::{Lent, Table};
-use cs_schema::{Catalog, Cells, Text};
+use cs_schema::{Catalog, Cells, Texts};
 use std::alloc::{AllocError, Global};
 
 /// Whether there is one column for each column of a catalog's table, of its kind, and all have one length. `build` takes no
@@ -41,11 +41,11 @@ fn see_ints(ints: &[i64])
 }
 
 /// Texts are UTF-8 of at most 255 bytes: what their type says.
-fn see_texts(texts: &[Text])
+fn see_texts(texts: &Texts)
     ensures { All IsShortText texts.now }
 {
-    for text in texts {
-        let _fits = text.as_str();
+    for at in 0..texts.len() {
+        let _fits = texts.get(at);
     }
 }
 

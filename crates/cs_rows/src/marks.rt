@@ -1,7 +1,7 @@
-//! Marks of rows, and columns without the marked rows, which are left out in place.
+//! Marks of rows, and columns without the marked rows.
 ghost use Rattle.std.specs.Prelude.{◌≡◌, ℕ, ◌<◌, false, IfOk, length, replicate, slice_index_or};
 ghost use Rattle.cs_schema.specs.Values.{values, kind_of};
-ghost use Rattle.cs_rows.specs.Repeats.{unmarked};
+ghost use Rattle.cs_rows.specs.Repeats.{unmarked, IsUnmarked};
 
 use cs_schema::Cells;
 use rayon::prelude::*;
@@ -19,47 +19,45 @@ pub(crate) fn no_marks(alloc: Global, count: usize) -> Result<Vec<bool>, AllocEr
     Ok(marks)
 }
 
-/// Leaves the unmarked elements, in their order. It takes no memory.
-fn keep_unmarked<T: Drop>(items: &mut Vec<T>, marks: &[bool])
-    requires { length marks.now ≡ length items.old.items }
-    ensures { items.new.items ≡ unmarked marks.now items.old.items }
+/// The unmarked cells of a column, in their order.
+fn unmarked_cells(alloc: Global, cells: &Cells, marks: &[bool]) -> Result<Cells, AllocError>
+    requires { length marks.now ≡ length (values cells.now) }
+    ensures kind { IfOk result (λ left. kind_of left ≡ kind_of cells.now) }
+    ensures cells { IfOk result (λ left. values left ≡ unmarked marks.now (values cells.now)) }
 {
-    let mut place = 0;
+    let mut left = Cells::new(alloc, cells.kind());
     for at in 0..marks.len() {
         if !marks[at] {
-            items.swap(place, at);
-            place += 1;
+            left.push_cell(cells, at)?;
         }
     }
-    items.truncate(place);
+    Ok(left)
 }
 
-/// Leaves the unmarked cells.
-fn keep_cells(cells: &mut Cells, marks: &[bool])
-    requires { length marks.now ≡ length (values cells.old) }
-    ensures kind { kind_of cells.new ≡ kind_of cells.old }
-    ensures cells { values cells.new ≡ unmarked marks.now (values cells.old) }
+/// The unmarked cells of each column, side by side.
+pub(crate) fn unmarked_columns<R: Threads + Sync>(
+    rt: &R,
+    alloc: Global,
+    columns: &[Cells],
+    marks: &[bool],
+) -> Result<Vec<Cells>, AllocError>
+    requires { (c : ℕ) (d : Cells) → c < length columns.now → length marks.now ≡ length (values (slice_index_or columns.now c d)) }
+    ensures count { IfOk result (λ left. length left.items ≡ length columns.now) }
+    ensures kinds { IfOk result (λ left. (c : ℕ) (d : Cells) → c < length columns.now
+        → kind_of (slice_index_or left.items c d) ≡ kind_of (slice_index_or columns.now c d)) }
+    ensures cells { IfOk result (λ left. (c : ℕ) (d : Cells) → c < length columns.now
+        → values (slice_index_or left.items c d) ≡ unmarked marks.now (values (slice_index_or columns.now c d))) }
 {
-    match cells {
-        Cells::Ints(ints) => keep_unmarked(ints, marks),
-        Cells::Texts(texts) => keep_unmarked(texts, marks),
-    }
-}
-
-/// Leaves the unmarked cells of each column, side by side.
-pub(crate) fn keep_columns<R: Threads + Sync>(rt: &R, columns: &mut Vec<Cells>, marks: &[bool])
-    requires { (c : ℕ) (d : Cells) → c < length columns.old.items → length marks.now ≡ length (values (slice_index_or columns.old.items c d)) }
-    ensures count { length columns.new.items ≡ length columns.old.items }
-    ensures kinds { (c : ℕ) (d : Cells) → c < length columns.old.items → kind_of (slice_index_or columns.new.items c d) ≡ kind_of (slice_index_or columns.old.items c d) }
-    ensures cells { (c : ℕ) (d : Cells) → c < length columns.old.items → values (slice_index_or columns.new.items c d) ≡ unmarked marks.now (values (slice_index_or columns.old.items c d)) }
-{
-    par_for_each_mut(
-        rt,
-        columns.as_mut_slice(),
-        |_c: usize, cells: &mut Cells|
-            requires { length marks.now ≡ length (values cells.old) }
-            ensures kind { kind_of cells.new ≡ kind_of cells.old }
-            ensures cells { values cells.new ≡ unmarked marks.entry.now (values cells.old) }
-        { keep_cells(cells, marks) },
-    );
+    (0..columns.len())
+        .into_par_iter()
+        // a column is worth a thread
+        .with_min_len(1)
+        .map(
+            |c: usize| -> Result<Cells, AllocError>
+                requires column { c < length columns.now }
+                requires marks { (d : Cells) → length marks.now ≡ length (values (slice_index_or columns.now c d)) }
+                ensures { IfOk result (λ left. (d : Cells) → IsUnmarked marks.entry.now (slice_index_or columns.entry.now c d) left) }
+            { unmarked_cells(alloc, &columns[c], marks) },
+        )
+        .collect::<Result<Vec<Cells>, AllocError>>(rt, alloc)?
 }

@@ -133,11 +133,3 @@ pub(crate) fn find_repeats<R: Threads + Sync>(
     }
     Ok(marks)
 }
-
-/// The memory from which a column takes its own.
-pub(crate) fn memory_of(cells: &Cells) -> Global {
-    match cells {
-        Cells::Ints(ints) => *ints.allocator(),
-        Cells::Texts(texts) => *texts.allocator(),
-    }
-}

@@ -5,10 +5,10 @@ ghost use Rattle.cs_schema.specs.Rows.{cell};
 ghost use Rattle.cs_rows.specs.WalkByRows.{without_repeats};
 ghost use Rattle.cs_rows.specs.WalkedView.{walked_data, AreColumns};
 
-use crate::marks::keep_columns;
+use crate::marks::unmarked_columns;
 use crate::numbers::key_column;
 use crate::range::new_columns;
-use crate::repeats::{find_repeats, memory_of};
+use crate::repeats::find_repeats;
 use cs_schema::{Catalog, Cells, Value};
 use std::alloc::{AllocError, Global};
 use std::marker::Model;
@@ -145,8 +145,9 @@ impl Walked {
         ensures err { OnErr result (self.new ≡ self.old) }
     {
         let keys = &self.columns[key_column(catalog)];
-        let marks = find_repeats(rt, memory_of(keys), keys)?;
-        keep_columns(rt, &mut self.columns, marks.as_slice());
+        let alloc = *self.columns.allocator();
+        let marks = find_repeats(rt, alloc, keys)?;
+        self.columns = unmarked_columns(rt, alloc, self.columns.as_slice(), marks.as_slice())?;
         Ok(())
     }
 }

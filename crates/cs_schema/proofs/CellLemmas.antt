@@ -1,22 +1,50 @@
 -- What a place of a column holds.
-use Rattle.std.proofs.Common.{◌≡◌, ℕ, ◌<◌, List, [], ◌∷◌, suc, zero, length, map, get_or, Option, Some, None, IsTrue, ◌↔◌, Equal, ℤ, refl, ap, ◌∙◌, arith, Less, Greater}
+use Rattle.std.proofs.Common.{◌≡◌, ℕ, ◌<◌, List, [], ◌∷◌, ◌++◌, suc, zero, length, map, get_or, Option, Some, None, IsTrue, ◌↔◌, Equal, ℤ, pos, refl, sym, ap, ◌∙◌, arith, Less, Greater}
 use Rattle.std.specs.Prelude.{slice_get}
 use Rattle.std.specs.Option.{option_cmp, option_map}
-use Rattle.std.proofs.lemmas.Option.{slice_get-map, slice_get_read}
-use Rattle.std.proofs.lemmas.List.{length-map}
-use Rattle.std.specs.Ordering.{is_eq}
+use Rattle.std.proofs.lemmas.Option.{slice_get-map}
+use Rattle.std.proofs.lemmas.List.{length-map, map_push, get_or-map}
+use Rattle.std.specs.Cmp.Lexicographic.{slice_cmp}
+use Rattle.std.specs.Ordering.{is_eq, nat_cmp}
 use Rattle.std.specs.Cmp.{Equal-is, tied_itself}
 use Rattle.cs_schema.proofs.Ascending.{false≢true}
 use Rattle.cs_schema.specs.Values.{value_cmp}
+use Rattle.cs_schema.specs.Rows.{cell}
 use Rattle.cs_schema.specs.ValueOrder.{value_cmp_total, value_cmp-IsAntisymmetric}
 use Rattle.cs_schema.specs.declared.cells.Value.{Value}
 use Rattle.cs_schema.specs.declared.cells.Value.TheVariants.{Int, Text}
 
 -- the text that was read is the one that stands there
-pub text_read : (ys : List (List ℕ)) (i : ℕ) (w : List ℕ) → i < length (map Text ys) → w ≡ get_or ys i w → slice_get (map Text ys) i ≡ Some (Text w)
-text_read ys i w h e =
-    let lt : i < length ys = omega (arith, length-map ys Text) in
-    slice_get-map Text ys i ∙ ap (option_map Text) (slice_get_read ys (length ys) i w refl lt e)
+pub text_read : (ys : List (List ℕ)) (i : ℕ) (w : List ℕ) → slice_get ys i ≡ Some w → slice_get (map Text ys) i ≡ Some (Text w)
+text_read ys i w e = slice_get-map Text ys i ∙ ap (option_map Text) e
+
+-- texts of two columns, by their bytes
+compared : (v w : Option (List ℕ)) → option_cmp value_cmp (option_map Text v) (option_map Text w) ≡ option_cmp (slice_cmp nat_cmp) v w
+compared None None = refl
+compared None (Some w) = refl
+compared (Some v) None = refl
+compared (Some v) (Some w) = refl
+
+pub texts_compared : (ys zs : List (List ℕ)) (i j : ℕ) → option_cmp value_cmp (slice_get (map Text ys) i) (slice_get (map Text zs) j) ≡ option_cmp (slice_cmp nat_cmp) (slice_get ys i) (slice_get zs j)
+texts_compared ys zs i j =
+    ap (λ v. option_cmp value_cmp v (slice_get (map Text zs) j)) (slice_get-map Text ys i)
+    ∙ ap (λ w. option_cmp value_cmp (option_map Text (slice_get ys i)) w) (slice_get-map Text zs j)
+    ∙ compared (slice_get ys i) (slice_get zs j)
+
+cell_text : (ys : List (List ℕ)) (i : ℕ) (w : List ℕ) → slice_get ys i ≡ Some w → cell (map Text ys) i ≡ Text w
+cell_text [] i w h = absurd (cc)
+cell_text (y ∷ ys) zero w h = cc
+cell_text (y ∷ ys) (suc i) w h = cell_text ys i w h
+
+-- a text of another column was added
+pub text_pushed : (xs ys : List (List ℕ)) (i : ℕ) (w : List ℕ) → slice_get ys i ≡ Some w → map Text (xs ++ w ∷ []) ≡ map Text xs ++ cell (map Text ys) i ∷ []
+text_pushed xs ys i w h = map_push Text xs w ∙ ap (λ v. map Text xs ++ v ∷ []) (sym (cell_text ys i w h))
+
+-- an int of another column was added
+pub int_pushed : (xs ys : List ℤ) (i : ℕ) (x : ℤ) → i < length (map Int ys) → x ≡ get_or ys i x → map Int (xs ++ x ∷ []) ≡ map Int xs ++ cell (map Int ys) i ∷ []
+int_pushed xs ys i x h e =
+    let lt : i < length ys = omega (arith, length-map ys Int) in
+    map_push Int xs x ∙ ap (λ v. map Int xs ++ v ∷ []) (sym (get_or-map Int ys i x (Int (pos 0)) lt ∙ ap Int (sym e)))
 
 pub int_before_text : (ys : List ℤ) (zs : List (List ℕ)) (i j : ℕ) → i < length (map Int ys) → j < length (map Text zs) → Less ≡ option_cmp value_cmp (slice_get (map Int ys) i) (slice_get (map Text zs) j)
 int_before_text [] zs i j h k = absurd (omega arith)

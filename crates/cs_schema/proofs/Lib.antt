@@ -1,3 +1,4 @@
+pub mod Blocks
 pub mod Ascending
 pub mod Lists
 pub mod RowOrder

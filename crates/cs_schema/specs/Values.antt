@@ -40,7 +40,7 @@ value_kind (Value.Text b) = Kind.Text
 -- what `Cells` are in a contract
 abbrev pub values : Cells → List Value
 values (Cells.Ints ints) = map Value.Int ints.items
-values (Cells.Texts texts) = map Value.Text texts.items
+values (Cells.Texts texts) = map Value.Text texts
 
 -- the kind of all of them
 abbrev pub kind_of : Cells → Kind

@@ -1,5 +1,5 @@
 //! Cells, and lists of them.
-ghost use Rattle.std.specs.Prelude.{◌≡◌, ◌==◌, ◌<◌, ◌≤◌, ◌-◌, [], ◌∷◌, ◌++◌, take, drop, length, slice_get, Some, refl, IfOk, IsTrue, ◌↔◌, OnOk, OnErr, vec_len};
+ghost use Rattle.std.specs.Prelude.{◌≡◌, ◌==◌, ◌<◌, ◌≤◌, ◌-◌, [], ◌∷◌, ◌++◌, take, drop, length, slice_get, slice_index, flat_map, ℕ, Some, refl, IsTrue, ◌↔◌, OnOk, OnErr};
 ghost use Rattle.std.specs.Option.{option_cmp};
 ghost use Rattle.std.specs.Ordering.{as_partial_cmp, eq_by_cmp};
 ghost use Rattle.std.specs.Cmp.{eq_by_cmp_equiv, partial_equiv_from_equiv, partial_order_from_total};
@@ -7,7 +7,8 @@ ghost use Rattle.cs_schema.specs.Values.{value_cmp, value_eq, value_kind, values
 ghost use Rattle.cs_schema.specs.ValueOrder.{value_cmp_total};
 ghost use Rattle.cs_schema.specs.Rows.{cell};
 
-use crate::{Kind, Text, Word};
+use crate::ints::push_ints_at;
+use crate::{Kind, Texts, Word};
 use std::alloc::{AllocError, Global};
 use std::cmp::Ordering;
 
@@ -88,7 +89,7 @@ impl Ord for Value {
 #[derive(Drop)]
 pub enum Cells {
     Ints(Vec<i64>),
-    Texts(Vec<Text>),
+    Texts(Texts),
 }
 
 impl Cells {
@@ -99,7 +100,7 @@ impl Cells {
     {
         match kind {
             Kind::Int => Cells::Ints(Vec::new(alloc)),
-            Kind::Text => Cells::Texts(Vec::new(alloc)),
+            Kind::Text => Cells::Texts(Texts::new(alloc)),
         }
     }
 
@@ -138,7 +139,7 @@ impl Cells {
     {
         match self {
             Cells::Ints(ints) => Value::Int(ints[at]),
-            Cells::Texts(texts) => Value::Text(texts[at].word()),
+            Cells::Texts(texts) => Value::Text(texts.word(at)),
         }
     }
 
@@ -151,7 +152,7 @@ impl Cells {
             (Cells::Ints(ints), Value::Int(int)) => ints[at].cmp(int),
             (Cells::Ints(_), Value::Text(_)) => Ordering::Less,
             (Cells::Texts(_), Value::Int(_)) => Ordering::Greater,
-            (Cells::Texts(texts), Value::Text(text)) => texts[at].as_str().cmp(text.as_str()),
+            (Cells::Texts(texts), Value::Text(text)) => texts.get(at).cmp(text.as_str()),
         }
     }
 
@@ -165,7 +166,7 @@ impl Cells {
             (Cells::Ints(ints), Cells::Ints(others)) => ints[at].cmp(&others[other_at]),
             (Cells::Ints(_), Cells::Texts(_)) => Ordering::Less,
             (Cells::Texts(_), Cells::Ints(_)) => Ordering::Greater,
-            (Cells::Texts(texts), Cells::Texts(others)) => texts[at].cmp(&others[other_at]),
+            (Cells::Texts(texts), Cells::Texts(others)) => texts.compare(at, others, other_at),
         }
     }
 
@@ -188,10 +189,7 @@ impl Cells {
     {
         match (self, other) {
             (Cells::Ints(ints), Cells::Ints(others)) => ints.push(others[at])?,
-            (Cells::Texts(texts), Cells::Texts(others)) => {
-                let text = others[at].copy(*texts.allocator())?;
-                texts.push(text)?
-            }
+            (Cells::Texts(texts), Cells::Texts(others)) => texts.push(others.get(at))?,
             (Cells::Ints(_), Cells::Texts(_)) => {}
             (Cells::Texts(_), Cells::Ints(_)) => {}
         }
@@ -207,10 +205,7 @@ impl Cells {
     {
         match (self, value) {
             (Cells::Ints(ints), Value::Int(int)) => ints.push(int)?,
-            (Cells::Texts(texts), Value::Text(text)) => {
-                let text = Text::of_word(*texts.allocator(), &text)?;
-                texts.push(text)?
-            }
+            (Cells::Texts(texts), Value::Text(text)) => texts.push(text.as_str())?,
             (Cells::Ints(_), Value::Text(_)) => {}
             (Cells::Texts(_), Value::Int(_)) => {}
         }
@@ -226,7 +221,7 @@ impl Cells {
     {
         match (self, other) {
             (Cells::Ints(ints), Cells::Ints(mut more)) => ints.append(&mut more),
-            (Cells::Texts(texts), Cells::Texts(mut more)) => texts.append(&mut more),
+            (Cells::Texts(texts), Cells::Texts(more)) => texts.append(more),
             (Cells::Ints(_), Cells::Texts(_)) => Ok(()),
             (Cells::Texts(_), Cells::Ints(_)) => Ok(()),
         }
@@ -245,20 +240,37 @@ impl Cells {
     {
         match (self, other) {
             (Cells::Ints(ints), Cells::Ints(others)) => ints.extend_from_slice(&others[from..to])?,
-            (Cells::Texts(texts), Cells::Texts(others)) => extend_texts(texts, &others[from..to])?,
+            (Cells::Texts(texts), Cells::Texts(others)) => texts.extend(others, from, to)?,
             _ => unreachable!(),
         }
         Ok(())
     }
 
-    /// Makes room for so many more cells.
+    /// Adds copies of another column's cells of this kind at the end, those at some places. A refusal changes nothing.
+    #[tactic(auto, using(crate::proofs::MappedRanges::map_places))]
+    pub fn push_at(&mut self, other: &Cells, places: &[u32]) -> Result<(), AllocError>
+        requires kinds { kind_of self.old ≡ kind_of other.now }
+        requires within { (k : ℕ) → k < length places.now → slice_index places.now k < length (values other.now) }
+        ensures ok { OnOk result (values self.new ≡ values self.old ++ flat_map (λ place. take 1 (drop place (values other.now))) places.now) }
+        ensures err { OnErr result (values self.new ≡ values self.old) }
+        ensures kind { kind_of self.new ≡ kind_of self.old }
+    {
+        match (self, other) {
+            (Cells::Ints(ints), Cells::Ints(others)) => push_ints_at(ints, others, places)?,
+            (Cells::Texts(texts), Cells::Texts(others)) => texts.push_at(others, places)?,
+            _ => unreachable!(),
+        }
+        Ok(())
+    }
+
+    /// Makes room for so many more cells, of texts for eight bytes each.
     pub fn reserve(&mut self, more: usize) -> Result<(), AllocError>
         ensures kind { kind_of self.new ≡ kind_of self.old }
         ensures cells { values self.new ≡ values self.old }
     {
         match self {
             Cells::Ints(ints) => ints.reserve(more),
-            Cells::Texts(texts) => texts.reserve(more),
+            Cells::Texts(texts) => texts.reserve(more, more.saturating_mul(8)),
         }
     }
 
@@ -272,30 +284,4 @@ impl Cells {
             Cells::Texts(texts) => texts.truncate(count),
         }
     }
-}
-
-/// Adds copies of texts at the end. A refusal changes nothing.
-fn extend_texts(texts: &mut Vec<Text>, others: &[Text]) -> Result<(), AllocError>
-    ensures ok { OnOk result (texts.new.items ≡ texts.old.items ++ others.now) }
-    ensures err { OnErr result (texts.new.items ≡ texts.old.items) }
-{
-    let count = texts.len();
-    let added = push_texts(texts, others);
-    if added.is_err() {
-        texts.truncate(count);
-    }
-    added
-}
-
-/// Adds copies of texts at the end. After a refusal some of them stand there.
-fn push_texts(texts: &mut Vec<Text>, others: &[Text]) -> Result<(), AllocError>
-    ensures all { OnOk result (texts.new.items ≡ texts.old.items ++ others.now) }
-    ensures kept { take (vec_len texts.old) texts.new.items ≡ texts.old.items }
-{
-    let alloc = *texts.allocator();
-    texts.reserve(others.len())?;
-    for text in others {
-        texts.push(text.copy(alloc)?)?;
-    }
-    Ok(())
 }

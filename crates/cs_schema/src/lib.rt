@@ -6,12 +6,14 @@
 
 mod catalog;
 mod cells;
+mod ends;
 mod file_name;
+mod ints;
 mod kinds;
 pub mod laws;
 mod loss;
 pub mod samples;
-mod text;
+mod texts;
 mod word;
 
 pub use catalog::{Catalog, Column, Projection};
@@ -19,5 +21,5 @@ pub use cells::{Cells, Value};
 pub use file_name::FileName;
 pub use kinds::{Code, Kind, Safety};
 pub use loss::Loss;
-pub use text::{Text, TextPlace};
+pub use texts::Texts;
 pub use word::{Word, WordFault};

@@ -7,7 +7,7 @@ use crate::stores::{Parts, Store, loss_of};
 use crate::{cities, three_orders};
 use cs_rebuild::{OpenGate, Run, are_columns, build, rebuild, table};
 use cs_schema::samples::{CITIES, THREE_PROJECTIONS};
-use cs_schema::{Cells, Loss, Text};
+use cs_schema::{Cells, Loss, Texts, Word};
 use cs_store::{Fault, FileSet};
 use std::alloc::Global;
 use std::marker::Sync;
@@ -57,11 +57,11 @@ fn cells_of(alloc: Global, column: Column) -> Result<Cells, Fail> {
 }
 
 fn texts_of(alloc: Global, texts: &[&str]) -> Result<Cells, Fail> {
-    let mut cells = Vec::new(alloc);
+    let mut cells = Texts::new(alloc);
     for text in texts {
-        match Text::new(alloc, text)? {
-            Some(text) => cells.push(text)?,
-            None => return Err(Fail::from("a long text")),
+        match Word::new(text) {
+            Ok(word) => cells.push(word.as_str())?,
+            Err(_) => return Err(Fail::from("a long text")),
         }
     }
     Ok(Cells::Texts(cells))
@@ -79,18 +79,21 @@ fn all_cells_of(alloc: Global, columns: &[Column]) -> Result<Vec<Cells>, Fail> {
 fn are_cells_of(cells: &Cells, column: Column) -> bool {
     match (cells, column) {
         (Cells::Ints(found), Column::Ints(ints)) => found.as_slice() == ints,
-        (Cells::Texts(found), Column::Texts(texts)) => are_texts(found.as_slice(), texts),
+        (Cells::Texts(found), Column::Texts(texts)) => are_texts(found, texts),
         _ => false,
     }
 }
 
-fn are_texts(found: &[Text], texts: &[&str]) -> bool {
-    for (one, other) in found.iter().zip(texts.iter()) {
-        if one.as_str() != *other {
+fn are_texts(found: &Texts, texts: &[&str]) -> bool {
+    if found.len() != texts.len() {
+        return false;
+    }
+    for row in 0..texts.len() {
+        if found.get(row) != texts[row] {
             return false;
         }
     }
-    found.len() == texts.len()
+    true
 }
 
 /// How a store is built, and its table handed out.

@@ -6,7 +6,7 @@ use cs_order::samples::walked_rows;
 use cs_order::{OrderFault, orders};
 use cs_rows::Table;
 use cs_schema::samples::{CITIES, THREE_PROJECTIONS, TWO_ORDERS};
-use cs_schema::{Catalog, Cells, Text, Value};
+use cs_schema::{Catalog, Cells, Texts, Value, Word};
 use std::alloc::AllocGlobal;
 use std::process::Abort;
 use std::thread::Threads;
@@ -118,19 +118,15 @@ fn ids_far_apart(rt: HostRuntime) {
     assert!(rt; keys.as_slice() == [-1, 5, i64::MAX, i64::MIN].as_slice());
 }
 
-fn text(rt: &(impl Abort + AllocGlobal), text: &str) -> Text {
-    let text = Text::new(rt.alloc(), text).expect(rt, "memory");
-    text.expect(rt, "a short text")
-}
-
 /// Columns of ids, cities and values.
 fn cities(rt: &(impl Abort + AllocGlobal), rows: &[(i64, &str)]) -> Vec<Cells> {
     let mut ids = Vec::new(rt.alloc());
-    let mut names = Vec::new(rt.alloc());
+    let mut names = Texts::new(rt.alloc());
     let mut values = Vec::new(rt.alloc());
     for (id, name) in rows {
         ids.push(*id).expect(rt, "memory");
-        names.push(text(rt, name)).expect(rt, "memory");
+        let name = Word::new(name).expect(rt, "a short text");
+        names.push(name.as_str()).expect(rt, "memory");
         values.push(0).expect(rt, "memory");
     }
     vec![in rt.alloc(); Cells::Ints(ids), Cells::Texts(names), Cells::Ints(values)].expect(

@@ -12,4 +12,4 @@ returns-in-None-clause-refused c _ =
 
 pub loop-value-preserved : goal.loop-value-preserved
 loop-value-preserved c =
-    rw (c.in_ok-push-in-Some.ensures.ok, c.in_ok-of_word-in-Some.ensures) (cells_more view cut_of cut_text Value.Text c.args.values.now c.loop-value.value-index c.value-item.result _ c.in-Some.word c.loop-value-test.true c.value-item.is c.in-Some.ensures c.loop-value.invariant)
+    rw (c.in_ok-push-in-Some.ensures.ok, c.as_str.ensures.value) (cells_more view cut_of cut_text Value.Text c.args.values.now c.loop-value.value-index c.value-item.result _ c.in-Some.word c.loop-value-test.true c.value-item.is c.in-Some.ensures c.loop-value.invariant)

@@ -7,4 +7,4 @@ use Rattle.cs_schema.specs.Cuts.{cut_text}
 use Rattle.cs_catalog.proofs.cuts.text_cuts.Given as goal
 
 abbrev pub invariant-loop-value : goal.invariant-loop-value
-invariant-loop-value l = read_all cut_text (map cut_of (map view (take l.value-index l.values))) ≡ Some (map Cell.Text l.found.items)
+invariant-loop-value l = read_all cut_text (map cut_of (map view (take l.value-index l.values))) ≡ Some (map Cell.Text l.found)

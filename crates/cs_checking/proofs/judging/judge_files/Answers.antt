@@ -1,4 +1,4 @@
-use Rattle.std.proofs.Common.{◌≡◌, List, [], length, false, refl, sym, subst, eqb-true}
+use Rattle.std.proofs.Common.{◌≡◌, List, [], length, sym, subst, eqb-true}
 use Rattle.cs_schema.specs.declared.file_name.FileName.{FileName}
 use Rattle.cs_inspection.specs.declared.badness.Badness.{Badness}
 use Rattle.cs_store.specs.FileSet.{contents_of}
@@ -13,9 +13,7 @@ returns-in-Ok-rows_of g c =
     let all_read : c.args.unreadable.now ≡ [] = no_element c.args.unreadable.now (eqb-true (length c.args.unreadable.now) 0 (sym c.if-not-is_empty.ensures)) in
     let none : c.new.result.items ≡ [] = c.new.ensures.items in
     let sound = none_bad C c.projection_count-rules.ensures.rules F c.in-Ok-rows_of.rows c.in-Ok-rows_of.ensures in
-    record {
-      is_bad = false;
+    λ asked chosen. record {
       inspected = subst (λ (bad : List (FileName × Badness)). AreBadFiles C F c.args.unreadable.now bad) (sym none) (subst (λ (names : List FileName). AreBadFiles C F names []) (sym all_read) sound);
-      none_bad = λ e. (none, all_read);
-      judged = (refl, c.in-Ok-rows_of.ensures, c.requires);
+      judged = (chosen, (none, all_read), c.in-Ok-rows_of.ensures);
     }

@@ -1,9 +1,8 @@
-use Rattle.std.proofs.Common.{arith, ap, ◌∙◌, length}
-use Rattle.std.proofs.lemmas.List.{take_all}
+use Rattle.std.proofs.Common.{arith, ◌∙◌, sym, ap, ◌++◌, ◌∷◌, []}
+use Rattle.cs_codec.proofs.ColumnRanges.{range_more}
 use Rattle.cs_codec.proofs.few_cells.copies.Goals as goal
 
-pub invariant_of-result : goal.invariant_of-result
-invariant_of-result g c =
-    let all = c.loop-cell.invariant ∙ take_all c.loop-cell.cell-index c.args.cells.now c.loop-cell-test.false in
-    let size = ap length all in
-    record { few = omega (arith, size) }
+pub loop-at-preserved : goal.loop-at-preserved
+loop-at-preserved g c = rw c.in_ok-push.ensures.items (
+    ap (λ z. z ++ c.cell.result ∷ []) c.loop-at.invariant
+    ∙ sym (range_more (g.L.Column.cells c.args.column.now) c.args.from c.loop-at.at c.cell.result (omega arith) c.cell.ensures))

@@ -73,7 +73,7 @@ returns-clause-found c = elim c.match-code.branch [
       let here = subst (λ (z : Code). IsColumnOf z c.args.kind c.args.bytes.now c.args.rows (values (Cells.Ints w.in_ok-read-in-Runs-Int.field-0))) (sym w.in-Runs-Int.is-0) (subst (λ (z : Kind). IsColumnOf Code.Runs z c.args.bytes.now c.args.rows (values (Cells.Ints w.in_ok-read-in-Runs-Int.field-0))) (sym w.in-Runs-Int.is-1) found) in
       subst (λ (z : Cells). IsColumnOf c.args.code c.args.kind c.args.bytes.now c.args.rows (values z)) (sym w.result-is) here
   | in-Runs-Text+in_ok-read-in-Runs-Text w ↦
-      let found = column_found Value.Text (runs_text text_cell (pointwise nat_eq)) IsShort IsText Code.Runs Kind.Text text_runs c.args.bytes.now c.args.rows w.in_ok-read-in-Runs-Text.field-0.items w.in_ok-read-in-Runs-Text.ensures.found in
+      let found = column_found Value.Text (runs_text text_cell (pointwise nat_eq)) IsShort IsText Code.Runs Kind.Text text_runs c.args.bytes.now c.args.rows w.in_ok-read-in-Runs-Text.field-0 w.in_ok-read-in-Runs-Text.ensures.found in
       let here = subst (λ (z : Code). IsColumnOf z c.args.kind c.args.bytes.now c.args.rows (values (Cells.Texts w.in_ok-read-in-Runs-Text.field-0))) (sym w.in-Runs-Text.is-0) (subst (λ (z : Kind). IsColumnOf Code.Runs z c.args.bytes.now c.args.rows (values (Cells.Texts w.in_ok-read-in-Runs-Text.field-0))) (sym w.in-Runs-Text.is-1) found) in
       subst (λ (z : Cells). IsColumnOf c.args.code c.args.kind c.args.bytes.now c.args.rows (values z)) (sym w.result-is) here
   | in-Bitmaps-Int+in_ok-read-in-Bitmaps-Int w ↦
@@ -81,7 +81,7 @@ returns-clause-found c = elim c.match-code.branch [
       let here = subst (λ (z : Code). IsColumnOf z c.args.kind c.args.bytes.now c.args.rows (values (Cells.Ints w.in_ok-read-in-Bitmaps-Int.field-0))) (sym w.in-Bitmaps-Int.is-0) (subst (λ (z : Kind). IsColumnOf Code.Bitmaps z c.args.bytes.now c.args.rows (values (Cells.Ints w.in_ok-read-in-Bitmaps-Int.field-0))) (sym w.in-Bitmaps-Int.is-1) found) in
       subst (λ (z : Cells). IsColumnOf c.args.code c.args.kind c.args.bytes.now c.args.rows (values z)) (sym w.result-is) here
   | in-Bitmaps-Text+in_ok-read-in-Bitmaps-Text w ↦
-      let found = column_found Value.Text (bitmaps_text text_cell (pointwise nat_eq) (slice_cmp nat_cmp)) IsShort IsText Code.Bitmaps Kind.Text text_bitmaps c.args.bytes.now c.args.rows w.in_ok-read-in-Bitmaps-Text.field-0.items w.in_ok-read-in-Bitmaps-Text.ensures.found in
+      let found = column_found Value.Text (bitmaps_text text_cell (pointwise nat_eq) (slice_cmp nat_cmp)) IsShort IsText Code.Bitmaps Kind.Text text_bitmaps c.args.bytes.now c.args.rows w.in_ok-read-in-Bitmaps-Text.field-0 w.in_ok-read-in-Bitmaps-Text.ensures.found in
       let here = subst (λ (z : Code). IsColumnOf z c.args.kind c.args.bytes.now c.args.rows (values (Cells.Texts w.in_ok-read-in-Bitmaps-Text.field-0))) (sym w.in-Bitmaps-Text.is-0) (subst (λ (z : Kind). IsColumnOf Code.Bitmaps z c.args.bytes.now c.args.rows (values (Cells.Texts w.in_ok-read-in-Bitmaps-Text.field-0))) (sym w.in-Bitmaps-Text.is-1) found) in
       subst (λ (z : Cells). IsColumnOf c.args.code c.args.kind c.args.bytes.now c.args.rows (values z)) (sym w.result-is) here
   | in-Differences-Int+in_ok-read-in-Differences-Int w ↦
@@ -93,11 +93,11 @@ returns-clause-found c = elim c.match-code.branch [
       let here = subst (λ (z : Code). IsColumnOf z c.args.kind c.args.bytes.now c.args.rows (values (Cells.Ints w.in_ok-read-in-Plain-Int.field-0))) (sym w.in-Plain-Int.is-0) (subst (λ (z : Kind). IsColumnOf Code.Plain z c.args.bytes.now c.args.rows (values (Cells.Ints w.in_ok-read-in-Plain-Int.field-0))) (sym w.in-Plain-Int.is-1) found) in
       subst (λ (z : Cells). IsColumnOf c.args.code c.args.kind c.args.bytes.now c.args.rows (values z)) (sym w.result-is) here
   | in-Plain-Text+in_ok-read-in-Plain-Text w ↦
-      let found = column_found Value.Text (plain_text text_cell) IsShort IsText Code.Plain Kind.Text plain_texts c.args.bytes.now c.args.rows w.in_ok-read-in-Plain-Text.field-0.items w.in_ok-read-in-Plain-Text.ensures.found in
+      let found = column_found Value.Text (plain_text text_cell) IsShort IsText Code.Plain Kind.Text plain_texts c.args.bytes.now c.args.rows w.in_ok-read-in-Plain-Text.field-0 w.in_ok-read-in-Plain-Text.ensures.found in
       let here = subst (λ (z : Code). IsColumnOf z c.args.kind c.args.bytes.now c.args.rows (values (Cells.Texts w.in_ok-read-in-Plain-Text.field-0))) (sym w.in-Plain-Text.is-0) (subst (λ (z : Kind). IsColumnOf Code.Plain z c.args.bytes.now c.args.rows (values (Cells.Texts w.in_ok-read-in-Plain-Text.field-0))) (sym w.in-Plain-Text.is-1) found) in
       subst (λ (z : Cells). IsColumnOf c.args.code c.args.kind c.args.bytes.now c.args.rows (values z)) (sym w.result-is) here
   | in-Differences-Text+else-rows-ne0+else-bytes-ne0 w ↦
-      let none : values c.match-code.result ≡ [] = ap values w.result-is ∙ ap (λ (xs : _). map Value.Text xs) w.new.ensures.items in
+      let none : values c.match-code.result ≡ [] = ap values w.result-is ∙ ap (λ (xs : _). map Value.Text xs) w.new.ensures in
       let found = no_texts_found c.args.bytes.now c.args.rows (values c.match-code.result) (omega arith) (omega arith) none in
       subst (λ (z : Code). IsColumnOf z c.args.kind c.args.bytes.now c.args.rows (values c.match-code.result)) (sym w.in-Differences-Text.is-0) (subst (λ (z : Kind). IsColumnOf Code.Differences z c.args.bytes.now c.args.rows (values c.match-code.result)) (sym w.in-Differences-Text.is-1) found)
 ]

@@ -9,7 +9,8 @@ use Rattle.cs_schema.specs.Rows.{Row}
 use Rattle.cs_rows.specs.Survivors.{contents_of}
 use Rattle.cs_rows.specs.Walk.{projection_rows, walked_row}
 use Rattle.cs_rebuild.specs.Walking.{IsAnchorColumn}
-use Rattle.cs_rebuild.proofs.AppendedColumns.{IsJoined, all_there, zipped_as, joined_fit, joined_rows}
+use Rattle.cs_rows.proofs.Collected.{all_there, zipped_as}
+use Rattle.cs_rebuild.proofs.AppendedColumns.{IsJoined, joined_fit, joined_rows}
 use Rattle.cs_rebuild.proofs.anchored.copy_columns.Given.{Over}
 use Rattle.cs_rebuild.proofs.anchored.copy_columns.Goals as goal
 

@@ -5,7 +5,8 @@ use Rattle.rayon.proofs.ListFacts.{IfOk-then}
 use Rattle.rayon.proofs.ToStd.{nat_range-All}
 use Rattle.cs_schema.specs.Rows.{Row}
 use Rattle.cs_rows.specs.WalkedView.{WalkedData}
-use Rattle.cs_rebuild.proofs.AppendedColumns.{IsJoined, all_there, joined_fit, joined_rows}
+use Rattle.cs_rows.proofs.Collected.{all_there}
+use Rattle.cs_rebuild.proofs.AppendedColumns.{IsJoined, joined_fit, joined_rows}
 use Rattle.cs_rebuild.proofs.appending.join_columns.Given.{Over}
 use Rattle.cs_rebuild.proofs.appending.join_columns.Goals as goal
 

@@ -15,5 +15,5 @@ returns-in-Ints c =
 
 pub returns-in-Texts : goal.returns-in-Texts
 returns-in-Texts c =
-    let fit = subst (All IsShortText) c.deref-in-Texts.ensures.value c.see_texts.ensures in
-    subst (λ (x : Cells). All (IsOfKind (kind_of x)) (values x)) (sym c.in-Texts.is) (mapped_meet Value.Text IsShortText (IsOfKind Kind.Text) (λ x h. (h.utf8, h.short)) c.in-Texts.texts.items fit)
+    let fit = c.see_texts.ensures in
+    subst (λ (x : Cells). All (IsOfKind (kind_of x)) (values x)) (sym c.in-Texts.is) (mapped_meet Value.Text IsShortText (IsOfKind Kind.Text) (λ x h. (h.utf8, h.short)) c.in-Texts.texts fit)

@@ -5,7 +5,7 @@ use Rattle.std.proofs.Crossing.{crosses}
 use denote.Param.Send.{sendable}
 use Rattle.rayon.specs.Lists.{vec_items}
 use Rattle.rayon.proofs.ListFacts.{IfOk-then}
-use Rattle.cs_rebuild.proofs.AppendedColumns.{zipped_as}
+use Rattle.cs_rows.proofs.Collected.{zipped_as}
 use Rattle.cs_rebuild.proofs.UnwrittenFiles.{IsFile, each_there, files_named, texts_made}
 use Rattle.cs_rebuild.proofs.writing.made_files.Given.{Over}
 use Rattle.cs_rebuild.proofs.writing.made_files.Goals as goal

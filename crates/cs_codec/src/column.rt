@@ -1,0 +1,223 @@
+//! Columns: lists of cells that grow at the end.
+ghost use Rattle.std.specs.Prelude.{◌≡◌, ℕ, ◌-◌, ◌<◌, ◌≤◌, List, [], ◌∷◌, ◌++◌, length, take, drop, replicate, slice_get, slice_index, Some, OnOk, IfOk, IfSome, IfNone, IsTrue, ◌↔◌};
+ghost use Rattle.std.specs.Int.{w64, to_be_bytes};
+ghost use Rattle.cs_codec.specs.Cells.{NoneStandsAt};
+ghost use Rattle.cs_codec.specs.Columns.{Reads, cells_at};
+ghost use Rattle.cs_codec.specs.Texts.{plain_text};
+
+use crate::cell::{Cell, read_text, write_text};
+use cs_schema::{Texts, Word};
+use std::alloc::{AllocError, Global};
+
+/// A list of cells, which takes no memory for each.
+pub trait Column<C: Cell>: Drop {
+    /// The cells of the list.
+    ghost cells: { Self → List C };
+
+    /// No cells.
+    fn new(alloc: Global) -> Self
+        ensures { cells result ≡ [] };
+
+    /// How many cells these are.
+    fn len(&self) -> usize
+        ensures { result ≡ length (cells self.now) };
+
+    /// Makes room for so many more cells, of so many bytes together.
+    fn reserve(&mut self, more: usize, bytes: usize) -> Result<(), AllocError>
+        ensures { cells self.new ≡ cells self.old };
+
+    /// A copy of the cell at a place.
+    fn cell(&self, at: usize) -> C
+        requires { at < length (cells self.now) }
+        ensures { slice_get (cells self.now) at ≡ Some result };
+
+    /// Whether the cell at a place is that of another column at a place.
+    fn same(&self, at: usize, other: &Self, other_at: usize) -> bool
+        requires here { at < length (cells self.now) }
+        requires there { other_at < length (cells other.now) }
+        ensures { IsTrue result ↔ (slice_get (cells self.now) at ≡ slice_get (cells other.now) other_at) };
+
+    /// Appends the bytes of the cell at a place.
+    fn write(&self, at: usize, out: &mut Vec<u8>) -> Result<(), AllocError>
+        requires { at < length (cells self.now) }
+        ensures { OnOk result ((c : C) → slice_get (cells self.now) at ≡ Some c → out.new.items ≡ out.old.items ++ C.bytes c) };
+
+    /// Adds a cell so many times at the end.
+    fn repeat(&mut self, cell: &C, count: u32) -> Result<(), AllocError>
+        ensures { OnOk result (cells self.new ≡ cells self.old ++ replicate count cell.now) };
+
+    /// Adds the cell of another column at a place.
+    fn push_cell(&mut self, other: &Self, at: usize) -> Result<(), AllocError>
+        requires { at < length (cells other.now) }
+        ensures { OnOk result ((c : C) → slice_get (cells other.now) at ≡ Some c → cells self.new ≡ cells self.old ++ c ∷ []) };
+
+    /// Adds the cells of another column at some places.
+    fn push_at(&mut self, other: &Self, places: &[u32]) -> Result<(), AllocError>
+        requires { (k : ℕ) → k < length places.now → slice_index places.now k < length (cells other.now) }
+        ensures { OnOk result (cells self.new ≡ cells self.old ++ cells_at (cells other.now) places.now) };
+
+    /// Moves the cells of another column to the end.
+    fn append(&mut self, other: Self) -> Result<(), AllocError>
+        ensures { OnOk result (cells self.new ≡ cells self.old ++ cells other) };
+
+    /// Leaves only the cells before a place.
+    fn truncate(&mut self, count: usize)
+        ensures { cells self.new ≡ take count (cells self.old) };
+
+    /// Adds the cell that stands at `at` in a text, whose end it gives.
+    fn read(&mut self, text: &[u8], at: usize) -> Result<Option<usize>, AllocError>
+        ensures found { IfOk result (λ read. IfSome read (λ end. Reads C.bytes C.is_cell text.now at (cells self.old) (cells self.new) end)) }
+        ensures none { IfOk result (λ read. IfNone read (NoneStandsAt C.bytes C.is_cell text.now at)) };
+}
+
+/// The cell's number, where there is one cell from one place up to another, and it has one.
+#[inline]
+pub(crate) fn lone_bits<C: Cell, L: Column<C>>(column: &L, from: usize, to: usize) -> Option<u64>
+    requires order { from ≤ to }
+    requires within { to ≤ length (L.cells column.now) }
+    ensures bytes { IfSome result (λ n. plain_text C.bytes (take (to - from) (drop from (L.cells column.now))) ≡ to_be_bytes w64 n) }
+    ensures cell { IfSome result (λ n. take (to - from) (drop from (L.cells column.now)) ≡ C.of_bits n ∷ []) }
+{
+    if to - from != 1 {
+        return None;
+    }
+    column.cell(from).as_bits()
+}
+
+impl<C: Cell> Column<C> for Vec<C> {
+    ghost cells = { λ column. column.items };
+
+    fn new(alloc: Global) -> Vec<C> {
+        Vec::new(alloc)
+    }
+
+    #[inline]
+    fn len(&self) -> usize {
+        self.as_slice().len()
+    }
+
+    fn reserve(&mut self, more: usize, _bytes: usize) -> Result<(), AllocError> {
+        self.reserve(more)
+    }
+
+    #[inline]
+    fn cell(&self, at: usize) -> C {
+        self.as_slice()[at].copy()
+    }
+
+    #[inline]
+    fn same(&self, at: usize, other: &Self, other_at: usize) -> bool {
+        self.as_slice()[at] == other.as_slice()[other_at]
+    }
+
+    #[inline]
+    fn write(&self, at: usize, out: &mut Vec<u8>) -> Result<(), AllocError> {
+        self.as_slice()[at].write(out)
+    }
+
+    #[inline]
+    fn repeat(&mut self, cell: &C, count: u32) -> Result<(), AllocError> {
+        for _ in 0..count {
+            self.push(cell.copy())?;
+        }
+        Ok(())
+    }
+
+    #[inline]
+    fn push_cell(&mut self, other: &Self, at: usize) -> Result<(), AllocError> {
+        self.push(other.as_slice()[at].copy())?;
+        Ok(())
+    }
+
+    fn push_at(&mut self, other: &Self, places: &[u32]) -> Result<(), AllocError> {
+        self.reserve(places.len())?;
+        for place in places {
+            self.push(other.as_slice()[*place as usize].copy())?;
+        }
+        Ok(())
+    }
+
+    fn append(&mut self, other: Self) -> Result<(), AllocError> {
+        let mut other = other;
+        self.append(&mut other)
+    }
+
+    fn truncate(&mut self, count: usize) {
+        self.truncate(count)
+    }
+
+    #[inline]
+    fn read(&mut self, text: &[u8], at: usize) -> Result<Option<usize>, AllocError> {
+        let Some((cell, end)) = C::read(text, at) else {
+            return Ok(None);
+        };
+        self.push(cell)?;
+        Ok(Some(end))
+    }
+}
+
+impl Column<Word> for Texts {
+    ghost cells = { λ texts. texts };
+
+    fn new(alloc: Global) -> Texts {
+        Texts::new(alloc)
+    }
+
+    #[inline]
+    fn len(&self) -> usize {
+        self.len()
+    }
+
+    fn reserve(&mut self, more: usize, bytes: usize) -> Result<(), AllocError> {
+        self.reserve(more, bytes)
+    }
+
+    #[inline]
+    fn cell(&self, at: usize) -> Word {
+        self.word(at)
+    }
+
+    #[inline]
+    fn same(&self, at: usize, other: &Self, other_at: usize) -> bool {
+        self.same(at, other, other_at)
+    }
+
+    #[inline]
+    fn write(&self, at: usize, out: &mut Vec<u8>) -> Result<(), AllocError> {
+        write_text(self.get(at), out)
+    }
+
+    #[inline]
+    fn repeat(&mut self, cell: &Word, count: u32) -> Result<(), AllocError> {
+        for _ in 0..count {
+            self.push(cell.as_str())?;
+        }
+        Ok(())
+    }
+
+    #[inline]
+    fn push_cell(&mut self, other: &Self, at: usize) -> Result<(), AllocError> {
+        self.push(other.get(at))
+    }
+
+    fn push_at(&mut self, other: &Self, places: &[u32]) -> Result<(), AllocError> {
+        self.push_at(other, places)
+    }
+
+    fn append(&mut self, other: Self) -> Result<(), AllocError> {
+        self.append(other)
+    }
+
+    fn truncate(&mut self, count: usize) {
+        self.truncate(count)
+    }
+
+    #[inline]
+    fn read(&mut self, text: &[u8], at: usize) -> Result<Option<usize>, AllocError> {
+        let Some((cell, end)) = read_text(text, at) else {
+            return Ok(None);
+        };
+        self.push(cell)?;
+        Ok(Some(end))
+    }
+}
