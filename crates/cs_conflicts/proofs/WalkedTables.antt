@@ -4,30 +4,23 @@ use Rattle.cs_schema.specs.CatalogData.{CatalogData}
 use Rattle.cs_schema.specs.CatalogRules.{IsCatalog}
 use Rattle.cs_schema.specs.FileNames.{FileContents}
 use Rattle.cs_schema.specs.Losses.{Sites}
-use Rattle.cs_schema.specs.Order.{Fits}
 use Rattle.cs_schema.specs.Rows.{Row, IsTable}
 use Rattle.cs_store.specs.Fault.{MemoryOr}
 use Rattle.cs_store.specs.declared.fault.Fault.{Fault}
 use Rattle.cs_order.specs.Tables.{table_of}
 use Rattle.cs_rows.specs.Survivors.{SurvivorsData, contents_of}
 use Rattle.cs_recovery.specs.Holding.{HoldsSurvivors}
-use Rattle.cs_recovery.specs.Verdicts.{IsVerdict, IsWalkedBy, judged, unless_refused, twice, full}
+use Rattle.cs_recovery.specs.Verdicts.{IsVerdict, IsWalkedBy, judged, unless_refused}
 use Rattle.cs_recovery.proofs.Accepted.{verdict_is}
-use Rattle.cs_recovery.proofs.Judged.{full_fits, table_of_rows, walked_are_rows}
-use Rattle.cs_recovery.proofs.KeptKinds.{walk_keeps_kinds}
 use Rattle.cs_recovery.proofs.Read.{layers}
-use Rattle.cs_recovery.proofs.RowKinds.{rows_keep_kinds}
-use Rattle.cs_rebuild.specs.Steps.{AreRead, IsUnordered, row_fault}
+use Rattle.cs_rebuild.specs.Steps.{AreRead, IsUnordered}
+use Rattle.cs_rebuild.proofs.SoundFacts.{walked_table}
 use Rattle.cs_rebuild.proofs.Verdicts.{unordered_rows}
 use Rattle.cs_conflicts.specs.Candidates.{AreWalkedAlike, IsWalkedLike, HasNoTable}
 use Rattle.cs_conflicts.proofs.Passes.{read_beside}
 
 not_ok : {X E : Type 0} (e : E) (x : X) → Err e ≡ Ok x → ⊥
 not_ok e x k = cc k
-
-second_none : {X : Type 0} (a b : Option X) → Rattle.std.specs.Option.option_or a b ≡ None → b ≡ None
-second_none None b e = e
-second_none (Some x) b e = absurd (Rattle.std.proofs.lemmas.Option.none-some x (sym e))
 
 same_ok : {X E : Type 0} (x y : X) → ◌≡◌ {A = Result X E} (Ok x) (Ok y) → x ≡ y
 same_ok x y e = cc e
@@ -59,9 +52,5 @@ module _ (C : CatalogData) (cat : IsCatalog C) (F : FileContents) (first L : Sit
         let verdict : IsVerdict C F M (judged C M S (Ok rows)) = IsVerdict.contents S (Ok rows) (read_beside C F first M v like.around read).reads (like.alike S (Ok rows) walk) refl in
         sym (unrefused _ (table_of C rows) U (verdict_is C cat (layers C cat) F M like.safe U held (judged C M S (Ok rows)) verdict))
 
-    module _ (sound : row_fault C rows ≡ None) (around : Rattle.cs_safety.specs.Within.IsWithin first L) where
-      pub is_table : IsTable C (table_of C rows)
-      is_table = table_of_rows C rows (walked_are_rows C F L (walk_keeps_kinds C cat F L) (rows_keep_kinds C cat F L) (contents_of v) (read_beside C F first L v around read).reads C.safety rows walk)
-
-      pub fits : Fits C (table_of C rows)
-      fits = full_fits C (table_of C rows) (second_none (twice C rows) (full C (table_of C rows)) sound)
+    pub is_table : Rattle.cs_safety.specs.Within.IsWithin first L → IsTable C (table_of C rows)
+    is_table around = walked_table C cat F L v (read_beside C F first L v around read).reads rows walk

@@ -1,8 +1,6 @@
 //! One pass over all files for the conflicts of a table.
 ghost use Rattle.std.specs.Prelude.{IfOk};
 ghost use Rattle.cs_schema.specs.FileNames.{FileContents};
-ghost use Rattle.cs_schema.specs.Order.{Fits};
-ghost use Rattle.cs_schema.specs.Rows.{IsTable};
 ghost use Rattle.cs_rebuild.specs.OnStore.{table_on};
 ghost use Rattle.cs_rebuild.specs.Steps.{AreRead};
 ghost use Rattle.cs_conflicts.specs.Candidates.{AreConflictsOf};
@@ -21,8 +19,6 @@ pub fn conflicts_of<R: Threads + Sync, G: Gate + Sync>(
     run: &Run<'_, R, G>,
     store: &OrderedStore<'_>,
 ) -> Result<Conflicts, AllocError>
-    requires table { IsTable store.now.catalog.now (table_on store.now) }
-    requires fits { Fits store.now.catalog.now (table_on store.now) }
     ensures { IfOk result (λ found. (F : FileContents) → AreRead store.now.catalog.now F store.now.loss store.now.survivors.now → AreConflictsOf store.now.catalog.now F store.now.loss (table_on store.now) found) }
 {
     let _rules = store.catalog.projection_count();

@@ -1,28 +1,28 @@
 -- The keys that items give, and whether a key stands twice.
-use Rattle.std.proofs.Common.{◌≡◌, ℕ, zero, suc, ◌+◌, ◌-◌, ◌<◌, ◌≤◌, ◌==◌, Bool, true, false, cond, List, [], ◌∷◌, ◌++◌, map, length, get_or, take, refl, sym, ap, ◌∙◌, arith, eq-eqb, append_assoc, nat_cmp}
-use Rattle.std.specs.Prelude.{IsTrue}
-use Rattle.std.specs.List.{filter_map, flat_map, IsDistinct, AllAdjacentBelow, count_by}
+use Rattle.std.proofs.Common.{◌≡◌, ℕ, ◌+◌, ◌-◌, ◌<◌, ◌≤◌, ◌==◌, Bool, true, false, cond, List, [], ◌∷◌, ◌++◌, length, get_or, take, sym, ap, ◌∙◌, arith, eq-eqb, append_assoc, nat_cmp}
+use Rattle.std.specs.Prelude.{IsTrue, slice_get, Some}
+use Rattle.std.specs.List.{filter_map, IsDistinct, AllAdjacentBelow, count_by}
 use Rattle.std.specs.List.Sorted.{IsPermutation, IsSorted}
 use Rattle.std.proofs.lemmas.Bool.{false≢true}
 use Rattle.std.proofs.lemmas.Bool.Decides.{nat_tests}
-use Rattle.std.proofs.lemmas.List.{append-nil, length-map}
+use Rattle.std.proofs.lemmas.List.{take_more}
+use Rattle.std.proofs.lemmas.Option.{slice_get_within, get_or_from_slice_get}
 use Rattle.std.proofs.lemmas.List.Elements.{filter_map-append}
-use Rattle.std.proofs.lemmas.Grind.{flat_map-append}
 use Rattle.std.proofs.lemmas.List.Sorted.{all_adjacent_more, IsPermutation-sym, IsNonDecreasingBy-from_sort}
 use Rattle.std.proofs.lemmas.List.Sums.{sum_by-append}
 use Rattle.std.proofs.lemmas.Map.Keys.{IsDistinct-IsPermutation, IsDistinct-from_apart, apart_from_distinct, sorted_from_strictly_increasing, below_from_sorted}
 use Rattle.cs_delta.specs.Image.{Change}
 use Rattle.cs_delta.specs.DeltaFile.{inserted_key, may_follow}
-use Rattle.cs_delta.proofs.MakeSteps.{mapped_more}
 
-pub keys_more : {A : Type 0} (f : A → Change) (xs : List A) (i : ℕ) (x : A) → i < length xs → x ≡ get_or xs i x → filter_map inserted_key (map f (take (i + 1) xs)) ≡ filter_map inserted_key (map f (take i xs)) ++ filter_map inserted_key (f x ∷ [])
-keys_more f xs i x l e = ap (filter_map inserted_key) (sym (mapped_more f xs i x (map f (take i xs)) (f x) l e refl refl)) ∙ filter_map-append inserted_key (map f (take i xs)) (f x ∷ [])
+taken_more : (xs : List Change) (i : ℕ) (x : Change) → slice_get xs i ≡ Some x → take (i + 1) xs ≡ take i xs ++ x ∷ []
+taken_more xs i x e = take_more xs i x (slice_get_within xs i x e) ∙ ap (λ (y : Change). take i xs ++ y ∷ []) (get_or_from_slice_get xs i x x e)
 
-pub layer_keys_more : {A : Type 0} (f : A → List Change) (xs : List A) (i : ℕ) (x : A) → i < length xs → x ≡ get_or xs i x → flat_map (filter_map inserted_key) (map f (take (i + 1) xs)) ≡ flat_map (filter_map inserted_key) (map f (take i xs)) ++ filter_map inserted_key (f x)
-layer_keys_more f xs i x l e =
-    ap (flat_map (filter_map inserted_key)) (sym (mapped_more f xs i x (map f (take i xs)) (f x) l e refl refl))
-    ∙ flat_map-append (filter_map inserted_key) (map f (take i xs)) (f x ∷ [])
-    ∙ ap (λ (a : List ℕ). flat_map (filter_map inserted_key) (map f (take i xs)) ++ a) (append-nil (filter_map inserted_key (f x)))
+keys_more : (xs : List Change) (i : ℕ) (x : Change) → slice_get xs i ≡ Some x → filter_map inserted_key (take (i + 1) xs) ≡ filter_map inserted_key (take i xs) ++ filter_map inserted_key (x ∷ [])
+keys_more xs i x e = ap (filter_map inserted_key) (taken_more xs i x e) ∙ filter_map-append inserted_key (take i xs) (x ∷ [])
+
+-- one item more among those counted
+pub count_more : (test : Change → Bool) (xs : List Change) (i : ℕ) (x : Change) → slice_get xs i ≡ Some x → count_by test (take (i + 1) xs) ≡ count_by test (take i xs) + count_by test (x ∷ [])
+count_more test xs i x e = ap (count_by test) (taken_more xs i x e) ∙ sum_by-append (λ c. cond (test c) 1 0) (take i xs) (x ∷ [])
 
 flips : (x y : ℕ) → (x == y) ≡ (y == x)
 flips x y = grind (arith, nat_tests)
@@ -43,30 +43,21 @@ not_distinct xs ys i shuffled low l same h =
     let apart : (get_or ys (i - 1) 0 == get_or ys i 0) ≡ false = apart_from_distinct ◌==◌ ys (i - 1) i 0 (IsDistinct-IsPermutation ◌==◌ flips xs ys shuffled h) (omega arith) l in
     false≢true (sym apart ∙ eq-eqb (get_or ys (i - 1) 0) (get_or ys i 0) same)
 
-pub mapped_at : {A B : Type 0} (f : A → B) (xs : List A) (i : ℕ) (r : A) (d : B) → i < length xs → r ≡ get_or xs i r → get_or (map f xs) i d ≡ f r
-mapped_at f [] i r d l e = absurd (omega arith)
-mapped_at f (x ∷ xs) zero r d l e = ap f (sym e)
-mapped_at f (x ∷ xs) (suc i) r d l e = mapped_at f xs i r d (omega arith) e
-
--- one item more among those counted
-pub count_more : {A : Type 0} (f : A → Change) (test : Change → Bool) (xs : List A) (i : ℕ) (x : A) → i < length xs → x ≡ get_or xs i x → count_by test (map f (take (i + 1) xs)) ≡ count_by test (map f (take i xs)) + count_by test (f x ∷ [])
-count_more f test xs i x l e = ap (count_by test) (sym (mapped_more f xs i x (map f (take i xs)) (f x) l e refl refl)) ∙ sum_by-append (λ c. cond (test c) 1 0) (map f (take i xs)) (f x ∷ [])
-
-pub keys_step : {A : Type 0} (f : A → Change) (xs : List A) (i : ℕ) (x : A) (first old new : List ℕ) → i < length xs → x ≡ get_or xs i x → old ≡ first ++ filter_map inserted_key (map f (take i xs)) → new ≡ old ++ filter_map inserted_key (f x ∷ []) → new ≡ first ++ filter_map inserted_key (map f (take (i + 1) xs))
-keys_step f xs i x first old new l e h k =
-    k ∙ ap (λ (a : List ℕ). a ++ filter_map inserted_key (f x ∷ [])) h ∙ append_assoc first (filter_map inserted_key (map f (take i xs))) (filter_map inserted_key (f x ∷ [])) ∙ ap (λ (a : List ℕ). first ++ a) (sym (keys_more f xs i x l e))
+pub keys_step : (xs : List Change) (i : ℕ) (x : Change) (first old new : List ℕ) → slice_get xs i ≡ Some x → old ≡ first ++ filter_map inserted_key (take i xs) → new ≡ old ++ filter_map inserted_key (x ∷ []) → new ≡ first ++ filter_map inserted_key (take (i + 1) xs)
+keys_step xs i x first old new e h k =
+    k ∙ ap (λ (a : List ℕ). a ++ filter_map inserted_key (x ∷ [])) h ∙ append_assoc first (filter_map inserted_key (take i xs)) (filter_map inserted_key (x ∷ [])) ∙ ap (λ (a : List ℕ). first ++ a) (sym (keys_more xs i x e))
 
 -- ---- the order of items
 
-pub out_of_order : {A : Type 0} (f : A → Change) (xs : List A) (i : ℕ) (a b : A) → 1 ≤ i → i < length xs → a ≡ get_or xs (i - 1) a → b ≡ get_or xs i b → may_follow (f a) (f b) ≡ false → AllAdjacentBelow (λ c e. IsTrue (may_follow c e)) (map f xs) (length (map f xs)) → ⊥
-out_of_order f xs i a b low l ea eb differs h =
-    let here : IsTrue (may_follow (get_or (map f xs) (i - 1) (f a)) (get_or (map f xs) (i - 1 + 1) (f a))) = h (i - 1) (f a) (omega (arith, length-map xs f)) in
+pub out_of_order : (xs : List Change) (i : ℕ) (a b : Change) → 1 ≤ i → slice_get xs (i - 1) ≡ Some a → slice_get xs i ≡ Some b → may_follow a b ≡ false → AllAdjacentBelow (λ c e. IsTrue (may_follow c e)) xs (length xs) → ⊥
+out_of_order xs i a b low ea eb differs h =
+    let within = slice_get_within xs i b eb in
+    let here : IsTrue (may_follow (get_or xs (i - 1) a) (get_or xs (i - 1 + 1) a)) = h (i - 1) a (omega arith) in
     let back : i ≡ i - 1 + 1 = omega arith in
-    let first : get_or (map f xs) (i - 1) (f a) ≡ f a = mapped_at f xs (i - 1) a (f a) (omega arith) ea in
-    let second : get_or (map f xs) (i - 1 + 1) (f a) ≡ f b = ap (λ n. get_or (map f xs) n (f a)) (sym back) ∙ mapped_at f xs i b (f a) l eb in
-    false≢true (sym differs ∙ ap (λ c. may_follow c (f b)) (sym first) ∙ ap (λ c. may_follow (get_or (map f xs) (i - 1) (f a)) c) (sym second) ∙ here)
+    let second : get_or xs (i - 1 + 1) a ≡ b = ap (λ n. get_or xs n a) (sym back) ∙ get_or_from_slice_get xs i b a eb in
+    false≢true (sym differs ∙ ap (λ c. may_follow c b) (sym (get_or_from_slice_get xs (i - 1) a a ea)) ∙ ap (λ c. may_follow (get_or xs (i - 1) a) c) (sym second) ∙ here)
 
-pub order_more : {A : Type 0} (f : A → Change) (xs : List A) (i : ℕ) (a b : A) → 1 ≤ i → i < length xs → a ≡ get_or xs (i - 1) a → b ≡ get_or xs i b → may_follow (f a) (f b) ≡ true → AllAdjacentBelow (λ c e. IsTrue (may_follow c e)) (map f xs) i → AllAdjacentBelow (λ c e. IsTrue (may_follow c e)) (map f xs) (i + 1)
-order_more f xs i a b low l ea eb passes h =
-    all_adjacent_more (map f xs) (λ c e. IsTrue (may_follow c e)) i low h (λ d.
-    ap (λ c. may_follow c (get_or (map f xs) i d)) (mapped_at f xs (i - 1) a d (omega arith) ea) ∙ ap (λ c. may_follow (f a) c) (mapped_at f xs i b d l eb) ∙ passes)
+pub order_more : (xs : List Change) (i : ℕ) (a b : Change) → 1 ≤ i → slice_get xs (i - 1) ≡ Some a → slice_get xs i ≡ Some b → may_follow a b ≡ true → AllAdjacentBelow (λ c e. IsTrue (may_follow c e)) xs i → AllAdjacentBelow (λ c e. IsTrue (may_follow c e)) xs (i + 1)
+order_more xs i a b low ea eb passes h =
+    all_adjacent_more xs (λ c e. IsTrue (may_follow c e)) i low h (λ d.
+    ap (λ c. may_follow c (get_or xs i d)) (get_or_from_slice_get xs (i - 1) a d ea) ∙ ap (λ c. may_follow a c) (get_or_from_slice_get xs i b d eb) ∙ passes)

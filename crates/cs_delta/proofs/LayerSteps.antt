@@ -1,7 +1,7 @@
 -- One layer after others.
 use Rattle.std.proofs.Common.{◌≡◌, ℕ, suc, ◌+◌, ◌<◌, ◌≤◌, List, [], ◌∷◌, ◌++◌, map, length, get_or, take, drop, refl, sym, ap, subst, ◌∙◌, arith}
 use Rattle.std.specs.Prelude.{All}
-use Rattle.std.proofs.lemmas.List.{length-map, take-append-drop, map-append}
+use Rattle.std.proofs.lemmas.List.{length-map, take-append-drop}
 use Rattle.cs_schema.specs.declared.kinds.Kind.{Kind}
 use Rattle.cs_schema.specs.declared.cells.Value.{Value}
 use Rattle.cs_schema.specs.Lists.{IsIn}
@@ -64,9 +64,8 @@ layers_after kinds next keys new l ls e ek h =
     let V : List Kind → Type 0 = λ a. AreLayers a new ls in
     subst V (sym e) (subst K (sym ek) h.1)
 
-pub split_at : {A B : Type 0} (f : A → B) (xs : List A) (i : ℕ) (x : A) → i < length xs → x ≡ get_or xs i x → map f xs ≡ map f (take i xs) ++ f x ∷ map f (drop (i + 1) xs)
-split_at {A} {B} f xs i x l e =
-    sym (ap (map f) (take-append-drop i xs)) ∙ map-append f (take i xs) (drop i xs) ∙ ap (λ (a : List A). map f (take i xs) ++ map f a) (drop_item xs i x l e)
+pub split_at : {A : Type 0} (xs : List A) (i : ℕ) (x : A) → i < length xs → x ≡ get_or xs i x → xs ≡ take i xs ++ x ∷ drop (i + 1) xs
+split_at {A} xs i x l e = sym (take-append-drop i xs) ∙ ap (λ (a : List A). take i xs ++ a) (drop_item xs i x l e)
 
 pub too_many : (keys ks : List ℕ) (columns cs : List (List Value)) (all ls ms : List (List Change)) (l : List Change) (xs : List Pair) → all ≡ ls ++ l ∷ ms → IsMadeBy keys columns ls ks cs → map key_of xs ≡ keys → 1048576 < length (edited_from (key_edits l) 0 ks) → AllFit all xs → ⊥
 too_many keys ks columns cs all ls ms l xs s m e many fit =

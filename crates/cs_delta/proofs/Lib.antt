@@ -14,3 +14,5 @@ pub mod KeyLists
 pub mod LayerCounts
 pub mod FirstKeys
 pub mod Lefts
+pub mod CellPlaces
+pub mod StoredChanges

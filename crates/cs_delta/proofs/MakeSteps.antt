@@ -1,8 +1,9 @@
 -- One edit of a merge.
-use Rattle.std.proofs.lemmas.List.{drop_more, map_more}
+use Rattle.std.proofs.lemmas.List.{drop_more}
 use Rattle.cs_schema.specs.Lists.{IsIn}
-use Rattle.std.proofs.Common.{◌≡◌, ℕ, zero, suc, ◌<◌, ◌≤◌, map, get_or, inl, inr, ◌+◌, ◌-◌, List, [], ◌∷◌, ◌++◌, length, take, drop, sym, ap, ◌∙◌, arith}
-use Rattle.cs_delta.specs.Edits.{Edit, edited_from}
+use Rattle.std.proofs.Common.{◌≡◌, ℕ, zero, suc, ◌<◌, ◌≤◌, get_or, inl, inr, ◌+◌, ◌-◌, List, [], ◌∷◌, ◌++◌, length, take, drop, sym, ap, ◌∙◌, arith, Option, Some, None}
+use Rattle.std.specs.List.{cons_option}
+use Rattle.cs_delta.specs.Edits.{Edit, edited_from, AreEdits}
 use Rattle.cs_delta.specs.MergeSteps.{Makes}
 use Rattle.cs_delta.proofs.EditLists.{put_step, cut_step, change_step, end_step}
 
@@ -33,11 +34,14 @@ made_all {X} base target out done es l e m = sym (end_step done out base target 
 pub drop_item : {X : Type 0} (xs : List X) (i : ℕ) (x : X) → i < length xs → x ≡ get_or xs i x → drop i xs ≡ x ∷ drop (i + 1) xs
 drop_item {X} xs i x l e = drop_more xs i x l ∙ ap (λ (y : X). y ∷ drop (i + 1) xs) (sym e)
 
-pub in_mapped : {X Y : Type 0} (f : X → Y) (xs : List X) (i : ℕ) (x : X) → i < length xs → x ≡ get_or xs i x → IsIn (f x) (map f xs)
-in_mapped f [] i x l e = absurd (omega arith)
-in_mapped f (y ∷ xs) zero x l e = inl (ap f e)
-in_mapped f (y ∷ xs) (suc i) x l e = inr (in_mapped f xs i x (omega arith) e)
+pub stands_in : {X : Type 0} (xs : List X) (i : ℕ) (x : X) → i < length xs → x ≡ get_or xs i x → IsIn x xs
+stands_in [] i x l e = absurd (omega arith)
+stands_in (y ∷ xs) zero x l e = inl e
+stands_in (y ∷ xs) (suc i) x l e = inr (stands_in xs i x (omega arith) e)
 
-pub mapped_more : {A B : Type 0} (f : A → B) (xs : List A) (j : ℕ) (x : A) (done : List B) (k : B) → j < length xs → x ≡ get_or xs j x → done ≡ map f (take j xs) → k ≡ f x → done ++ k ∷ [] ≡ map f (take (j + 1) xs)
-mapped_more {A} {B} f xs j x done k l e ed ek =
-    ap (λ (a : List B). a ++ k ∷ []) ed ∙ ap (λ (z : B). map f (take j xs) ++ z ∷ []) (ek ∙ ap f e) ∙ sym (map_more f xs j x l)
+-- the first of some edits, where an item makes one
+pub first_edit : {X : Type 0} (n from : ℕ) (e : Option (Edit X)) (es : List (Edit X)) → AreEdits n from (cons_option e es) → AreEdits n from (cons_option e [])
+first_edit n from None es h = tt
+first_edit n from (Some (Edit.put at x)) es h = (h.0, h.1, tt)
+first_edit n from (Some (Edit.cut at)) es h = (h.0, h.1, tt)
+first_edit n from (Some (Edit.change at x)) es h = (h.0, h.1, tt)

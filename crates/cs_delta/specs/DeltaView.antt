@@ -1,8 +1,6 @@
--- The fields of deltas and images as plain data.
-use Rattle.std.specs.Prelude.{map}
+-- The fields of a delta as plain data.
 use Rattle.cs_delta.specs.declared.delta.Delta.TheInside.{Inside as DeltaInside}
-use Rattle.cs_delta.specs.ItemView.{changes_of}
 use Rattle.cs_delta.specs.DeltaFile.{DeltaData}
 
 abbrev pub delta_data : DeltaInside → DeltaData
-delta_data a = record { p = a.p; s = a.s; version = a.version; rows = a.rows; top = a.top; layers = map changes_of a.layers.items }
+delta_data a = record { p = a.p; s = a.s; version = a.version; rows = a.rows; top = a.top; layers = a.layers.items }

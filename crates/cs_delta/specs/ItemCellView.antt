@@ -1,11 +1,11 @@
 -- An item's cell as a plain one.
+use Rattle.std.specs.Prelude.{◌<◌, length}
 use Rattle.cs_schema.specs.declared.cells.Value.{Value}
-use Rattle.cs_delta.specs.declared.item_cell.CellPlace.{CellPlace}
+use Rattle.cs_schema.specs.Rows.{cell}
 use Rattle.cs_delta.specs.declared.item_cell.ItemCell.TheInside.{Inside}
 
-abbrev pub placed : CellPlace → Value
-placed (CellPlace.Int int) = Value.Int int
-placed (CellPlace.Text text) = Value.Text text.value
-
 abbrev pub cell_value : Inside → Value
-cell_value c = placed c.place
+cell_value c = cell c.cells.now c.at
+
+abbrev pub IsAmong : Inside → Type 0
+IsAmong c = c.at < length c.cells.now

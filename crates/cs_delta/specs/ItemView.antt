@@ -1,6 +1,5 @@
 -- Items as plain data, and the edits that they are of a column and of the keys.
-use Rattle.std.specs.Prelude.{◌≡◌, ℕ, ◌<◌, ◌==◌, if◌then◌else◌, List, map, length, Option, Some, None, Vec}
-use Rattle.std.specs.Global.{Global}
+use Rattle.std.specs.Prelude.{◌≡◌, ℕ, ◌<◌, ◌==◌, if◌then◌else◌, List, length, Option, Some, None}
 use Rattle.std.specs.List.{filter_map}
 use Rattle.cs_schema.specs.declared.kinds.Kind.{Kind}
 use Rattle.cs_schema.specs.declared.cells.Value.{Value}
@@ -11,12 +10,9 @@ use Rattle.cs_delta.specs.declared.item.Item.{Item}
 use Rattle.cs_delta.specs.Edits.{Edit}
 
 abbrev pub change_of : Item → Change
-change_of (Item.Insert at key row) = Change.insert at key row.items
+change_of (Item.Insert at key row) = Change.insert at key row
 change_of (Item.Delete at) = Change.delete at
 change_of (Item.Modify at j v) = Change.modify at j v
-
-abbrev pub changes_of : Vec Item Global → List Change
-changes_of v = map change_of v.items
 
 abbrev pub cell_edit : ℕ → Change → Option (Edit Value)
 cell_edit j (Change.insert at key row) = Some (Edit.put at (cell row j))

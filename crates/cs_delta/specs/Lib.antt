@@ -1,7 +1,12 @@
 pub mod Image
 pub mod DeltaFile
 pub mod Edits
+pub mod CellContents
 pub mod ItemCellView
+pub mod LayerCellsView
+pub mod ItemRowView
+pub mod StoredItems
+pub mod LayerView
 pub mod ItemView
 pub mod MergeSteps
 pub mod Layers
@@ -10,5 +15,6 @@ pub mod KindedImage
 pub mod DeltaView
 pub mod ImageView
 pub mod Reading
+pub mod Adding
 pub mod Laws
 pub mod KeysView

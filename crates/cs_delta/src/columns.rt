@@ -2,7 +2,8 @@
 ghost use Rattle.std.specs.Prelude.{◌≡◌, ◌++◌, ◌∷◌, [], length, IsTrue, OnOk};
 ghost use Rattle.cs_schema.specs.Values.{values, kind_of, value_kind};
 
-use crate::item_cell::{CellPlace, ItemCell};
+use crate::item_cell::ItemCell;
+use crate::layer_cells::CellContent;
 use cs_schema::Cells;
 use std::alloc::{AllocError, Global};
 
@@ -61,9 +62,9 @@ pub fn push(out: &mut Cells, cell: &ItemCell) -> Result<(), AllocError>
     ensures values { OnOk result (values out.new ≡ values out.old ++ cell.now ∷ []) }
     ensures kind { kind_of out.new ≡ kind_of out.old }
 {
-    match (out, &cell.place) {
-        (Cells::Ints(out), CellPlace::Int(int)) => out.push(*int)?,
-        (Cells::Texts(out), CellPlace::Text(text)) => out.push(text.as_str())?,
+    match (out, cell.content()) {
+        (Cells::Ints(out), CellContent::Int(int)) => out.push(int)?,
+        (Cells::Texts(out), CellContent::Text(text)) => out.push(text)?,
         _ => unreachable!(),
     }
     Ok(())

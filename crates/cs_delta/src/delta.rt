@@ -1,5 +1,5 @@
 //! Deltas.
-use crate::item::Item;
+use crate::layer::Layer;
 use std::marker::Model;
 
 /// The changes of a segment's base, in layers, the lowest first.
@@ -10,7 +10,7 @@ pub struct Delta {
     pub version: u8,
     pub rows: u32,
     pub top: u32,
-    pub layers: Vec<Vec<Item>>,
+    pub layers: Vec<Layer>,
 }
 
 impl Model for Delta {

@@ -1,17 +1,16 @@
 //! Images: segments with their deltas merged.
-ghost use Rattle.std.specs.Prelude.{◌≡◌, ◌≤◌, ◌<◌, ℕ, List, map, length, slice_index, slice_index_or, IfOk, IsTrue, All, []};
+ghost use Rattle.std.specs.Prelude.{◌≡◌, ◌≤◌, ◌<◌, ℕ, List, length, slice_index, slice_index_or, IfOk, IsTrue, All, []};
 ghost use Rattle.cs_schema.specs.declared.kinds.Kind.{Kind};
 ghost use Rattle.cs_schema.specs.Values.{values, kind_of};
 ghost use Rattle.cs_delta.specs.Image.{image_keys, position_of_key};
-ghost use Rattle.cs_delta.specs.ItemView.{changes_of};
 ghost use Rattle.cs_delta.specs.KindedImage.{AreOfOneCatalog, merged_image, image_column, base_keys};
 ghost use Rattle.cs_delta.specs.DeltaFile.{CanMerge};
 
+use crate::applying::apply_layers;
 use crate::columns::{count, empty_like};
 use crate::delta::Delta;
-use crate::item::Item;
 use crate::keys::Keys;
-use crate::layer::apply_layers;
+use crate::layer::Layer;
 use cs_schema::Cells;
 use cs_segment::fault::FileFault;
 use cs_segment::segment::Segment;
@@ -130,8 +129,8 @@ pub fn merge_owned(alloc: Global, segment: Segment, delta: &Delta) -> Result<Ima
 }
 
 /// Whether no layer has items.
-fn say_nothing(layers: &[Vec<Item>]) -> bool
-    ensures { IsTrue result → All (λ layer. layer ≡ []) (map changes_of layers.now) }
+fn say_nothing(layers: &[Layer]) -> bool
+    ensures { IsTrue result → All (λ layer. layer ≡ []) layers.now }
 {
     for layer in layers {
         if !layer.is_empty() {

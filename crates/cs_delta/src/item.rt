@@ -1,13 +1,63 @@
 //! The items of a delta.
+ghost use Rattle.std.specs.Prelude.{◌≡◌, ◌<◌, length};
+ghost use Rattle.cs_schema.specs.Rows.{cell};
+
 use crate::item_cell::ItemCell;
+use crate::layer_cells::LayerCells;
+use std::marker::Model;
+
+/// The cells of an inserted row, among those of its layer. A contract sees what stands in them.
+#[derive(Drop)]
+pub struct ItemRow<'a> {
+    pub(crate) cells: &'a LayerCells,
+    /// The number of the first.
+    pub(crate) from: usize,
+    pub(crate) width: usize,
+}
+
+impl<'a> Model for ItemRow<'a> {
+    ghost use Rattle.std.specs.Prelude.{List};
+    ghost use Rattle.cs_schema.specs.declared.cells.Value.{Value as ValueData};
+
+    ghost Value = { List ValueData };
+
+    ghost use Rattle.cs_delta.specs.ItemRowView.{row_cells, IsWithin};
+
+    ghost view = { row_cells };
+
+    ghost invariant = { IsWithin };
+}
+
+impl<'a> ItemRow<'a> {
+    /// How many cells these are.
+    pub fn len(&self) -> usize
+        ensures { result ≡ length self.now }
+    {
+        self.width
+    }
+
+    /// The cell in a column of the projection.
+    pub fn cell(&self, j: usize) -> ItemCell<'a>
+        requires { j < length self.now }
+        ensures { result ≡ cell self.now j }
+    {
+        let cells = self.cells;
+        // their number fits, and so does that of each
+        let _count = cells.len();
+        ItemCell {
+            cells,
+            at: self.from + j,
+        }
+    }
+}
 
 /// A change of rows at a position: a row before it with its key, no such row, or a cell in its place.
 #[derive(Drop)]
-pub enum Item {
+pub enum Item<'a> {
     Insert {
         at: u32,
         key: u32,
-        row: Vec<ItemCell>,
+        row: ItemRow<'a>,
     },
     Delete {
         at: u32,
@@ -15,6 +65,6 @@ pub enum Item {
     Modify {
         at: u32,
         column: u8,
-        value: ItemCell,
+        value: ItemCell<'a>,
     },
 }

@@ -1,53 +1,36 @@
 //! The cells that items give.
-ghost use Rattle.std.specs.Prelude.{◌≡◌, IfOk};
-ghost use Rattle.cs_schema.specs.declared.cells.Value.{Value as ValueData};
+ghost use Rattle.std.specs.Prelude.{◌≡◌};
+ghost use Rattle.cs_delta.specs.CellContents.{content_value, IsShort};
 
-use cs_schema::Word;
-use std::alloc::{AllocError, Global};
+use crate::layer_cells::{CellContent, LayerCells};
 use std::marker::Model;
 
-/// Where the cell is: an int here, a text apart, so that an int takes no room for a text.
+/// A cell that an item gives, among those of its layer. A contract sees what stands in it.
 #[derive(Drop)]
-pub enum CellPlace {
-    Int(i64),
-    Text(Box<Word>),
+pub struct ItemCell<'a> {
+    pub(crate) cells: &'a LayerCells,
+    pub(crate) at: usize,
 }
 
-/// A cell that an item gives.
-#[derive(Drop)]
-pub struct ItemCell {
-    pub place: CellPlace,
-}
-
-impl Model for ItemCell {
+impl<'a> Model for ItemCell<'a> {
     ghost use Rattle.cs_schema.specs.declared.cells.Value.{Value as ValueData};
 
     ghost Value = { ValueData };
 
-    ghost use Rattle.cs_delta.specs.ItemCellView.{cell_value};
+    ghost use Rattle.cs_delta.specs.ItemCellView.{cell_value, IsAmong};
 
     ghost view = { cell_value };
+
+    ghost invariant = { IsAmong };
 }
 
-impl ItemCell {
-    /// An int.
-    pub fn int(int: i64) -> Self
-        ensures { result ≡ ValueData.Int int }
+impl<'a> ItemCell<'a> {
+    /// What stands in the cell.
+    pub fn content(&self) -> CellContent<'a>
+        ensures value { content_value result ≡ self.now }
+        ensures fits { IsShort result }
     {
-        ItemCell {
-            place: CellPlace::Int(int),
-        }
-    }
-
-    /// A text.
-    pub fn text(alloc: Global, text: Word) -> Result<Self, AllocError>
-        ensures { IfOk result (λ cell. cell ≡ ValueData.Text text) }
-    {
-        match Box::new(alloc, text) {
-            Ok(text) => Ok(ItemCell {
-                place: CellPlace::Text(text),
-            }),
-            Err(_) => Err(AllocError),
-        }
+        let cells = self.cells;
+        cells.content(self.at)
     }
 }

@@ -1,10 +1,11 @@
 //! The items of a layer as a list: their order, and the rows that they leave.
-ghost use Rattle.std.specs.Prelude.{◌≡◌, ◌<◌, ◌↔◌, ◌^◌, map, length, IsTrue};
+ghost use Rattle.std.specs.Prelude.{◌≡◌, ◌<◌, ◌↔◌, ◌^◌, length, IsTrue};
 ghost use Rattle.std.specs.List.{AllAdjacentBelow};
 ghost use Rattle.cs_delta.specs.ItemView.{change_of};
 ghost use Rattle.cs_delta.specs.DeltaFile.{may_follow, rows_after};
 
 use crate::item::Item;
+use crate::layer::Layer;
 
 /// Whether an item may stand behind another.
 fn follows(item: &Item, next: &Item) -> bool
@@ -37,11 +38,11 @@ fn follows(item: &Item, next: &Item) -> bool
 }
 
 /// Whether each item may stand behind the one before it.
-pub(crate) fn are_in_order(items: &[Item]) -> bool
-    ensures { IsTrue result ↔ AllAdjacentBelow (λ c e. IsTrue (may_follow c e)) (map change_of items.now) (length (map change_of items.now)) }
+pub(crate) fn are_in_order(layer: &Layer) -> bool
+    ensures { IsTrue result ↔ AllAdjacentBelow (λ c e. IsTrue (may_follow c e)) layer.now (length layer.now) }
 {
-    for i in 1..items.len() {
-        if !follows(&items[i - 1], &items[i]) {
+    for i in 1..layer.len() {
+        if !follows(&layer.item(i - 1), &layer.item(i)) {
             return false;
         }
     }
@@ -49,14 +50,14 @@ pub(crate) fn are_in_order(items: &[Item]) -> bool
 }
 
 /// How many rows a layer leaves of so many.
-pub(crate) fn rows_left(below: u32, items: &[Item]) -> u64
-    requires { length items.now < 2 ^ 32 }
-    ensures value { result ≡ rows_after below (map change_of items.now) }
+pub(crate) fn rows_left(below: u32, layer: &Layer) -> u64
+    requires { length layer.now < 2 ^ 32 }
+    ensures value { result ≡ rows_after below layer.now }
 {
     let mut inserts: u64 = 0;
     let mut deletes: u64 = 0;
-    for item in items {
-        match item {
+    for i in 0..layer.len() {
+        match layer.item(i) {
             Item::Insert { .. } => inserts += 1,
             Item::Delete { .. } => deletes += 1,
             Item::Modify { .. } => {}

@@ -1,94 +1,85 @@
-//! All columns with the items of a layer applied.
-ghost use Rattle.std.specs.Prelude.{◌≡◌, ◌≤◌, ◌<◌, ℕ, List, map, length, IfOk};
-ghost use Rattle.cs_schema.specs.Values.{values, kind_of};
-ghost use Rattle.cs_delta.specs.Image.{Pair};
-ghost use Rattle.cs_delta.specs.Edits.{edited_from};
-ghost use Rattle.cs_delta.specs.ItemView.{change_of, changes_of, key_edits};
-ghost use Rattle.cs_delta.specs.Layers.{IsLayerOf, edited_columns, AreLayers, ArePairs, IsMadeBy, HaveLength, key_of};
-ghost use Rattle.cs_delta.specs.DeltaFile.{AllFit};
+//! The layers of a delta.
+ghost use Rattle.std.specs.Prelude.{◌≡◌, ◌==◌, ◌<◌, map, length, slice_get, Some, All};
+ghost use Rattle.cs_delta.specs.ItemView.{change_of};
+ghost use Rattle.cs_delta.specs.StoredItems.{stored_change, AreAmong};
 
-use crate::item::Item;
-use crate::merging::{merge_column, merge_keys};
-use cs_schema::Cells;
-use cs_segment::fault::FileFault;
-use std::alloc::Global;
-use std::mem::replace;
+use crate::item::{Item, ItemRow};
+use crate::item_cell::ItemCell;
+use crate::layer_cells::LayerCells;
+use crate::stored_item::StoredItem;
+use std::marker::Model;
 
-/// The keys of rows, and their cells by columns.
+/// The items of a layer, and the cells that they give, whose texts lie in one block. A contract sees the changes.
 #[derive(Drop)]
-pub struct Rows {
-    pub keys: Vec<u32>,
-    pub columns: Vec<Cells>,
+pub struct Layer {
+    items: Vec<StoredItem>,
+    cells: LayerCells,
+    /// How many cells a row has.
+    width: usize,
 }
 
-/// The most rows of an image.
-const ROW_LIMIT: usize = 1_048_576;
+impl Model for Layer {
+    ghost use Rattle.std.specs.Prelude.{List};
+    ghost use Rattle.cs_delta.specs.Image.{Change};
 
-/// The rows with the items of a layer applied, in the room of spent columns. A column is spent as soon as it is merged: so
-/// the next one of its kind is made in its room.
-pub fn apply_layer(
-    alloc: Global,
-    spent: &mut Vec<Cells>,
-    keys: &[u32],
-    columns: Vec<Cells>,
-    items: &[Item],
-) -> Result<Rows, FileFault>
-    requires layer { IsLayerOf (map kind_of columns.items) (length keys.now) (map change_of items.now) }
-    requires lengths { HaveLength (length keys.now) (map values columns.items) }
-    ensures keys { IfOk result (λ rows. rows.keys.items ≡ edited_from (key_edits (map change_of items.now)) 0 keys.now) }
-    ensures columns { IfOk result (λ rows. map values rows.columns.items ≡ edited_columns (map change_of items.now) 0 (map values columns.items)) }
-    ensures kinds { IfOk result (λ rows. map kind_of rows.columns.items ≡ map kind_of columns.items) }
-    ensures few { IfOk result (λ rows. length rows.keys.items ≤ 1048576) }
-    ensures many { result ≡ Err FileFault.Damaged → 1048576 < length (edited_from (key_edits (map change_of items.now)) 0 keys.now) }
-{
-    let merged_keys = merge_keys(alloc, keys, items)?;
-    if merged_keys.len() > ROW_LIMIT {
-        return Err(FileFault::Damaged);
-    }
-    let rows = merged_keys.len();
-    let mut merged = Vec::new(alloc);
-    let mut columns = columns;
-    for j in 0..columns.len() {
-        // they are few: so it takes no time that those behind move up
-        let column = columns.remove(0);
-        merged.push(merge_column(alloc, spent, rows, &column, items, j)?)?;
-        spent.push(column)?;
-    }
-    Ok(Rows {
-        keys: merged_keys,
-        columns: merged,
-    })
+    ghost Value = { List Change };
+
+    ghost use Rattle.cs_delta.specs.LayerView.{layer_changes, HaveCells};
+
+    ghost view = { layer_changes };
+
+    ghost invariant = { HaveCells };
 }
 
-/// The rows with the items of layers applied, the lowest first. A layer above the lowest that has no items makes no
-/// columns anew.
-pub fn apply_layers(
-    alloc: Global,
-    keys: &[u32],
-    columns: Vec<Cells>,
-    layers: &[Vec<Item>],
-) -> Result<Rows, FileFault>
-    requires some { 1 ≤ length layers.now }
-    requires layers { AreLayers (map kind_of columns.items) keys.now (map changes_of layers.now) }
-    requires lengths { HaveLength (length keys.now) (map values columns.items) }
-    ensures made { IfOk result (λ made. IsMadeBy keys.now (map values columns.items) (map changes_of layers.now) made.keys.items (map values made.columns.items)) }
-    ensures few { IfOk result (λ made. length made.keys.items ≤ 1048576) }
-    ensures lengths { IfOk result (λ made. HaveLength (length made.keys.items) (map values made.columns.items)) }
-    ensures kinds { IfOk result (λ made. map kind_of made.columns.items ≡ map kind_of columns.items) }
-    ensures many { result ≡ Err FileFault.Damaged → (xs : List Pair) → map key_of xs ≡ keys.now → AllFit (map changes_of layers.now) xs → ⊥ }
-{
-    let Some((lowest, above)) = layers.split_first() else {
-        unreachable!()
-    };
-    let mut spent = Vec::new(alloc);
-    let mut made = apply_layer(alloc, &mut spent, keys, columns, lowest)?;
-    for layer in above {
-        if !layer.is_empty() {
-            let keys_below = made.keys.as_slice();
-            let columns_below = replace(&mut made.columns, Vec::new(alloc));
-            let next = apply_layer(alloc, &mut spent, keys_below, columns_below, layer)?;
-            made = next;
+impl Layer {
+    /// The layer of items whose cells are among these.
+    pub(crate) fn new(items: Vec<StoredItem>, cells: LayerCells, width: usize) -> Self
+        requires { All (AreAmong (length cells) width) items.items }
+        ensures { result ≡ map (stored_change cells width) items.items }
+    {
+        Layer {
+            items,
+            cells,
+            width,
         }
     }
-    Ok(made)
+
+    /// How many items it has.
+    pub fn len(&self) -> usize
+        ensures { result ≡ length self.now }
+    {
+        self.items.len()
+    }
+
+    /// Whether it has none.
+    pub fn is_empty(&self) -> bool
+        ensures { result ≡ (length self.now == 0) }
+    {
+        self.len() == 0
+    }
+
+    /// The item of a number.
+    pub fn item(&self, number: usize) -> Item<'_>
+        requires { number < length self.now }
+        ensures { slice_get self.now number ≡ Some (change_of result) }
+    {
+        match self.items[number] {
+            StoredItem::Insert { at, key, from } => {
+                let row = ItemRow {
+                    cells: &self.cells,
+                    from,
+                    width: self.width,
+                };
+                Item::Insert { at, key, row }
+            }
+            StoredItem::Delete { at } => Item::Delete { at },
+            StoredItem::Modify { at, column, from } => {
+                let value = ItemCell {
+                    cells: &self.cells,
+                    at: from,
+                };
+                Item::Modify { at, column, value }
+            }
+        }
+    }
 }

@@ -4,6 +4,7 @@
 //! its delta are merged into the image that positional updates give: layer over layer, in time linear in rows and items.
 #![tactic(auto)]
 
+mod applying;
 mod columns;
 mod delta;
 pub mod image;
@@ -13,14 +14,18 @@ mod item_list;
 mod keys;
 pub mod laws;
 mod layer;
+mod layer_cells;
 mod merging;
 mod reader;
 mod reading;
+mod stored_item;
 mod writing;
 
 pub use delta::Delta;
 pub use image::{Image, merge, merge_owned};
-pub use item::Item;
-pub use item_cell::{CellPlace, ItemCell};
+pub use item::{Item, ItemRow};
+pub use item_cell::ItemCell;
+pub use layer::Layer;
+pub use layer_cells::CellContent;
 pub use reading::read_delta;
 pub use writing::write_empty_delta;

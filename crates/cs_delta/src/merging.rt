@@ -1,5 +1,5 @@
 //! One column, or the keys, with the items of a layer applied.
-ghost use Rattle.std.specs.Prelude.{◌≡◌, ◌≤◌, ℕ, List, [], ◌∷◌, map, length, IfOk};
+ghost use Rattle.std.specs.Prelude.{◌≡◌, ◌≤◌, ℕ, List, [], ◌∷◌, length, IfOk};
 ghost use Rattle.cs_schema.specs.Values.{values, kind_of};
 ghost use Rattle.cs_delta.specs.Image.{Change};
 ghost use Rattle.cs_schema.specs.Lists.{IsIn};
@@ -9,6 +9,7 @@ ghost use Rattle.cs_delta.specs.MergeSteps.{Steps};
 
 use crate::columns::{count, empty_in, push};
 use crate::item::Item;
+use crate::layer::Layer;
 use cs_schema::Cells;
 use std::alloc::{AllocError, Global};
 
@@ -32,7 +33,7 @@ fn apply_to_column(
         Item::Insert { at, row, .. } => {
             let at = *at as usize;
             out.extend(base, done, at)?;
-            push(out, &row[j])?;
+            push(out, &row.cell(j))?;
             Ok(at)
         }
         Item::Delete { at } => {
@@ -86,33 +87,33 @@ pub fn merge_column(
     spent: &mut Vec<Cells>,
     rows: usize,
     base: &Cells,
-    items: &[Item],
+    layer: &Layer,
     j: usize,
 ) -> Result<Cells, AllocError>
-    requires fits { (c : Change) → IsIn c (map change_of items.now) → HasKind (kind_of base.now) j c }
-    requires edits { AreEdits (length (values base.now)) 0 (cell_edits j (map change_of items.now)) }
-    ensures merged { IfOk result (λ cells. values cells ≡ edited_from (cell_edits j (map change_of items.now)) 0 (values base.now)) }
+    requires fits { (c : Change) → IsIn c layer.now → HasKind (kind_of base.now) j c }
+    requires edits { AreEdits (length (values base.now)) 0 (cell_edits j layer.now) }
+    ensures merged { IfOk result (λ cells. values cells ≡ edited_from (cell_edits j layer.now) 0 (values base.now)) }
     ensures kind { IfOk result (λ cells. kind_of cells ≡ kind_of base.now) }
 {
     let mut out = empty_in(alloc, spent, base);
     out.reserve(rows)?;
     let mut done = 0;
-    for item in items {
-        done = apply_to_column(&mut out, base, item, j, done)?;
+    for i in 0..layer.len() {
+        done = apply_to_column(&mut out, base, &layer.item(i), j, done)?;
     }
     out.extend(base, done, count(base))?;
     Ok(out)
 }
 
 /// The keys with the items of a layer applied.
-pub fn merge_keys(alloc: Global, base: &[u32], items: &[Item]) -> Result<Vec<u32>, AllocError>
-    requires { AreEdits (length base.now) 0 (key_edits (map change_of items.now)) }
-    ensures { IfOk result (λ keys. keys.items ≡ edited_from (key_edits (map change_of items.now)) 0 base.now) }
+pub fn merge_keys(alloc: Global, base: &[u32], layer: &Layer) -> Result<Vec<u32>, AllocError>
+    requires { AreEdits (length base.now) 0 (key_edits layer.now) }
+    ensures { IfOk result (λ keys. keys.items ≡ edited_from (key_edits layer.now) 0 base.now) }
 {
-    let mut out = Vec::with_capacity(alloc, base.len().saturating_add(items.len()))?;
+    let mut out = Vec::with_capacity(alloc, base.len().saturating_add(layer.len()))?;
     let mut done = 0;
-    for item in items {
-        done = apply_to_keys(&mut out, base, item, done)?;
+    for i in 0..layer.len() {
+        done = apply_to_keys(&mut out, base, &layer.item(i), done)?;
     }
     out.extend_from_slice(&base[done..])?;
     Ok(out)

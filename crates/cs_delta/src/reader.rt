@@ -1,21 +1,23 @@
 //! The items and layers of a delta, read from its bytes.
-ghost use Rattle.std.specs.Prelude.{◌≡◌, ◌<◌, ◌≤◌, ◌∷◌, ℕ, map, length, IfOk};
+ghost use Rattle.std.specs.Prelude.{◌≡◌, ◌<◌, ◌≤◌, ◌∷◌, ℕ, List, length, IfOk};
+ghost use Rattle.cs_schema.specs.declared.cells.Value.{Value};
 ghost use Rattle.cs_schema.specs.CatalogData.{CatalogData};
-ghost use Rattle.cs_delta.specs.ItemView.{change_of, changes_of};
-ghost use Rattle.cs_delta.specs.Reading.{BeginsWithCell, NoCell, BeginsWithRow, NoRow, BeginsWithItem, NoItem, BeginsWithLayer, NoLayer, AreLayersOf, NoLayers};
+ghost use Rattle.cs_delta.specs.Reading.{NoCell, NoRow, NoItem, BeginsWithLayer, NoLayer, AreLayersOf, NoLayers};
+ghost use Rattle.cs_delta.specs.Adding.{AddsCell, AddsRow, AddsItem};
 
-use crate::item::Item;
-use crate::item_cell::ItemCell;
 use crate::item_list::{are_in_order, rows_left};
+use crate::layer::Layer;
+use crate::layer_cells::LayerCells;
+use crate::stored_item::StoredItem;
 use cs_codec::Cell;
 use cs_schema::{Catalog, Kind, Word};
 use cs_segment::bytes::{after, number};
 use cs_segment::fault::FileFault;
 use std::alloc::Global;
 
-/// The cell at the front of some bytes, and what follows.
-fn read_cell(alloc: Global, kind: Kind, bytes: &[u8]) -> Result<(ItemCell, &[u8]), FileFault>
-    ensures found { IfOk result (λ r. BeginsWithCell kind bytes.now r.0 r.1.now) }
+/// Adds the cell at the front of some bytes, and gives what follows.
+fn read_cell<'b>(cells: &mut LayerCells, kind: Kind, bytes: &'b [u8]) -> Result<&'b [u8], FileFault>
+    ensures found { IfOk result (λ rest. AddsCell kind bytes.now cells.old cells.new rest.now) }
     ensures refused { result ≡ Err FileFault.Damaged → NoCell kind bytes.now }
 {
     match kind {
@@ -23,20 +25,22 @@ fn read_cell(alloc: Global, kind: Kind, bytes: &[u8]) -> Result<(ItemCell, &[u8]
             let Some((int, end)) = <i64 as Cell>::read(bytes, 0) else {
                 return Err(FileFault::Damaged);
             };
-            Ok((ItemCell::int(int), &bytes[end..]))
+            cells.push_int(int)?;
+            Ok(&bytes[end..])
         }
         Kind::Text => {
             let Some((text, end)) = <Word as Cell>::read(bytes, 0) else {
                 return Err(FileFault::Damaged);
             };
-            Ok((ItemCell::text(alloc, text)?, &bytes[end..]))
+            cells.push_text(text.as_str())?;
+            Ok(&bytes[end..])
         }
     }
 }
 
 /// The deletion whose tag stands before the bytes, and what follows.
-fn read_deletion(below: u32, bytes: &[u8]) -> Result<(Item, &[u8]), FileFault>
-    ensures found { IfOk result (λ r. (C : CatalogData) (p rows top : ℕ) → BeginsWithItem C p rows top below (2 ∷ bytes.now) (change_of r.0) r.1.now) }
+fn read_deletion(below: u32, bytes: &[u8]) -> Result<(StoredItem, &[u8]), FileFault>
+    ensures found { IfOk result (λ r. (C : CatalogData) (p rows top : ℕ) (cells : List Value) → AddsItem C p rows top below (2 ∷ bytes.now) cells cells r.0 r.1.now) }
     ensures refused { result ≡ Err FileFault.Damaged → (C : CatalogData) (p rows top : ℕ) → NoItem C p rows top below (2 ∷ bytes.now) }
 {
     let Some((at, rest)) = number(bytes) else {
@@ -45,7 +49,7 @@ fn read_deletion(below: u32, bytes: &[u8]) -> Result<(Item, &[u8]), FileFault>
     if at >= below {
         return Err(FileFault::Damaged);
     }
-    Ok((Item::Delete { at }, rest))
+    Ok((StoredItem::Delete { at }, rest))
 }
 
 /// What reads the items of one delta: its projection says what the cells of a row are, its head which keys are new.
@@ -63,43 +67,50 @@ pub(crate) struct DeltaReader<'a> {
 }
 
 impl DeltaReader<'_> {
-    /// The cells of a row at the front of some bytes, and what follows.
-    fn row<'b>(&self, bytes: &'b [u8]) -> Result<(Vec<ItemCell>, &'b [u8]), FileFault>
-        ensures found { IfOk result (λ r. BeginsWithRow self.now.catalog.now self.now.p bytes.now r.0.items r.1.now) }
+    /// Adds the cells of a row at the front of some bytes, and gives what follows.
+    fn row<'b>(&self, cells: &mut LayerCells, bytes: &'b [u8]) -> Result<&'b [u8], FileFault>
+        ensures found { IfOk result (λ rest. AddsRow self.now.catalog.now self.now.p bytes.now cells.old cells.new rest.now) }
         ensures refused { result ≡ Err FileFault.Damaged → NoRow self.now.catalog.now self.now.p bytes.now }
     {
-        let width = self.catalog.width(self.p);
-        let mut row = Vec::with_capacity(self.alloc, width)?;
         let mut rest = bytes;
-        for j in 0..width {
-            let (value, behind) = read_cell(self.alloc, self.catalog.column_kind(self.p, j), rest)?;
-            row.push(value)?;
-            rest = behind;
+        for j in 0..self.catalog.width(self.p) {
+            rest = read_cell(cells, self.catalog.column_kind(self.p, j), rest)?;
         }
-        Ok((row, rest))
+        Ok(rest)
     }
 
-    /// The insertion whose tag stands before the bytes, and what follows.
-    fn insertion<'b>(&self, below: u32, bytes: &'b [u8]) -> Result<(Item, &'b [u8]), FileFault>
-        ensures found { IfOk result (λ r. BeginsWithItem self.now.catalog.now self.now.p self.now.rows self.now.top below (1 ∷ bytes.now) (change_of r.0) r.1.now) }
+    /// Adds the cells of the insertion whose tag stands before the bytes, and gives it and what follows.
+    fn insertion<'b>(
+        &self,
+        cells: &mut LayerCells,
+        below: u32,
+        bytes: &'b [u8],
+    ) -> Result<(StoredItem, &'b [u8]), FileFault>
+        ensures found { IfOk result (λ r. AddsItem self.now.catalog.now self.now.p self.now.rows self.now.top below (1 ∷ bytes.now) cells.old cells.new r.0 r.1.now) }
         ensures refused { result ≡ Err FileFault.Damaged → NoItem self.now.catalog.now self.now.p self.now.rows self.now.top below (1 ∷ bytes.now) }
     {
         let Some((at, keyed)) = number(bytes) else {
             return Err(FileFault::Damaged);
         };
-        let Some((key, cells)) = number(keyed) else {
+        let Some((key, row)) = number(keyed) else {
             return Err(FileFault::Damaged);
         };
         if at > below || key <= self.rows || key > self.top {
             return Err(FileFault::Damaged);
         }
-        let (row, rest) = self.row(cells)?;
-        Ok((Item::Insert { at, key, row }, rest))
+        let from = cells.len();
+        let rest = self.row(cells, row)?;
+        Ok((StoredItem::Insert { at, key, from }, rest))
     }
 
-    /// The changed cell whose tag stands before the bytes, and what follows.
-    fn modification<'b>(&self, below: u32, bytes: &'b [u8]) -> Result<(Item, &'b [u8]), FileFault>
-        ensures found { IfOk result (λ r. BeginsWithItem self.now.catalog.now self.now.p self.now.rows self.now.top below (3 ∷ bytes.now) (change_of r.0) r.1.now) }
+    /// Adds the changed cell whose tag stands before the bytes, and gives the modification and what follows.
+    fn modification<'b>(
+        &self,
+        cells: &mut LayerCells,
+        below: u32,
+        bytes: &'b [u8],
+    ) -> Result<(StoredItem, &'b [u8]), FileFault>
+        ensures found { IfOk result (λ r. AddsItem self.now.catalog.now self.now.p self.now.rows self.now.top below (3 ∷ bytes.now) cells.old cells.new r.0 r.1.now) }
         ensures refused { result ≡ Err FileFault.Damaged → NoItem self.now.catalog.now self.now.p self.now.rows self.now.top below (3 ∷ bytes.now) }
     {
         let Some((at, placed)) = number(bytes) else {
@@ -111,55 +122,60 @@ impl DeltaReader<'_> {
         if at >= below || column as usize >= self.catalog.width(self.p) {
             return Err(FileFault::Damaged);
         }
-        let (value, rest) = read_cell(
-            self.alloc,
-            self.catalog.column_kind(self.p, column as usize),
-            cell,
-        )?;
-        Ok((Item::Modify { at, column, value }, rest))
+        let from = cells.len();
+        let kind = self.catalog.column_kind(self.p, column as usize);
+        let rest = read_cell(cells, kind, cell)?;
+        Ok((StoredItem::Modify { at, column, from }, rest))
     }
 
-    /// The item on so many rows at the front of some bytes, and what follows.
-    fn item<'b>(&self, below: u32, bytes: &'b [u8]) -> Result<(Item, &'b [u8]), FileFault>
-        ensures found { IfOk result (λ r. BeginsWithItem self.now.catalog.now self.now.p self.now.rows self.now.top below bytes.now (change_of r.0) r.1.now) }
+    /// Adds the cells of the item on so many rows at the front of some bytes, and gives it and what follows.
+    fn item<'b>(
+        &self,
+        cells: &mut LayerCells,
+        below: u32,
+        bytes: &'b [u8],
+    ) -> Result<(StoredItem, &'b [u8]), FileFault>
+        ensures found { IfOk result (λ r. AddsItem self.now.catalog.now self.now.p self.now.rows self.now.top below bytes.now cells.old cells.new r.0 r.1.now) }
         ensures refused { result ≡ Err FileFault.Damaged → NoItem self.now.catalog.now self.now.p self.now.rows self.now.top below bytes.now }
     {
         if let Some(insertion) = after(bytes, &[1]) {
-            return self.insertion(below, insertion);
+            return self.insertion(cells, below, insertion);
         }
         if let Some(deletion) = after(bytes, &[2]) {
             return read_deletion(below, deletion);
         }
         if let Some(modification) = after(bytes, &[3]) {
-            return self.modification(below, modification);
+            return self.modification(cells, below, modification);
         }
         Err(FileFault::Damaged)
     }
 
     /// The layer on so many rows at the front of some bytes, and what follows.
-    fn layer<'b>(&self, below: u32, bytes: &'b [u8]) -> Result<(Vec<Item>, &'b [u8]), FileFault>
-        ensures found { IfOk result (λ r. BeginsWithLayer self.now.catalog.now self.now.p self.now.rows self.now.top below bytes.now (changes_of r.0) r.1.now) }
+    fn layer<'b>(&self, below: u32, bytes: &'b [u8]) -> Result<(Layer, &'b [u8]), FileFault>
+        ensures found { IfOk result (λ r. BeginsWithLayer self.now.catalog.now self.now.p self.now.rows self.now.top below bytes.now r.0 r.1.now) }
         ensures refused { result ≡ Err FileFault.Damaged → NoLayer self.now.catalog.now self.now.p self.now.rows self.now.top below bytes.now }
     {
         let Some((count, counted)) = number(bytes) else {
             return Err(FileFault::Damaged);
         };
         let mut items = Vec::new(self.alloc);
+        let mut cells = LayerCells::new(self.alloc);
         let mut rest = counted;
         for _ in 0..count {
-            let (item, behind) = self.item(below, rest)?;
+            let (item, behind) = self.item(&mut cells, below, rest)?;
             items.push(item)?;
             rest = behind;
         }
-        if !are_in_order(&items) {
+        let layer = Layer::new(items, cells, self.catalog.width(self.p));
+        if !are_in_order(&layer) {
             return Err(FileFault::Damaged);
         }
-        Ok((items, rest))
+        Ok((layer, rest))
     }
 
     /// The layers that the bytes are, each on the rows that those below it leave.
-    pub(crate) fn layers(&self, count: u8, bytes: &[u8]) -> Result<Vec<Vec<Item>>, FileFault>
-        ensures found { IfOk result (λ layers. AreLayersOf self.now.catalog.now self.now.p self.now.rows self.now.top count bytes.now (map changes_of layers.items)) }
+    pub(crate) fn layers(&self, count: u8, bytes: &[u8]) -> Result<Vec<Layer>, FileFault>
+        ensures found { IfOk result (λ layers. AreLayersOf self.now.catalog.now self.now.p self.now.rows self.now.top count bytes.now layers.items) }
         ensures refused { result ≡ Err FileFault.Damaged → NoLayers self.now.catalog.now self.now.p self.now.rows self.now.top count bytes.now }
     {
         let mut layers = Vec::new(self.alloc);

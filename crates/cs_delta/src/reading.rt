@@ -1,12 +1,12 @@
 //! Deltas read from their files.
-ghost use Rattle.std.specs.Prelude.{◌≡◌, ◌<◌, ◌↔◌, ◌==◌, ◌++◌, map, length, IfOk, IfSome, IfNone, OnOk, IsTrue};
+ghost use Rattle.std.specs.Prelude.{◌≡◌, ◌<◌, ◌↔◌, ◌==◌, ◌++◌, length, IfOk, IfSome, IfNone, OnOk, IsTrue};
 ghost use Rattle.std.specs.List.{IsDistinct, filter_map, flat_map};
-ghost use Rattle.cs_delta.specs.ItemView.{change_of, changes_of};
 ghost use Rattle.cs_delta.specs.DeltaFile.{DeltaData, IsDeltaFile, inserted_key};
 ghost use Rattle.cs_delta.specs.Reading.{BeginsWithCounts, NoCounts, BeginsWithHead, NoHead};
 
 use crate::delta::Delta;
 use crate::item::Item;
+use crate::layer::Layer;
 use crate::reader::DeltaReader;
 use cs_schema::Catalog;
 use cs_segment::bytes::{after, number};
@@ -20,13 +20,13 @@ const ROW_LIMIT: u32 = 1_048_576;
 /// The highest key.
 const KEY_LIMIT: u32 = 4_194_304;
 
-/// Appends the keys that items give.
-fn push_keys(keys: &mut Vec<u32>, items: &[Item]) -> Result<(), AllocError>
-    ensures { OnOk result (keys.new.items ≡ keys.old.items ++ filter_map inserted_key (map change_of items.now)) }
+/// Appends the keys that the items of a layer give.
+fn push_keys(keys: &mut Vec<u32>, layer: &Layer) -> Result<(), AllocError>
+    ensures { OnOk result (keys.new.items ≡ keys.old.items ++ filter_map inserted_key layer.now) }
 {
-    for item in items {
-        match item {
-            Item::Insert { key, .. } => keys.push(*key)?,
+    for i in 0..layer.len() {
+        match layer.item(i) {
+            Item::Insert { key, .. } => keys.push(key)?,
             Item::Delete { .. } => {}
             Item::Modify { .. } => {}
         }
@@ -35,12 +35,12 @@ fn push_keys(keys: &mut Vec<u32>, items: &[Item]) -> Result<(), AllocError>
 }
 
 /// The keys that the layers give.
-fn inserted_keys(alloc: Global, layers: &[Vec<Item>]) -> Result<Vec<u32>, AllocError>
-    ensures { IfOk result (λ keys. keys.items ≡ flat_map (filter_map inserted_key) (map changes_of layers.now)) }
+fn inserted_keys(alloc: Global, layers: &[Layer]) -> Result<Vec<u32>, AllocError>
+    ensures { IfOk result (λ keys. keys.items ≡ flat_map (filter_map inserted_key) layers.now) }
 {
     let mut keys = Vec::new(alloc);
-    for items in layers {
-        push_keys(&mut keys, items)?;
+    for layer in layers {
+        push_keys(&mut keys, layer)?;
     }
     Ok(keys)
 }

@@ -19,7 +19,7 @@ use cs_diagnosis::findings::{Explanation, Verdict};
 use cs_diagnosis::summary::verdict_of;
 use cs_inspection::{Badness, bad_files, bad_survivors};
 use cs_progress::Progress;
-use cs_rebuild::{Run, Surviving, read_store, surviving_segments};
+use cs_rebuild::{Run, read_store};
 use cs_schema::{Catalog, FileName, Loss};
 use cs_store::{Fault, FileSet};
 use std::alloc::AllocError;
@@ -82,13 +82,7 @@ fn diagnose_bad<R: Threads + Sync, G: Progress + Sync>(
     ensures { IfOk result (λ d. (unreadable : List NameData) → AreAbsent (contents_of files.now) unreadable → AreBadFiles catalog.now (contents_of files.now) unreadable bad.items → IsDiagnosis catalog.now (contents_of files.now) unreadable at_most d) }
 {
     let first = bad_sites(catalog, bad.as_slice());
-    let segments = surviving_segments(run.alloc, catalog, first)?;
-    let surviving = Surviving {
-        catalog,
-        loss: first,
-        segments,
-    };
-    match read_store(run, &surviving, files) {
+    match read_store(run, catalog, first, files) {
         Ok(survivors) => {
             let remains = Remains {
                 catalog,
@@ -143,13 +137,7 @@ pub fn diagnose<R: Threads + Sync, G: Progress + Sync>(
 {
     let missing = missing_files(run.alloc, catalog, files)?;
     let first = bad_sites(catalog, missing.as_slice());
-    let segments = surviving_segments(run.alloc, catalog, first)?;
-    let surviving = Surviving {
-        catalog,
-        loss: first,
-        segments,
-    };
-    match read_store(run, &surviving, files) {
+    match read_store(run, catalog, first, files) {
         Ok(survivors) => {
             let remains = Remains {
                 catalog,

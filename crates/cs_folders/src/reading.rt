@@ -1,5 +1,5 @@
 //! Reading one file, up to a bound.
-ghost use Rattle.std.specs.Prelude.{◌≡◌, ◌<◌, ◌≤◌, ◌^◌, IfOk, IfSome, vec_len};
+ghost use Rattle.std.specs.Prelude.{◌≡◌, ◌<◌, ◌≤◌, ◌^◌, [], IfOk, IfSome, vec_len};
 
 use crate::limits::CATALOG_LIMIT;
 use crate::paths::path_in;
@@ -19,7 +19,17 @@ pub fn read_bounded<F: Read>(alloc: Global, file: &mut F, limit: u64) -> Result<
     ensures bounded { IfOk result (λ bytes. vec_len bytes ≤ limit) }
     ensures whole { IfOk result (λ bytes. IfSome (F.remaining file.old) (λ all. bytes.items ≡ all)) }
 {
-    let mut bytes = Vec::new(alloc);
+    read_into(Vec::new(alloc), file, limit)
+}
+
+/// The same, into a list of no bytes that may have room for them.
+fn read_into<F: Read>(room: Vec<u8>, file: &mut F, limit: u64) -> Result<Vec<u8>, StoreFault>
+    requires limit { limit < 2 ^ 63 }
+    requires empty { room.items ≡ [] }
+    ensures bounded { IfOk result (λ bytes. vec_len bytes ≤ limit) }
+    ensures whole { IfOk result (λ bytes. IfSome (F.remaining file.old) (λ all. bytes.items ≡ all)) }
+{
+    let mut bytes = room;
     let mut chunk = [0u8; CHUNK];
     for _ in 0..limit + 1 {
         match file.read(&mut chunk) {
@@ -55,14 +65,19 @@ pub fn read_file<R: Files>(
     requires { limit < 2 ^ 63 }
     ensures { IfOk result (λ file. IfSome file (λ bytes. vec_len bytes ≤ limit)) }
 {
-    match fs::metadata(rt, path) {
-        Ok(found) if found.is_file() && found.len() <= limit => {}
+    let length = match fs::metadata(rt, path) {
+        Ok(found) if found.is_file() && found.len() <= limit => found.len(),
         Ok(_) => return Err(StoreFault::Device),
         Err(e) if e.kind() == io::ErrorKind::NotFound => return Ok(None),
         Err(_) => return Err(StoreFault::Device),
-    }
+    };
+    // what is read is mostly what was there when it was looked at
+    let room = match Vec::with_capacity(alloc, length as usize) {
+        Ok(room) => room,
+        Err(_) => return Err(StoreFault::Memory),
+    };
     match fs::open(rt, path) {
-        Ok(mut file) => match read_bounded(alloc, &mut file, limit) {
+        Ok(mut file) => match read_into(room, &mut file, limit) {
             Ok(bytes) => Ok(Some(bytes)),
             Err(fault) => Err(fault),
         },

@@ -1,5 +1,5 @@
 //! Cells in words.
-use cs_delta::{CellPlace, ItemCell};
+use cs_delta::{CellContent, ItemCell};
 use cs_schema::{Cells, Value};
 use std::fmt;
 
@@ -28,17 +28,14 @@ impl fmt::Display for CellWords<'_> {
 
 /// A cell that an item gives.
 #[derive(Clone, Copy)]
-pub struct ItemCellWords<'a>(pub &'a ItemCell);
+pub struct ItemCellWords<'a>(pub &'a ItemCell<'a>);
 
 impl fmt::Display for ItemCellWords<'_> {
     fn fmt<W: fmt::Write>(&self, f: &mut fmt::Formatter<W>) -> fmt::Result {
         let cell = self.0;
-        match &cell.place {
-            CellPlace::Int(int) => write!(f, "{int}"),
-            CellPlace::Text(text) => {
-                let text = text.as_str();
-                write!(f, "{text:?}")
-            }
+        match cell.content() {
+            CellContent::Int(int) => write!(f, "{int}"),
+            CellContent::Text(text) => write!(f, "{text:?}"),
         }
     }
 }

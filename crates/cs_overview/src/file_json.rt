@@ -1,8 +1,10 @@
 //! What is said of one file, as JSON.
+ghost use Rattle.std.specs.Prelude.{◌≤◌, length};
+
 use crate::file_view::FileView;
 use crate::row_words::{BaseRow, Hex, ItemWords};
 use crate::samples::{first_end, last_begin};
-use cs_delta::{Delta, Item};
+use cs_delta::{Delta, Layer};
 use cs_headers::{Content, FileReport};
 use cs_jix::JoinIndex;
 use cs_reports::object::{Object, number_or_null};
@@ -88,26 +90,29 @@ fn with_delta(alloc: Global, object: Object, delta: &Delta) -> Object {
 fn layers(alloc: Global, delta: &Delta) -> Result<Value, AllocError> {
     let mut list = Vec::new(alloc);
     for layer in &delta.layers {
-        list.push(layer_object(alloc, layer.as_slice())?)?;
+        list.push(layer_object(alloc, layer)?)?;
     }
     Ok(Value::Array(list))
 }
 
 /// A layer: how many items it has, the first and the last.
-fn layer_object(alloc: Global, layer: &[Item]) -> Result<Value, AllocError> {
+fn layer_object(alloc: Global, layer: &Layer) -> Result<Value, AllocError> {
     let count = layer.len();
     Object::new(alloc)
         .number("items", count as u64)
-        .member("first", items(alloc, &layer[..first_end(count)]))
-        .member("last", items(alloc, &layer[last_begin(count)..]))
+        .member("first", items(alloc, layer, 0, first_end(count)))
+        .member("last", items(alloc, layer, last_begin(count), count))
         .finish()
 }
 
-/// Items, as texts.
-fn items(alloc: Global, items: &[Item]) -> Result<Value, AllocError> {
+/// Items of a layer, as texts.
+fn items(alloc: Global, layer: &Layer, from: usize, to: usize) -> Result<Value, AllocError>
+    requires { to ≤ length layer.now }
+{
     let mut list = Vec::new(alloc);
-    for item in items {
-        list.push(text_of(alloc, &ItemWords(item))?)?;
+    for i in from..to {
+        let item = layer.item(i);
+        list.push(text_of(alloc, &ItemWords(&item))?)?;
     }
     Ok(Value::Array(list))
 }

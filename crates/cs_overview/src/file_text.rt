@@ -1,10 +1,12 @@
 //! What is said of one file, as text.
+ghost use Rattle.std.specs.Prelude.{◌≤◌, length};
+
 use crate::catalog_words::{code_at, kind_word};
 use crate::counted::Counted;
 use crate::file_view::FileView;
 use crate::row_words::{BaseRow, Hex, ItemWords};
 use crate::samples::{first_end, has_gap, last_begin};
-use cs_delta::{Delta, Item};
+use cs_delta::{Delta, Layer};
 use cs_headers::{Content, Digests, Nonsense};
 use cs_jix::JoinIndex;
 use cs_reports::{ColumnNames, SiteWords, SitedFile, site_of, with_site};
@@ -68,7 +70,7 @@ fn write_delta<W: fmt::Write>(f: &mut fmt::Formatter<W>, delta: &Delta) -> fmt::
         "version {version}, for a base of {rows}; highest key {top}; {layers}"
     )?;
     for (number, layer) in delta.layers.iter().enumerate() {
-        write_layer(f, number, layer.as_slice())?;
+        write_layer(f, number, layer)?;
     }
     Ok(())
 }
@@ -77,24 +79,32 @@ fn write_delta<W: fmt::Write>(f: &mut fmt::Formatter<W>, delta: &Delta) -> fmt::
 fn write_layer<W: fmt::Write>(
     f: &mut fmt::Formatter<W>,
     number: usize,
-    items: &[Item],
+    layer: &Layer,
 ) -> fmt::Result {
-    let count = items.len();
+    let count = layer.len();
     let counted = Counted {
         count: count as u64,
         one: "item",
         several: "items",
     };
     writeln!(f, "layer {number}: {counted}")?;
-    write_items(f, &items[..first_end(count)])?;
+    write_items(f, layer, 0, first_end(count))?;
     write_gap(f, count)?;
-    write_items(f, &items[last_begin(count)..])
+    write_items(f, layer, last_begin(count), count)
 }
 
-/// Writes items, each in a line.
-fn write_items<W: fmt::Write>(f: &mut fmt::Formatter<W>, items: &[Item]) -> fmt::Result {
-    for item in items {
-        let item = ItemWords(item);
+/// Writes items of a layer, each in a line.
+fn write_items<W: fmt::Write>(
+    f: &mut fmt::Formatter<W>,
+    layer: &Layer,
+    from: usize,
+    to: usize,
+) -> fmt::Result
+    requires { to ≤ length layer.now }
+{
+    for i in from..to {
+        let item = layer.item(i);
+        let item = ItemWords(&item);
         writeln!(f, "{item}")?;
     }
     Ok(())

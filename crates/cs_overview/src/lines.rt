@@ -1,7 +1,7 @@
 //! What is said of each file of a store.
 ghost use Rattle.std.specs.Prelude.{◌<◌, length};
 
-use cs_delta::{Item, read_delta};
+use cs_delta::{Layer, read_delta};
 use cs_headers::head_count;
 use cs_inspection::Badness;
 use cs_schema::{Catalog, FileName, Loss};
@@ -22,7 +22,7 @@ pub struct FileLine {
 }
 
 /// How many items layers have together.
-fn items_of(layers: &[Vec<Item>]) -> u64 {
+fn items_of(layers: &[Layer]) -> u64 {
     let mut items = 0u64;
     for layer in layers {
         items = items.saturating_add(layer.len() as u64);

@@ -1,6 +1,6 @@
 //! Digests, rows and items in words.
 use crate::cell_words::{CellWords, ItemCellWords};
-use cs_delta::{Item, ItemCell};
+use cs_delta::{Item, ItemRow};
 use cs_segment::Segment;
 use std::fmt;
 
@@ -39,13 +39,15 @@ impl fmt::Display for BaseRow<'_> {
 
 /// The cells of a row that an item inserts.
 #[derive(Clone, Copy)]
-struct ItemRow<'a>(&'a [ItemCell]);
+struct ItemRowWords<'a>(&'a ItemRow<'a>);
 
-impl fmt::Display for ItemRow<'_> {
+impl fmt::Display for ItemRowWords<'_> {
     fn fmt<W: fmt::Write>(&self, f: &mut fmt::Formatter<W>) -> fmt::Result {
+        let row = self.0;
         let mut separator = "";
-        for cell in self.0 {
-            let cell = ItemCellWords(cell);
+        for j in 0..row.len() {
+            let cell = row.cell(j);
+            let cell = ItemCellWords(&cell);
             write!(f, "{separator}{cell}")?;
             separator = ", ";
         }
@@ -55,13 +57,13 @@ impl fmt::Display for ItemRow<'_> {
 
 /// An item of a delta.
 #[derive(Clone, Copy)]
-pub struct ItemWords<'a>(pub &'a Item);
+pub struct ItemWords<'a>(pub &'a Item<'a>);
 
 impl fmt::Display for ItemWords<'_> {
     fn fmt<W: fmt::Write>(&self, f: &mut fmt::Formatter<W>) -> fmt::Result {
         match self.0 {
             Item::Insert { at, key, row } => {
-                let row = ItemRow(row.as_slice());
+                let row = ItemRowWords(row);
                 write!(f, "insert before row {at}, key {key}: {row}")
             }
             Item::Delete { at } => write!(f, "delete row {at}"),

@@ -36,7 +36,7 @@ pub struct ProgressLine<C, E> {
     tried: AtomicU64,
     /// How many rounds were opened.
     rounds: AtomicU64,
-    /// How many pieces the round has.
+    /// How many pieces the round has, with those of rounds that were open when it began.
     pieces: AtomicU64,
     /// How many of them were begun.
     begun: AtomicU64,
@@ -94,6 +94,12 @@ impl<C: Clock, E> ProgressLine<C, E> {
 }
 
 impl<C, E> ProgressLine<C, E> {
+    /// Counts pieces anew.
+    fn forget(&self) {
+        self.pieces.store(0, Ordering::SeqCst);
+        self.begun.store(0, Ordering::SeqCst);
+    }
+
     /// What it was told so far.
     pub fn shown(&self) -> Shown {
         Shown {
@@ -149,14 +155,17 @@ impl<C: Clock, E: Print> Gate for ProgressLine<C, E> {
         self.stage
             .store(Stage::Round(round).number(), Ordering::SeqCst);
         self.rounds.fetch_add(1, Ordering::SeqCst);
-        self.pieces.store(u64::from(pieces), Ordering::SeqCst);
-        self.begun.store(0, Ordering::SeqCst);
+        if self.begun.load(Ordering::SeqCst) >= self.pieces.load(Ordering::SeqCst) {
+            self.forget();
+        }
+        self.pieces.fetch_add(u64::from(pieces), Ordering::SeqCst);
         self.show();
     }
 }
 
 impl<C: Clock, E: Print> Progress for ProgressLine<C, E> {
     fn reached(&self, stage: Stage) {
+        self.forget();
         self.stage.store(stage.number(), Ordering::SeqCst);
         self.show();
     }
@@ -167,6 +176,7 @@ impl<C: Clock, E: Print> Progress for ProgressLine<C, E> {
     }
 
     fn tried(&self, loss: Loss) {
+        self.forget();
         self.tried.store(word_of(loss), Ordering::SeqCst);
     }
 

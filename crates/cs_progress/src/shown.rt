@@ -13,7 +13,7 @@ pub struct Shown {
     pub tried: Option<Loss>,
     /// How many rounds were opened.
     pub rounds: u64,
-    /// How many pieces the round has.
+    /// How many pieces the round has, with those of rounds that were open when it began.
     pub pieces: u64,
     /// How many of them were begun.
     pub begun: u64,

@@ -35,7 +35,8 @@ fn gate<P: Print>(stream: P, is_terminal: bool) -> ProgressLine<Ticks, P> {
     ProgressLine::new(clock, stream, is_terminal, 65_536)
 }
 
-/// Tells a gate of a table that is read, of a walk in four pieces, of two rounds of columns, and of what is written.
+/// Tells a gate of a table that is read, of a walk in four pieces, of two rounds of columns that are open beside one of images,
+/// and of what is written.
 fn tell<G: Progress>(gate: &G) {
     gate.reached(Stage::Table);
     for _ in 0..4 {
@@ -46,6 +47,7 @@ fn tell<G: Progress>(gate: &G) {
     for piece in 0..4 {
         gate.entered(piece);
     }
+    gate.opened(Round::Images, 2);
     for _ in 0..2 {
         gate.opened(Round::Columns, 2);
         gate.entered(0);

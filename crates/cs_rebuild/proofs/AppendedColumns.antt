@@ -1,6 +1,6 @@
 -- Rows from the columns that were joined, and the width of rows that were walked.
-use Rattle.std.proofs.Common.{◌≡◌, ℕ, zero, suc, ◌+◌, ◌-◌, ◌<◌, List, [], ◌∷◌, length, map, get_or, refl, sym, ap, ◌∙◌, subst, arith, Bool, true, false, cond, Option, Some, None, Result, Ok, Err}
-use Rattle.std.specs.Prelude.{All, Contains, IfOk, IfSome, MatchResult, pos}
+use Rattle.std.proofs.Common.{◌≡◌, ℕ, suc, ◌<◌, List, [], ◌∷◌, length, map, get_or, refl, sym, ◌∙◌, subst, arith, Bool, true, false, cond, Option, Some, None, Result, Ok}
+use Rattle.std.specs.Prelude.{All, IfOk, IfSome, pos}
 use Rattle.std.specs.List.{AllZip, range_with_len, flat_map, filter_map, cons_option}
 use Rattle.std.specs.Option.{is_some, unwrap_or, option_and_then, option_map_or}
 use Rattle.std.specs.declared.alloc.AllocError.{AllocError}

@@ -1,6 +1,8 @@
--- The file of a lost segment, as one column after the other is joined and written.
-use Rattle.std.proofs.Common.{◌≡◌, ℕ, ◌+◌, ◌*◌, ◌<◌, ◌≤◌, List, [], ◌++◌, map, length, sym, ap, subst, ◌∙◌, arith, Result, Ok, Err}
-use Rattle.std.specs.Prelude.{IfOk, OnOk}
+-- The file of a lost segment, as its columns are joined and written, and put into it one after the other.
+use Rattle.std.proofs.Common.{◌≡◌, ℕ, ◌+◌, ◌*◌, ◌<◌, ◌≤◌, List, [], ◌∷◌, ◌++◌, map, length, length-append, sym, ap, subst, ◌∙◌, arith, Result, Ok, Err}
+use Rattle.std.specs.Prelude.{IfOk, OnOk, vec_len}
+use Rattle.std.specs.List.{ReversedBelow}
+use Rattle.std.specs.Global.{Vec}
 use Rattle.std.proofs.lemmas.List.{length-map}
 use Rattle.std.proofs.lemmas.List.FromFn.{length-map-range_with_len, get_or-map-range_with_len}
 use Rattle.cs_schema.specs.declared.kinds.Code.{Code}
@@ -17,15 +19,20 @@ use Rattle.cs_segment.specs.Parts.{text_before}
 use Rattle.cs_segment.specs.SegmentFile.{Base, IsBase, base_column, sealed, segment_text}
 use Rattle.cs_segment.proofs.PieceColumns.{text_more, text_whole}
 use Rattle.cs_board.specs.Pieces.{AnswersInOrder}
-use Rattle.cs_rebuild.specs.Encoding.{base_at, values_at, EncodeAnswerAt, AreCutColumns}
+use Rattle.cs_rebuild.specs.Encoding.{base_at, values_at, cut_at, IsRestOf, EncodeAnswerAt, AreCutColumns}
 use Rattle.cs_rebuild.specs.declared.encoding.EncodeWork.{EncodeWork}
 use Rattle.cs_rebuild.specs.declared.ordered_store.OrderedStore.{OrderedStore}
-use Rattle.cs_rebuild.specs.Joining.{IsColumnText}
+use Rattle.cs_rebuild.specs.Joining.{AreLeftFrom, AreOfColumn, IsColumnText, IsTextAt, AreTextsFrom}
+use Rattle.cs_rebuild.proofs.Rests.{all_left, one_more, taken, left_but_one, piece_taken}
 use Rattle.cs_rebuild.proofs.SoundFacts.{values_are}
 
 pub on_ok : {T E P : Type 0} (r : Result T E) → P → OnOk r P
 on_ok (Ok x) h = h
 on_ok (Err e) h = tt
+
+pub on_then : {T E P Q : Type 0} (r : Result T E) → OnOk r P → (P → Q) → OnOk r Q
+on_then (Ok x) h k = k h
+on_then (Err e) h k = tt
 
 -- ---- the base of some rows
 
@@ -67,9 +74,54 @@ pub text_written : {V E : Type 0} (items : V → List ℕ) (r : Result V E) (pie
 text_written items (Ok out) piece P code kind v text short is = λ j here. record { is = text (code j) (kind j) (v j) (is j here); short = short (code j) (kind j) (v j) (is j here) }
 text_written items (Err e) piece P code kind v text short is = tt
 
+-- the pieces of all columns, from their end
+pub all_columns_left : (work : EncodeWork) (pieces rest : Vec Piece) → AreCutColumns work.store.now.catalog.now work.p work.store.now.walked.rows work.numbers.now work.cut pieces.items → vec_len rest ≡ vec_len pieces → ReversedBelow pieces.items rest.items (vec_len pieces) → AreLeftFrom work 0 rest.items
+all_columns_left work pieces rest all long back =
+    let none : 0 * work.per ≡ 0 = grind arith in
+    let count : vec_len pieces ≡ length pieces.items = pieces.ok.0 in
+    let same : length rest.items ≡ length pieces.items = sym rest.ok.0 ∙ long ∙ count in
+    let whole : length pieces.items ≡ work.pieces = all.count ∙ ap (λ n. length (projection work.store.now.catalog.now work.p).columns * n) (sym work.per_is) ∙ sym work.pieces_are in
+    record {
+      count = omega (arith, none, same, whole);
+      each = all_left (EncodeAnswerAt work.store.now.catalog.now work.p work.store.now.walked.rows work.numbers.now work.cut) work.pieces pieces.items rest.items whole same (subst (ReversedBelow pieces.items rest.items) count back) all.each;
+    }
+
+-- the next piece of a column, of which the first k are taken
+pub next_piece : (work : EncodeWork) (j k : ℕ) (pieces old new : List Piece) (out : Piece) → k < work.per → length old + k ≡ length pieces → old ≡ new ++ out ∷ [] → AreOfColumn work j pieces
+    → IsRestOf work.store.now.catalog.now work.p work.store.now.walked.rows work.numbers.now work.cut ((j + 1) * work.per) old
+    → IsPieceOf out (code_at work.store.now.catalog.now work.p j) (kind_at work.store.now.catalog.now work.p j) (values_at work.store.now.catalog.now work.p work.store.now.walked.rows j (cut_at work.cut work.numbers.now k))
+next_piece work j k pieces old new out below left taken_off here rest =
+    let whole = here.count in
+    let end : work.per + j * work.per ≡ (j + 1) * work.per = grind arith in
+    piece_taken work.store.now.catalog.now work.p work.store.now.walked.rows work.numbers.now work.cut work.per ((j + 1) * work.per) j k work.per old new out work.per_is below end (omega (arith, whole, left)) taken_off rest
+
 -- the pieces of one column are taken
 pub one_column_less : (j per old new pieces : ℕ) → new + per ≡ old → old + j * per ≡ pieces → new + (j + 1) * per ≡ pieces
 one_column_less j per old new pieces taken left = let next : (j + 1) * per ≡ j * per + per = grind arith in omega (arith, taken, left, next)
+
+-- one text more, of the column before them
+pub texts_more : (work : EncodeWork) (j : ℕ) (old new : List (Vec ℕ)) (text : Vec ℕ) → new ≡ old ++ text ∷ [] → AreTextsFrom work (j + 1) old → IsTextAt work j text.items → AreTextsFrom work j new
+texts_more work j old new text e others is =
+    let width : ℕ = length (projection work.store.now.catalog.now work.p).columns in
+    let long = length-append old (text ∷ []) in
+    let count = others.count in
+    subst (AreTextsFrom work j) (sym e) (record {
+      count = omega (arith, long, count);
+      each = one_more (λ i t. IsTextAt work i t.items) width old text j (omega (arith, count)) others.each is;
+    })
+
+-- the first of the texts is taken
+pub text_taken : (work : EncodeWork) (j : ℕ) (old new : List (Vec ℕ)) (text : Vec ℕ) → old ≡ new ++ text ∷ [] → AreTextsFrom work j old → IsTextAt work j text.items × AreTextsFrom work (j + 1) new
+text_taken work j old new text e left =
+    let width : ℕ = length (projection work.store.now.catalog.now work.p).columns in
+    let long = ap length e ∙ length-append new (text ∷ []) in
+    let count = left.count in (
+      taken (λ i t. IsTextAt work i t.items) width old new text j e count left.each,
+      record {
+        count = omega (arith, long, count);
+        each = left_but_one (λ i t. IsTextAt work i t.items) width old new text e left.each;
+      },
+    )
 
 -- ---- the work of a segment of a store
 

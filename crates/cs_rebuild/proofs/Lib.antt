@@ -15,11 +15,13 @@ pub mod Names
 pub mod Numbers
 pub mod OrderFacts
 pub mod Rests
+pub mod Sealing
 pub mod Segments
 pub mod SoundFacts
 pub mod SurveySteps
 pub mod Verdicts
-pub mod UnwrittenFiles
+pub mod VerifiedStores
+pub mod ListedFiles
 pub mod WalkPieces
 pub mod WrittenFiles
 pub mod OneKind

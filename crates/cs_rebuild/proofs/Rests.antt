@@ -1,9 +1,10 @@
 -- Pieces that are taken from the end of a list, the first last.
-use Rattle.std.proofs.Common.{◌≡◌, ℕ, zero, suc, ◌+◌, ◌-◌, ◌*◌, ◌/◌, ◌%◌, ◌<◌, List, [], ◌∷◌, ◌++◌, length, length-append, refl, sym, ap, subst, ◌∙◌, Some, arith, get_or}
+use Rattle.std.proofs.Common.{◌≡◌, ℕ, zero, suc, ◌+◌, ◌-◌, ◌*◌, ◌/◌, ◌%◌, ◌<◌, ◌≤◌, List, [], ◌∷◌, ◌++◌, length, length-append, take, drop, inl, inr, refl, sym, ap, subst, ◌∙◌, Some, arith, get_or}
 use Rattle.std.specs.List.{slice_get}
 use Rattle.std.proofs.lemmas.Nat.{div-mul-add, mod-mul-add, mul-add-lt}
 use Rattle.std.proofs.lemmas.Option.{slice_get-get_or, slice_get_within, get_or_from_slice_get, none-some}
 use Rattle.std.specs.List.{ReversedBelow}
+use Rattle.cs_board.proofs.Joined.{slice_get-append}
 use Rattle.cs_schema.specs.CatalogData.{CatalogData, code_at, kind_at}
 use Rattle.cs_schema.specs.Rows.{Row}
 use Rattle.cs_piece.specs.declared.pieces.Piece.{Piece}
@@ -20,6 +21,21 @@ module _ {X : Type 0} where
   last_at [] x = refl
   last_at (y ∷ xs) x = last_at xs x
 
+  in_front : (n : ℕ) (xs : List X) (m : ℕ) (x : X) → slice_get (take n xs) m ≡ Some x → slice_get xs m ≡ Some x
+  in_front zero xs m x e = absurd (none-some x e)
+  in_front (suc n) [] m x e = absurd (none-some x e)
+  in_front (suc n) (y ∷ xs) zero x e = e
+  in_front (suc n) (y ∷ xs) (suc m) x e = in_front n xs m x e
+
+  behind : (n : ℕ) (xs : List X) (m : ℕ) (x : X) → slice_get (drop n xs) m ≡ Some x → slice_get xs (n + m) ≡ Some x
+  behind zero xs m x e = let place : m ≡ 0 + m = omega arith in subst (λ k. slice_get xs k ≡ Some x) place e
+  behind (suc n) [] m x e = absurd (none-some x e)
+  behind (suc n) (y ∷ xs) m x e = let place : suc (n + m) ≡ suc n + m = omega arith in subst (λ k. slice_get (y ∷ xs) k ≡ Some x) place (behind n xs m x e)
+
+  only_one : (x : X) (j : ℕ) (out : X) → slice_get (x ∷ []) j ≡ Some out → (j ≡ 0) × (x ≡ out)
+  only_one x zero out e = (refl, get_or_from_slice_get (x ∷ []) 0 out out e)
+  only_one x (suc j) out e = absurd (none-some out e)
+
   module _ (P : ℕ → X → Type 0) (total : ℕ) where
     abbrev pub AreLeft : List X → Type 0
     AreLeft rest = (m : ℕ) (out : X) → slice_get rest m ≡ Some out → P (total - 1 - m) out
@@ -32,6 +48,26 @@ module _ {X : Type 0} where
         let long = ap length e ∙ length-append new (x ∷ []) in
         let place : total - 1 - length new ≡ i = omega (arith, l, long) in
         subst (λ n. P n x) place (h (length new) x (ap (λ l. slice_get l (length new)) e ∙ last_at new x))
+
+    pub one_more : (old : List X) (x : X) (i : ℕ) → length old + 1 + i ≡ total → AreLeft old → P i x → AreLeft (old ++ x ∷ [])
+    one_more old x i l h here m out at =
+        elim (slice_get-append old (x ∷ []) m out at) [
+          | inl front ↦ h m out front
+          | inr back ↦
+              let last = only_one x back.0 out back.2 in
+              let at = back.1 in
+              let none = last.0 in
+              let place : i ≡ total - 1 - m = omega (arith, l, at, none) in
+              subst (λ n. P n out) place (subst (P i) last.1 here)
+        ]
+
+    pub left_in_front : (n : ℕ) (old : List X) → AreLeft old → AreLeft (take n old)
+    left_in_front n old h m out at = h m out (in_front n old m out at)
+
+    pub left_behind : (n end : ℕ) (old : List X) → n + end ≡ total → AreLeft old → (m : ℕ) (out : X) → slice_get (drop n old) m ≡ Some out → P (end - 1 - m) out
+    left_behind n end old e h m out at =
+        let place : total - 1 - (n + m) ≡ end - 1 - m = omega (arith, e) in
+        subst (λ i. P i out) place (h (n + m) out (behind n old m out at))
 
     -- the list from its end
     pub all_left : (xs rest : List X) → length xs ≡ total → length rest ≡ length xs → ReversedBelow xs rest (length xs) → ((i : ℕ) (out : X) → slice_get xs i ≡ Some out → P i out) → AreLeft rest
@@ -58,6 +94,6 @@ piece_taken C p rows numbers cut per total j k n old new out e l column left tak
     let place : length old + (j * per + k) ≡ total = omega (arith, left, column) in
     piece_there C p rows numbers cut per j k out e l (taken (EncodeAnswerAt C p rows numbers cut) total old new out (j * per + k) taken_off place h)
 
--- the number of a piece is one of them
-pub piece_below : (j k per width pieces : ℕ) → pieces ≡ width * per → j < width → k < per → j * per + k < pieces
-piece_below j k per width pieces e a b = let l = mul-add-lt j per k width a b in let c : per * width ≡ width * per = grind arith in omega (arith, l, c, e)
+-- a column is left
+pub one_is_left : (j width per n pieces : ℕ) → 1 ≤ per → pieces ≡ width * per → j < width → n + j * per ≡ pieces → per ≤ n
+one_is_left j width per n pieces some e a left = let l = mul-add-lt j per (per - 1) width a (omega (arith, some)) in let c : per * width ≡ width * per = grind arith in omega (arith, l, c, e, left, some)

@@ -7,6 +7,7 @@ use Rattle.std.proofs.lemmas.Option.{none-some, slice_get-get_or}
 use Rattle.cs_schema.specs.CatalogData.{CatalogData, HasSegment, segments}
 use Rattle.cs_schema.specs.FileNames.{FileContents}
 use Rattle.cs_schema.specs.Losses.{Sites}
+use Rattle.cs_schema.specs.Order.{Fits}
 use Rattle.cs_schema.specs.Rows.{Row}
 use Rattle.cs_delta.specs.Image.{image_keys, ImageData, Pair}
 use Rattle.cs_delta.specs.DeltaFile.{key_limit}
@@ -58,6 +59,14 @@ module _ (C : CatalogData) (F : FileContents) (L : Sites) (v : SurvivorsData) (r
       go (inl k) = ap (λ (x : Place). x.0) k
       go (inr k) = absurd (omega (arith, k.1, none))
 
+none_or : {X : Type 0} (a b : Option X) → option_or a b ≡ None → b ≡ None
+none_or None b e = e
+none_or (Some x) b e = absurd (none-some x (sym e))
+
+-- rows of which no range is too large
+pub fits : (C : CatalogData) (rows : List Row) → row_fault C rows ≡ None → Fits C (table_of C rows)
+fits C rows sound = full_fits C (table_of C rows) (none_or (twice C rows) (full C (table_of C rows)) sound)
+
 module _ (C : CatalogData) (rows : List Row) (o : OrdersData) (are : AreOrdersOf C rows o) where
   pub order_room : HaveOrders C o
   order_room p h = (omega (arith, are.projections, h), are.segments p h)
@@ -68,13 +77,9 @@ module _ (C : CatalogData) (rows : List Row) (o : OrdersData) (are : AreOrdersOf
   pub each : AreInOrder C rows o
   each p s h = are.each p s h
 
-  none_or : {X : Type 0} (a b : Option X) → option_or a b ≡ None → b ≡ None
-  none_or None b e = e
-  none_or (Some x) b e = absurd (none-some x (sym e))
-
   pub ranges : row_fault C rows ≡ None → HaveRoomInRanges C o
   ranges sound p s h =
-      let fit = full_fits C (table_of C rows) (none_or (twice C rows) (full C (table_of C rows)) sound) p s h in
+      let fit = fits C rows sound p s h in
       let long : length (map (row_at rows) (numbers_in o p s)) ≡ length (numbers_in o p s) = length-map (numbers_in o p s) (row_at rows) in
       let same = ap length (are.each p s h.0) in
       omega (arith, fit, long, same)

@@ -1,11 +1,10 @@
 -- What the steps find is what the verdict is.
 use Rattle.std.proofs.Common.{◌≡◌, ℕ, ◌≤◌, List, [], refl, sym, ap, subst, ◌∙◌, inl, inr, Option, Some, None, Result, Ok, Err}
-use Rattle.std.specs.Prelude.{IfOk, IfErr}
+use Rattle.std.specs.Prelude.{IfErr}
 use Rattle.std.specs.Option.{option_or}
 use Rattle.std.specs.Result.{IsErrAnd}
 use Rattle.std.proofs.lemmas.Option.{none-some}
 use Rattle.cs_store.specs.declared.fault.Fault.{Fault}
-use Rattle.cs_schema.specs.declared.file_name.FileName.{FileName}
 use Rattle.cs_schema.specs.CatalogData.{CatalogData}
 use Rattle.cs_schema.specs.CatalogRules.{IsCatalog}
 use Rattle.cs_schema.specs.FileNames.{FileContents}
@@ -19,17 +18,19 @@ use Rattle.cs_rows.specs.Survivors.{SurvivorsData, contents_of as held_by}
 use Rattle.cs_rows.specs.WalkedView.{WalkedData}
 use Rattle.cs_order.specs.Orders.{OrdersData}
 use Rattle.cs_order.specs.Tables.{table_of}
-use Rattle.cs_store.specs.FileSet.{Files, contents_of}
+use Rattle.cs_store.specs.FileSet.{Files}
 use Rattle.cs_store.specs.Fault.{MemoryOr}
 use Rattle.cs_recovery.specs.Contents.{Reads}
-use Rattle.cs_recovery.specs.Expected.{written}
 use Rattle.cs_recovery.specs.Verdicts.{IsVerdict, IsWalkedBy, IsRebuildVerdict, IsCheckVerdict, NamesItsSites, unless_refused, twice, full, misplaced, misled}
-use Rattle.cs_recovery.specs.Claims.{IsRebuildAnswer, IsCheckAnswer}
+use Rattle.cs_recovery.specs.Claims.{SameSurvivors, IsRebuildAnswer, IsCheckAnswer}
 use Rattle.cs_recovery.specs.Laws.{RebuildClauses, CheckClauses}
 use Rattle.cs_recovery.specs.TableAnswers.{Columns, IsTableAnswer, TableClauses}
+use Rattle.cs_recovery.proofs.FewerSurvive.{reads_under}
 use Rattle.cs_recovery.proofs.Read.{layers}
 use Rattle.cs_recovery.proofs.Suffice.{rebuild_clauses, check_clauses}
 use Rattle.cs_recovery.proofs.TableClauses.{table_clauses}
+use Rattle.cs_recovery.proofs.WalkedTable.{verdict_under}
+use Rattle.cs_rebuild.specs.Answers.{IsRecovery, IsRowCount}
 use Rattle.cs_rebuild.specs.Steps.{IsBadFile, IsStray, IsUnordered, row_fault, AreSound, safety_refusal}
 
 -- what the exit of a `?` answers
@@ -111,32 +112,28 @@ names_sites C L loss x m = (loss.1 x m).1
 
 -- ---- the answers
 
-pub rebuilt : (C : CatalogData) (F : FileContents) (L : Sites) → NamesItsSites C L → IsSafe C L → (v : SurvivorsData) (w : WalkedData) (o : OrdersData) → AreSound C F L v w o
-    → (out : Files) → ((n : FileName) → contents_of out n ≡ written C L (held_by v) (table_of C w.rows) n) → IsRebuildAnswer C F L (Ok out)
-rebuilt C F L named safe v w o sound out files = (
-  table_of C w.rows,
-  IsRebuildVerdict.safe named safe (sound_verdict C F L v w o sound),
-  record { contents = held_by v; reads = sound.read.reads; files = files },
-)
+-- what is answered of a safe loss is the answer
+pub rebuild_answer : (C : CatalogData) (F : FileContents) (L : Sites) → NamesItsSites C L → IsSafe C L → (r : Result Files Fault) → IsRecovery C F L r → IsRebuildAnswer C F L r
+rebuild_answer C F L named safe (Ok out) a = (a.0, IsRebuildVerdict.safe named safe a.1, a.2)
+rebuild_answer C F L named safe (Err f) a = memory_or f a (IsRebuildVerdict.safe named safe)
 
-pub not_rebuilt : (C : CatalogData) (F : FileContents) (L : Sites) → NamesItsSites C L → IsSafe C L → (f : Fault) → MemoryOr f (IsVerdict C F L (Err f)) → IsRebuildAnswer C F L (Err f)
-not_rebuilt C F L named safe f h = memory_or f h (IsRebuildVerdict.safe named safe)
+pub check_answer : (C : CatalogData) (F : FileContents) (k : ℕ) → k ≤ 3 → IsKSafe C k → (r : Result ℕ Fault) → IsRowCount C F [] r → IsCheckAnswer C F k r
+check_answer C F k few safe (Ok n) a = (a.0, IsCheckVerdict.safe few safe a.1, a.2)
+check_answer C F k few safe (Err f) a = memory_or f a (IsCheckVerdict.safe few safe)
 
-pub checked : (C : CatalogData) (F : FileContents) (k : ℕ) → k ≤ 3 → IsKSafe C k → (v : SurvivorsData) (w : WalkedData) (o : OrdersData) → AreSound C F [] v w o → IsCheckVerdict C F k (Ok (table_of C w.rows))
-checked C F k few safe v w o sound = IsCheckVerdict.safe few safe (sound_verdict C F [] v w o sound)
+-- where the surviving files are the same, so is what is answered
+module _ (C : CatalogData) (F G : FileContents) (L : Sites) (same : SameSurvivors C L F G) where
+  pub recovery_under : (r : Result Files Fault) → IsRecovery C F L r → IsRecovery C G L r
+  recovery_under (Ok out) a = (a.0, verdict_under C F G L same (Ok a.0) a.1, record { contents = a.2.contents; reads = reads_under C F G L a.2.contents same a.2.reads; files = a.2.files })
+  recovery_under (Err f) a = memory_or f a (verdict_under C F G L same (Err f))
 
-pub not_checked : (C : CatalogData) (F : FileContents) (k : ℕ) → k ≤ 3 → IsKSafe C k → (f : Fault) → MemoryOr f (IsVerdict C F [] (Err f)) → IsCheckAnswer C F k (Err f)
-not_checked C F k few safe f h = memory_or f h (IsCheckVerdict.safe few safe)
+  pub count_under : (r : Result ℕ Fault) → IsRowCount C F L r → IsRowCount C G L r
+  count_under (Ok n) a = (a.0, verdict_under C F G L same (Ok a.0) a.1, a.2)
+  count_under (Err f) a = memory_or f a (verdict_under C F G L same (Err f))
 
 pub unsafe_catalog : (C : CatalogData) (F : FileContents) (k : ℕ) (e : SafetyFault) → IsSafetyFault C k e → IsCheckAnswer C F k (Err (safety_refusal e))
 unsafe_catalog C F k SafetyFault.BadK h = inr (IsCheckVerdict.bad_k h refl)
 unsafe_catalog C F k (SafetyFault.Unsafe L) h = inr (IsCheckVerdict.unsafe h.0 L h.1 refl)
-
--- what is written, or want of memory, is the answer
-pub written_answer : (C : CatalogData) (F : FileContents) (L : Sites) → NamesItsSites C L → IsSafe C L → (v : SurvivorsData) (w : WalkedData) (o : OrdersData) → AreSound C F L v w o → (r : Result Files Fault)
-    → IfOk r (λ out. (n : FileName) → contents_of out n ≡ written C L (held_by v) (table_of C w.rows) n) → IfErr r (λ f. f ≡ Fault.Memory) → IsRebuildAnswer C F L r
-written_answer C F L named safe v w o sound (Ok out) files m = rebuilt C F L named safe v w o sound out files
-written_answer C F L named safe v w o sound (Err f) files m = inl m
 
 -- ---- the other clauses
 

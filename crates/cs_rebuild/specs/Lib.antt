@@ -1,3 +1,4 @@
+pub mod Answers
 pub mod Building
 pub mod Encoding
 pub mod Joining
@@ -11,5 +12,5 @@ pub mod Surveys
 pub mod Reading
 pub mod Rounds
 pub mod Writing
-pub mod Unwritten
+pub mod LostFiles
 pub mod OnStore

@@ -1,5 +1,6 @@
 -- What stands on a store, in the words of a recovery.
-use Rattle.std.specs.Prelude.{◌≡◌, ℕ, List}
+use Rattle.std.specs.Prelude.{◌≡◌, ℕ, List, Option}
+use Rattle.std.specs.Option.{option_or}
 use Rattle.cs_schema.specs.CatalogData.{CatalogData}
 use Rattle.cs_schema.specs.FileNames.{FileContents}
 use Rattle.cs_schema.specs.Losses.{Sites}
@@ -8,8 +9,10 @@ use Rattle.cs_rows.specs.Survivors.{SurvivorsData, contents_of}
 use Rattle.cs_rows.specs.Walk.{Contents}
 use Rattle.cs_order.specs.Tables.{table_of}
 use Rattle.cs_jix.specs.JoinIndex.{Place}
+use Rattle.cs_store.specs.declared.fault.Fault.{Fault}
 use Rattle.cs_recovery.specs.Expected.{written}
 use Rattle.cs_recovery.specs.Places.{entry_for}
+use Rattle.cs_recovery.specs.Verdicts.{misplaced, misled}
 use Rattle.cs_rebuild.specs.Steps.{HoldsTable}
 use Rattle.cs_rebuild.specs.declared.ordered_store.OrderedStore.{OrderedStore}
 
@@ -24,6 +27,10 @@ table_on g = table_of g.catalog.now g.walked.rows
 -- the files that a recovery writes
 abbrev pub written_on : OrderedStore → FileContents
 written_on g = written g.catalog.now g.loss (held_on g) (table_on g)
+
+-- the fault of the first surviving file that does not hold what the table asks of it, images first
+abbrev pub contradiction_on : OrderedStore → Option Fault
+contradiction_on g = option_or (misplaced g.catalog.now g.loss (held_on g) (table_on g)) (misled g.catalog.now g.loss (held_on g) (table_on g))
 
 -- its rows are a table's, which is held as far as anything survives
 abbrev pub IsSound : OrderedStore → Type 0

@@ -1,5 +1,6 @@
 -- What the reading of one segment's files finds.
-use Rattle.std.specs.Prelude.{◌≡◌, ℕ, ◌<◌, ◌≤◌, true, List, map, Option, Some, None, Vec, Result, IfOk, IfErr, length, slice_get}
+use Rattle.std.specs.Prelude.{◌≡◌, ℕ, ◌-◌, ◌<◌, ◌≤◌, Bool, true, List, map, Option, Some, None, Vec, Result, IfOk, IfErr, length, slice_get, take, if◌then◌else◌}
+use Rattle.std.specs.Option.{option_map}
 use Rattle.std.specs.Global.{Global}
 use Rattle.std.specs.List.{filter}
 use Rattle.std.specs.declared.cmp.Ordering.TheVariants.{Less}
@@ -10,7 +11,7 @@ use Rattle.cs_schema.specs.CatalogData.{CatalogData, has_join}
 use Rattle.cs_schema.specs.FileNames.{FileContents, HasName, name_cmp, projection_of, segment_of}
 use Rattle.cs_schema.specs.Lists.{IsIn, numbers_below}
 use Rattle.cs_segment.specs.declared.fault.FileFault.{FileFault as ReadFault}
-use Rattle.cs_segment.specs.SegmentFile.{IsSegmentFile, Base}
+use Rattle.cs_segment.specs.SegmentFile.{IsSegmentFile, Base, sealed}
 use Rattle.cs_segment.specs.SegmentData.{SegmentData, kinds_at}
 use Rattle.cs_delta.specs.DeltaFile.{DeltaData, IsDeltaFile}
 use Rattle.cs_delta.specs.KindedImage.{KindedImage}
@@ -19,6 +20,31 @@ use Rattle.cs_rows.specs.Survivors.{SurvivorsData, image_at, join_at}
 use Rattle.cs_recovery.specs.Contents.{IsImageOf, IsJoinOf}
 use Rattle.cs_recovery.specs.Verdicts.{IsSound, FileFault}
 use Rattle.cs_rebuild.specs.declared.reading.SegmentFiles.{SegmentFiles}
+
+-- ---- digests that are compared, or taken apart
+
+-- the text of a file with the digest that it has
+abbrev pub sealed_anew : List ℕ → List ℕ
+sealed_anew bytes = sealed (take (length bytes - 32) bytes)
+
+-- a segment's file as it is read: where its digest isn't compared, its text with the digest that it has
+abbrev pub read_bytes : Bool → List ℕ → List ℕ
+read_bytes compared bytes = if compared then bytes else sealed_anew bytes
+
+-- the files as they are read, where the digests of segments are compared or not
+abbrev pub as_read : Bool → FileContents → FileContents
+as_read compared F (FileName.Seg p s) = option_map (read_bytes compared) (F (FileName.Seg p s))
+as_read compared F (FileName.Del p s) = F (FileName.Del p s)
+as_read compared F (FileName.Jix p s q) = F (FileName.Jix p s q)
+
+-- the file of the segment at this place, where it is there, has the digest of its text
+abbrev pub IsSealedAt : FileContents → List (ℕ × ℕ) → ℕ → Type 0
+IsSealedAt F segments at = (a : ℕ × ℕ) (bytes : List ℕ) → slice_get segments at ≡ Some a → F (FileName.Seg a.0 a.1) ≡ Some bytes → bytes ≡ sealed_anew bytes
+
+abbrev pub AreSealed : FileContents → List (ℕ × ℕ) → Type 0
+AreSealed F segments = (at : ℕ) → at < length segments → IsSealedAt F segments at
+
+-- ---- one segment
 
 -- how a file that could not be read is refused
 abbrev pub file_refusal : FileName → ReadFault → Fault

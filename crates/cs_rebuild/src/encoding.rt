@@ -12,7 +12,6 @@ ghost use Rattle.cs_order.specs.Orders.{numbers_in};
 ghost use Rattle.cs_store.specs.declared.fault.Fault.{Fault as FaultData};
 ghost use Rattle.cs_rebuild.specs.Encoding.{pieces_of, values_at, cut_at, Rises, EncodeAnswerAt, ArePiecesOn};
 ghost use Rattle.cs_rebuild.specs.WorkLaws.{one_value};
-ghost use Rattle.cs_rebuild.specs.OnStore.{IsSound};
 
 use crate::columns::{cells_at, table_column};
 use crate::ordered_store::OrderedStore;
@@ -152,10 +151,9 @@ impl Tasks for EncodeWork<'_> {
 }
 
 impl<'a> EncodeWork<'a> {
-    /// The encoding of the columns of a segment of a sound store.
+    /// The encoding of the columns of a segment.
     pub fn of(alloc: Global, store: &'a OrderedStore<'a>, p: u16, s: u16, cut: u32) -> Self
         requires segment { HasSegment store.now.catalog.now p s }
-        requires sound { IsSound store.now }
         requires cut { (1 ≤ cut) × (cut ≤ 1048576) }
         ensures store { result.store.now ≡ store.now }
         ensures projection { result.p ≡ p }
@@ -185,7 +183,6 @@ pub fn encode_columns<R: Threads + Sync, G: Gate + Sync>(
     s: u16,
 ) -> Result<Vec<Piece>, Fault>
     requires segment { HasSegment store.now.catalog.now p s }
-    requires sound { IsSound store.now }
     ensures ok { IfOk result (λ pieces. ArePiecesOn store.now p s run.now.cut pieces.items) }
     ensures err { IfErr result (λ fault. fault ≡ FaultData.Memory) }
 {

@@ -1,5 +1,5 @@
 //! Reading the files of one segment.
-ghost use Rattle.std.specs.Prelude.{◌≡◌, ◌<◌, ℕ, None, Some, List, map, IfOk, IfErr};
+ghost use Rattle.std.specs.Prelude.{◌≡◌, ◌<◌, ℕ, None, Some, Err, List, map, IfOk, IfErr};
 ghost use Rattle.cs_schema.specs.CatalogData.{HasSegment};
 ghost use Rattle.cs_schema.specs.CatalogRules.{IsCatalog};
 ghost use Rattle.cs_schema.specs.Lists.{IsIn};
@@ -9,14 +9,17 @@ ghost use Rattle.cs_store.specs.FileSet.{contents_of};
 ghost use Rattle.cs_store.specs.Fault.{MemoryOr};
 ghost use Rattle.cs_jix.specs.JoinIndex.{Place};
 ghost use Rattle.cs_recovery.specs.Contents.{IsJoinOf};
-ghost use Rattle.cs_rebuild.specs.Reading.{file_refusal, IsRefused, HoldsBase, HoldsChanges, IsKindedImageOf, IsFirstBadOf, IsFirstBadJoin, IsBaseRead, AreOthersRead, AreSoundFiles, AreFilesOf, joins_of};
+ghost use Rattle.cs_segment.specs.SegmentData.{IsSegmentOf};
+ghost use Rattle.cs_segment.specs.SegmentFile.{Base, IsSegmentFile};
+ghost use Rattle.cs_rebuild.specs.Reading.{file_refusal, IsRefused, HoldsBase, HoldsChanges, IsKindedImageOf, IsFirstBadOf, IsFirstBadJoin, IsBaseRead, AreOthersRead, AreSoundFiles, AreFilesOf, as_read, joins_of, read_bytes};
 
 use crate::reading::SegmentFiles;
 use cs_delta::{Delta, Image, merge_owned, read_delta};
 use cs_jix::{JoinIndex, read_jix};
 use cs_schema::{Catalog, FileName};
 use cs_segment::fault::FileFault;
-use cs_segment::{Segment, par_read_segment};
+use cs_segment::seal::DIGEST;
+use cs_segment::{Segment, par_read_segment, par_read_text};
 use cs_store::{Fault, FileSet};
 use std::alloc::Global;
 use std::thread::{Threads, join_mut};
@@ -47,12 +50,14 @@ fn refusal(name: FileName, fault: FileFault) -> Fault
 
 /// The files of one segment, to be read.
 #[derive(Clone, Copy)]
-struct SegmentSource<'a> {
-    alloc: Global,
-    catalog: &'a Catalog,
-    files: &'a FileSet,
-    p: u16,
-    s: u16,
+pub(crate) struct SegmentSource<'a> {
+    pub(crate) alloc: Global,
+    pub(crate) catalog: &'a Catalog,
+    pub(crate) files: &'a FileSet,
+    /// Whether the digest of the segment file is compared: else its text is read whatever the digest is.
+    pub(crate) compared: bool,
+    pub(crate) p: u16,
+    pub(crate) s: u16,
     ghost exists: { HasSegment catalog.now p s },
 }
 
@@ -77,17 +82,30 @@ impl SegmentSource<'_> {
         }
     }
 
+    /// The segment of which the bytes are the file.
+    fn segment_in<R: Threads>(&self, rt: &R, bytes: &[u8]) -> Result<Segment, FileFault>
+        ensures found { IfOk result (IsSegmentOf self.now.catalog.now self.now.p self.now.s (read_bytes self.now.compared bytes.now)) }
+        ensures refused { result ≡ Err FileFault.Damaged → (b : Base) → IsSegmentFile self.now.catalog.now self.now.p self.now.s (read_bytes self.now.compared bytes.now) b → ⊥ }
+        ensures only { IfOk result (λ segment. (b : Base) → IsSegmentFile self.now.catalog.now self.now.p self.now.s (read_bytes self.now.compared bytes.now) b → b ≡ segment.base) }
+    {
+        if self.compared {
+            return par_read_segment(rt, self.alloc, self.catalog, self.p, self.s, bytes);
+        }
+        let text = &bytes[..bytes.len().saturating_sub(DIGEST)];
+        par_read_text(rt, self.alloc, self.catalog, self.p, self.s, text)
+    }
+
     /// Reads the segment file.
     fn read_base<R: Threads>(&self, rt: &R) -> Result<Segment, Fault>
-        ensures ok { IfOk result (HoldsBase self.now.catalog.now (contents_of self.now.files.now) self.now.p self.now.s) }
-        ensures err { IfErr result (λ fault. MemoryOr fault (IsRefused self.now.catalog.now (contents_of self.now.files.now) (NameData.Seg self.now.p self.now.s) fault)) }
+        ensures ok { IfOk result (HoldsBase self.now.catalog.now (as_read self.now.compared (contents_of self.now.files.now)) self.now.p self.now.s) }
+        ensures err { IfErr result (λ fault. MemoryOr fault (IsRefused self.now.catalog.now (as_read self.now.compared (contents_of self.now.files.now)) (NameData.Seg self.now.p self.now.s) fault)) }
     {
         let name = self.base_name();
         let bytes = match bytes_of(self.files, name) {
             Ok(bytes) => bytes,
             Err(fault) => return Err(fault),
         };
-        match par_read_segment(rt, self.alloc, self.catalog, self.p, self.s, bytes) {
+        match self.segment_in(rt, bytes) {
             Ok(segment) => Ok(segment),
             Err(fault) => Err(refusal(name, fault)),
         }
@@ -95,8 +113,8 @@ impl SegmentSource<'_> {
 
     /// Reads the delta.
     fn read_changes(&self) -> Result<Delta, Fault>
-        ensures ok { IfOk result (HoldsChanges self.now.catalog.now (contents_of self.now.files.now) self.now.p self.now.s) }
-        ensures err { IfErr result (λ fault. MemoryOr fault (IsRefused self.now.catalog.now (contents_of self.now.files.now) (NameData.Del self.now.p self.now.s) fault)) }
+        ensures ok { IfOk result (HoldsChanges self.now.catalog.now (as_read self.now.compared (contents_of self.now.files.now)) self.now.p self.now.s) }
+        ensures err { IfErr result (λ fault. MemoryOr fault (IsRefused self.now.catalog.now (as_read self.now.compared (contents_of self.now.files.now)) (NameData.Del self.now.p self.now.s) fault)) }
     {
         let name = self.delta_name();
         let bytes = match bytes_of(self.files, name) {
@@ -111,8 +129,8 @@ impl SegmentSource<'_> {
 
     /// Reads the join index to a projection.
     fn read_join(&self, q: u16) -> Result<JoinIndex, Fault>
-        ensures ok { IfOk result (IsJoinOf (contents_of self.now.files.now) self.now.p self.now.s q) }
-        ensures err { IfErr result (λ fault. MemoryOr fault (IsRefused self.now.catalog.now (contents_of self.now.files.now) (NameData.Jix self.now.p self.now.s q) fault)) }
+        ensures ok { IfOk result (IsJoinOf (as_read self.now.compared (contents_of self.now.files.now)) self.now.p self.now.s q) }
+        ensures err { IfErr result (λ fault. MemoryOr fault (IsRefused self.now.catalog.now (as_read self.now.compared (contents_of self.now.files.now)) (NameData.Jix self.now.p self.now.s q) fault)) }
     {
         let name = FileName::Jix {
             p: self.p,
@@ -131,11 +149,11 @@ impl SegmentSource<'_> {
 
     /// The image of the segment. A delta that cannot be merged is damaged.
     fn merge_image(&self, segment: Segment, delta: &Delta) -> Result<Image, Fault>
-        requires base { HoldsBase self.now.catalog.now (contents_of self.now.files.now) self.now.p self.now.s segment }
-        requires changes { HoldsChanges self.now.catalog.now (contents_of self.now.files.now) self.now.p self.now.s delta.now }
+        requires base { HoldsBase self.now.catalog.now (as_read self.now.compared (contents_of self.now.files.now)) self.now.p self.now.s segment }
+        requires changes { HoldsChanges self.now.catalog.now (as_read self.now.compared (contents_of self.now.files.now)) self.now.p self.now.s delta.now }
         requires rules { IsCatalog self.now.catalog.now }
-        ensures ok { IfOk result (IsKindedImageOf self.now.catalog.now (contents_of self.now.files.now) self.now.p self.now.s) }
-        ensures err { IfErr result (λ fault. MemoryOr fault (IsRefused self.now.catalog.now (contents_of self.now.files.now) (NameData.Del self.now.p self.now.s) fault)) }
+        ensures ok { IfOk result (IsKindedImageOf self.now.catalog.now (as_read self.now.compared (contents_of self.now.files.now)) self.now.p self.now.s) }
+        ensures err { IfErr result (λ fault. MemoryOr fault (IsRefused self.now.catalog.now (as_read self.now.compared (contents_of self.now.files.now)) (NameData.Del self.now.p self.now.s) fault)) }
     {
         match merge_owned(self.alloc, segment, delta) {
             Ok(image) => Ok(image),
@@ -146,8 +164,8 @@ impl SegmentSource<'_> {
     /// The join indexes, with their targets.
     fn read_joins(&self) -> Result<Vec<(u16, JoinIndex)>, Fault>
         ensures targets { IfOk result (λ joins. map (λ j. j.0) joins.items ≡ joins_of self.now.catalog.now self.now.p) }
-        ensures joins { IfOk result (λ joins. (j : ℕ × List Place) → IsIn j joins.items → IsJoinOf (contents_of self.now.files.now) self.now.p self.now.s j.0 j.1) }
-        ensures err { IfErr result (λ fault. MemoryOr fault (IsFirstBadJoin self.now.catalog.now (contents_of self.now.files.now) self.now.p self.now.s fault)) }
+        ensures joins { IfOk result (λ joins. (j : ℕ × List Place) → IsIn j joins.items → IsJoinOf (as_read self.now.compared (contents_of self.now.files.now)) self.now.p self.now.s j.0 j.1) }
+        ensures err { IfErr result (λ fault. MemoryOr fault (IsFirstBadJoin self.now.catalog.now (as_read self.now.compared (contents_of self.now.files.now)) self.now.p self.now.s fault)) }
         ensures rules { IsCatalog self.now.catalog.now }
     {
         let mut joins = Vec::new(self.alloc);
@@ -169,7 +187,7 @@ impl SegmentSource<'_> {
 
     /// What the delta and the join indexes hold, each whether or not the other can be read.
     fn read_others(&self) -> (Result<Delta, Fault>, Result<Vec<(u16, JoinIndex)>, Fault>)
-        ensures others { AreOthersRead self.now.catalog.now (contents_of self.now.files.now) self.now.p self.now.s result }
+        ensures others { AreOthersRead self.now.catalog.now (as_read self.now.compared (contents_of self.now.files.now)) self.now.p self.now.s result }
         ensures rules { IsCatalog self.now.catalog.now }
     {
         (self.read_changes(), self.read_joins())
@@ -192,8 +210,8 @@ impl SegmentSource<'_> {
         (Result<Delta, Fault>, Result<Vec<(u16, JoinIndex)>, Fault>),
         Result<Segment, Fault>,
     )
-        ensures others { AreOthersRead self.now.catalog.now (contents_of self.now.files.now) self.now.p self.now.s result.0 }
-        ensures base { IsBaseRead self.now.catalog.now (contents_of self.now.files.now) self.now.p self.now.s result.1 }
+        ensures others { AreOthersRead self.now.catalog.now (as_read self.now.compared (contents_of self.now.files.now)) self.now.p self.now.s result.0 }
+        ensures base { IsBaseRead self.now.catalog.now (as_read self.now.compared (contents_of self.now.files.now)) self.now.p self.now.s result.1 }
         ensures rules { IsCatalog self.now.catalog.now }
     {
         if !self.is_large() {
@@ -204,52 +222,37 @@ impl SegmentSource<'_> {
         join_mut(
             rt,
             &mut || -> (Result<Delta, Fault>, Result<Vec<(u16, JoinIndex)>, Fault>)
-                ensures others { AreOthersRead self.entry.now.catalog.now (contents_of self.entry.now.files.now) self.entry.now.p self.entry.now.s result }
+                ensures others { AreOthersRead self.entry.now.catalog.now (as_read self.entry.now.compared (contents_of self.entry.now.files.now)) self.entry.now.p self.entry.now.s result }
                 ensures rules { IsCatalog self.entry.now.catalog.now }
             { self.read_others() },
             &mut || -> Result<Segment, Fault>
-                ensures { IsBaseRead self.entry.now.catalog.now (contents_of self.entry.now.files.now) self.entry.now.p self.entry.now.s result }
+                ensures { IsBaseRead self.entry.now.catalog.now (as_read self.entry.now.compared (contents_of self.entry.now.files.now)) self.entry.now.p self.entry.now.s result }
             { self.read_base(rt) },
         )
     }
-}
 
-/// What the files of a segment hold, or the refusal of the least bad one.
-pub fn read_files<R: Threads>(
-    rt: &R,
-    alloc: Global,
-    catalog: &Catalog,
-    files: &FileSet,
-    p: u16,
-    s: u16,
-) -> Result<SegmentFiles, Fault>
-    requires { HasSegment catalog.now p s }
-    ensures sound { IfOk result (λ _. AreSoundFiles catalog.now (contents_of files.now) (p, s)) }
-    ensures ok { IfOk result (AreFilesOf catalog.now (contents_of files.now) (p, s)) }
-    ensures err { IfErr result (λ fault. MemoryOr fault (IsFirstBadOf catalog.now (contents_of files.now) (p, s) fault)) }
-{
-    let source = SegmentSource {
-        alloc,
-        catalog,
-        files,
-        p,
-        s,
-    };
-    let ((delta, joins), segment) = source.read_each(rt);
-    let segment = match segment {
-        Ok(segment) => segment,
-        Err(fault) => return Err(fault),
-    };
-    let delta = match delta {
-        Ok(delta) => delta,
-        Err(fault) => return Err(fault),
-    };
-    let image = match source.merge_image(segment, &delta) {
-        Ok(image) => image,
-        Err(fault) => return Err(fault),
-    };
-    match joins {
-        Ok(joins) => Ok(SegmentFiles { image, joins }),
-        Err(fault) => Err(fault),
+    /// What the files hold, or the refusal of the least bad one.
+    pub(crate) fn read<R: Threads>(&self, rt: &R) -> Result<SegmentFiles, Fault>
+        ensures sound { IfOk result (λ _. AreSoundFiles self.now.catalog.now (as_read self.now.compared (contents_of self.now.files.now)) (self.now.p, self.now.s)) }
+        ensures ok { IfOk result (AreFilesOf self.now.catalog.now (as_read self.now.compared (contents_of self.now.files.now)) (self.now.p, self.now.s)) }
+        ensures err { IfErr result (λ fault. MemoryOr fault (IsFirstBadOf self.now.catalog.now (as_read self.now.compared (contents_of self.now.files.now)) (self.now.p, self.now.s) fault)) }
+    {
+        let ((delta, joins), segment) = self.read_each(rt);
+        let segment = match segment {
+            Ok(segment) => segment,
+            Err(fault) => return Err(fault),
+        };
+        let delta = match delta {
+            Ok(delta) => delta,
+            Err(fault) => return Err(fault),
+        };
+        let image = match self.merge_image(segment, &delta) {
+            Ok(image) => image,
+            Err(fault) => return Err(fault),
+        };
+        match joins {
+            Ok(joins) => Ok(SegmentFiles { image, joins }),
+            Err(fault) => Err(fault),
+        }
     }
 }

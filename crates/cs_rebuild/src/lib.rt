@@ -9,23 +9,29 @@
 //! `places`, and rounds of `Tasks`.
 #![tactic(auto)]
 
+mod affected_joins;
 mod anchored;
 mod appending;
 mod building;
 mod columns;
 mod columns_of_rows;
 mod comparing;
+mod counting;
+mod digests;
 mod encoding;
 mod files_of;
 mod joined;
 mod joining;
 mod lending;
+mod lost_files;
 mod ordered_store;
 mod ordering;
 mod placed;
 pub mod places;
 mod planned;
 mod reading;
+mod rebuilding;
+mod recovering;
 mod recovery;
 mod rounds;
 mod rowwise;
@@ -33,11 +39,9 @@ mod run;
 mod sound_store;
 mod surviving;
 mod surviving_table;
-mod unwritten;
 mod verifying;
 mod walking;
 mod writing;
-mod writing_joins;
 
 pub use building::build;
 pub use columns_of_rows::are_columns;
@@ -51,7 +55,6 @@ pub use recovery::{check, check_gated, rebuild, rebuild_gated};
 pub use rounds::Tasks;
 pub use run::Run;
 pub use sound_store::SoundStore;
-pub use surviving::{Surviving, joins_of, surviving_segments};
+pub use surviving::{joins_of, surviving_segments};
 pub use surviving_table::{rows_by_key, table};
 pub use verifying::{order_store, verify};
-pub use writing::lost_files;

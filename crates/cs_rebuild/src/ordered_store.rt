@@ -1,7 +1,11 @@
 //! What the later rounds stand on: the survivors, and the table's rows in their orders.
 ghost use Rattle.std.specs.Prelude.{◌≡◌, ◌<◌, ◌^◌, length, map, None};
 ghost use Rattle.cs_schema.specs.FileNames.{FileContents};
+ghost use Rattle.cs_schema.specs.Order.{Fits};
+ghost use Rattle.cs_schema.specs.Rows.{IsTable};
 ghost use Rattle.cs_order.specs.Orders.{AreOrdersOf};
+ghost use Rattle.cs_order.specs.Tables.{table_of};
+ghost use Rattle.cs_recovery.proofs.CatalogFacts.{IsTable-prop};
 ghost use Rattle.cs_rebuild.specs.Steps.{AreRead, row_fault};
 ghost use Rattle.cs_rebuild.specs.StoreFacts.{HaveImageRoom, HaveJoinRoom, AreImagesThere, AreJoinsThere, HaveWidths, HaveKeys, HaveTops, HaveEntries, HaveOrders, AreNumbersBelow, AreInOrder, HaveRoomInRanges};
 
@@ -28,6 +32,8 @@ pub struct OrderedStore<'a> {
     pub ghost entries: { HaveEntries catalog.now loss survivors.now },
     pub ghost kinds: { walked.kinds ≡ map (λ c. c.kind) catalog.now.columns },
     pub ghost few: { length walked.rows < 2 ^ 32 },
+    pub ghost table: { IsTable catalog.now (table_of catalog.now walked.rows) } by { IsTable-prop catalog.now (table_of catalog.now walked.rows) },
+    pub ghost fits: { Fits catalog.now (table_of catalog.now walked.rows) },
     pub ghost order_rows: { orders.rows ≡ length walked.rows },
     pub ghost order_room: { HaveOrders catalog.now orders },
     pub ghost below: { AreNumbersBelow catalog.now walked.rows orders },
@@ -46,6 +52,7 @@ pub fn store_of<'a>(
     requires read { (F : FileContents) × AreRead catalog.now F loss survivors.now }
     requires kinds { walked.kinds ≡ map (λ c. c.kind) catalog.now.columns }
     requires few { length walked.rows < 2 ^ 32 }
+    requires table { IsTable catalog.now (table_of catalog.now walked.rows) }
     requires orders { AreOrdersOf catalog.now walked.rows orders }
     requires rows_sound { row_fault catalog.now walked.rows ≡ None }
     ensures catalog { result.catalog.now ≡ catalog.now }

@@ -1,5 +1,5 @@
 //! Reading what survives of a store.
-ghost use Rattle.std.specs.Prelude.{◌≡◌, ◌<◌, ◌≤◌, ℕ, length, map, Err, IfOk, IfErr};
+ghost use Rattle.std.specs.Prelude.{◌≡◌, ◌<◌, ◌≤◌, ℕ, false, length, map, Err, IfOk, IfErr};
 ghost use Rattle.cs_schema.specs.CatalogData.{HasSegment};
 ghost use Rattle.cs_schema.specs.CatalogRules.{IsCatalog};
 ghost use Rattle.cs_schema.specs.FileNames.{FileContents};
@@ -13,18 +13,18 @@ ghost use Rattle.cs_recovery.proofs.CatalogFacts.{IsCatalog-prop};
 ghost use Rattle.cs_recovery.specs.Verdicts.{IsVerdict, surviving_segments};
 ghost use Rattle.cs_schema.specs.Losses.{Sites};
 ghost use Rattle.cs_rebuild.specs.Steps.{AreRead, IsBadFile};
-ghost use Rattle.cs_rebuild.specs.Reading.{FilesFaultAt, FilesAnswerAt, AreFilesOf, IsKept, AreOthersKept, joins_of};
+ghost use Rattle.cs_rebuild.specs.Reading.{FilesFaultAt, FilesAnswerAt, AreFilesOf, IsKept, AreOthersKept, as_read, joins_of};
 ghost use Rattle.cs_rebuild.specs.WorkLaws.{one_files_fault};
 
-use crate::files_of::read_files;
+use crate::files_of::SegmentSource;
 use crate::rounds::Tasks;
 use crate::run::Run;
-use crate::surviving::Surviving;
+use crate::surviving::surviving_segments;
 use cs_board::{Gate, Round};
 use cs_delta::Image;
 use cs_jix::JoinIndex;
 use cs_rows::Survivors;
-use cs_schema::Catalog;
+use cs_schema::{Catalog, Loss};
 use cs_store::{Fault, FileSet};
 use std::alloc::Global;
 use std::marker::Sync;
@@ -44,6 +44,8 @@ struct FilesWork<'w, 'a, R> {
     alloc: Global,
     catalog: &'a Catalog,
     files: &'w FileSet,
+    /// Whether the digests of segments are compared.
+    compared: bool,
     segments: &'w [(u16, u16)],
     ghost rules: { IsCatalog catalog.now } by { IsCatalog-prop catalog.now },
     ghost few: { length segments.now ≤ 128 },
@@ -55,9 +57,9 @@ impl<R: Threads> Tasks for FilesWork<'_, '_, R> {
 
     ghost tasks = { λ work. length work.segments.now };
 
-    ghost fault_at = { λ work i fault. FilesFaultAt work.catalog.now (contents_of work.files.now) work.segments.now i fault };
+    ghost fault_at = { λ work i fault. FilesFaultAt work.catalog.now (as_read work.compared (contents_of work.files.now)) work.segments.now i fault };
 
-    ghost answers = { λ work i out. FilesAnswerAt work.catalog.now (contents_of work.files.now) work.segments.now i out };
+    ghost answers = { λ work i out. FilesAnswerAt work.catalog.now (as_read work.compared (contents_of work.files.now)) work.segments.now i out };
 
     fn count(&self) -> u32 {
         self.segments.len() as u32
@@ -65,21 +67,29 @@ impl<R: Threads> Tasks for FilesWork<'_, '_, R> {
 
     fn task(&self, i: u32) -> Result<SegmentFiles, Fault> {
         let (p, s) = self.segments[i as usize];
-        match read_files(self.rt, self.alloc, self.catalog, self.files, p, s) {
+        let source = SegmentSource {
+            alloc: self.alloc,
+            catalog: self.catalog,
+            files: self.files,
+            compared: self.compared,
+            p,
+            s,
+        };
+        match source.read(self.rt) {
             Ok(files) => Ok(files),
             Err(fault) => Err(fault),
         }
     }
 
-    ghost one_fault = { λ work i f g below a b. one_files_fault work.catalog.now (contents_of work.files.now) work.segments.now i f g a b };
+    ghost one_fault = { λ work i f g below a b. one_files_fault work.catalog.now (as_read work.compared (contents_of work.files.now)) work.segments.now i f g a b };
 }
 
 impl<'a, R> FilesWork<'_, 'a, R> {
     /// Keeps what the files of all segments hold.
     fn keep_all(&self, all: Vec<SegmentFiles>) -> Result<Survivors<'a>, Fault>
         requires count { length all.items ≡ length self.now.segments.now }
-        requires each { AnswersInOrder (FilesAnswerAt self.now.catalog.now (contents_of self.now.files.now) self.now.segments.now) all.items }
-        ensures ok { IfOk result (λ kept. (L : Sites) → self.now.segments.now ≡ surviving_segments self.now.catalog.now L → AreRead self.now.catalog.now (contents_of self.now.files.now) L kept) }
+        requires each { AnswersInOrder (FilesAnswerAt self.now.catalog.now (as_read self.now.compared (contents_of self.now.files.now)) self.now.segments.now) all.items }
+        ensures ok { IfOk result (λ kept. (L : Sites) → self.now.segments.now ≡ surviving_segments self.now.catalog.now L → AreRead self.now.catalog.now (as_read self.now.compared (contents_of self.now.files.now)) L kept) }
         ensures err { IfErr result (λ fault. fault ≡ FaultData.Memory) }
     {
         let mut survivors = match Survivors::new(self.alloc, self.catalog) {
@@ -95,27 +105,63 @@ impl<'a, R> FilesWork<'_, 'a, R> {
     }
 }
 
-/// What the surviving files hold, or the refusal of the least bad one.
-pub fn read_store<'a, R: Threads + Sync, G: Gate + Sync>(
+/// What the files of surviving segments hold, or the refusal of the least bad one; where digests aren't compared, as if each
+/// segment file had the digest of its text.
+fn read_segments<'a, R: Threads + Sync, G: Gate + Sync>(
     run: &Run<'_, R, G>,
-    surviving: &Surviving<'a>,
+    catalog: &'a Catalog,
+    loss: Loss,
     files: &FileSet,
+    compared: bool,
 ) -> Result<Survivors<'a>, Fault>
-    ensures ok { IfOk result (AreRead surviving.now.catalog.now (contents_of files.now) surviving.now.loss) }
-    ensures bad { IfErr result (λ fault. MemoryOr fault (IsBadFile surviving.now.catalog.now (contents_of files.now) surviving.now.loss fault)) }
-    ensures err { IfErr result (λ fault. MemoryOr fault (IsVerdict surviving.now.catalog.now (contents_of files.now) surviving.now.loss (Err fault))) }
+    ensures ok { IfOk result (AreRead catalog.now (as_read compared (contents_of files.now)) loss) }
+    ensures bad { IfErr result (λ fault. MemoryOr fault (IsBadFile catalog.now (as_read compared (contents_of files.now)) loss fault)) }
+    ensures rules { IsCatalog catalog.now }
 {
+    let segments = match surviving_segments(run.alloc, catalog, loss) {
+        Ok(segments) => segments,
+        Err(_) => return Err(Fault::Memory),
+    };
     let work = FilesWork {
         rt: run.rt,
         alloc: run.alloc,
-        catalog: surviving.catalog,
+        catalog,
         files,
-        segments: surviving.segments.as_slice(),
+        compared,
+        segments: segments.as_slice(),
     };
     match run.round(Round::Files, &work) {
         Ok(all) => work.keep_all(all),
         Err(fault) => Err(fault),
     }
+}
+
+/// What the files that survive a loss hold, or the refusal of the least bad one.
+pub fn read_store<'a, R: Threads + Sync, G: Gate + Sync>(
+    run: &Run<'_, R, G>,
+    catalog: &'a Catalog,
+    loss: Loss,
+    files: &FileSet,
+) -> Result<Survivors<'a>, Fault>
+    ensures ok { IfOk result (AreRead catalog.now (contents_of files.now) loss) }
+    ensures bad { IfErr result (λ fault. MemoryOr fault (IsBadFile catalog.now (contents_of files.now) loss fault)) }
+    ensures err { IfErr result (λ fault. MemoryOr fault (IsVerdict catalog.now (contents_of files.now) loss (Err fault))) }
+    ensures rules { IsCatalog catalog.now }
+{
+    read_segments(run, catalog, loss, files, true)
+}
+
+/// The same, as if the digest of each segment file were that of its text: `has_digests` tells whether they are, beside this.
+pub fn read_texts<'a, R: Threads + Sync, G: Gate + Sync>(
+    run: &Run<'_, R, G>,
+    catalog: &'a Catalog,
+    loss: Loss,
+    files: &FileSet,
+) -> Result<Survivors<'a>, Fault>
+    ensures ok { IfOk result (AreRead catalog.now (as_read false (contents_of files.now)) loss) }
+    ensures err { IfErr result (λ fault. MemoryOr fault (IsVerdict catalog.now (as_read false (contents_of files.now)) loss (Err fault))) }
+{
+    read_segments(run, catalog, loss, files, false)
 }
 
 /// Keeps what the files of one segment hold.

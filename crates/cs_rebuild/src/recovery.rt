@@ -5,11 +5,9 @@ ghost use Rattle.cs_recovery.specs.Claims.{IsRebuildAnswer, IsCheckAnswer};
 ghost use Rattle.cs_recovery.specs.Laws.{RebuildClauses, CheckClauses};
 ghost use Rattle.cs_rebuild.specs.Steps.{safety_refusal as refusal_of};
 
-use crate::reading::read_store;
+use crate::counting::count_rows;
+use crate::rebuilding::rebuild_files;
 use crate::run::Run;
-use crate::surviving::{Surviving, surviving_segments};
-use crate::verifying::verify;
-use crate::writing::lost_files;
 use cs_board::{Gate, OpenGate};
 use cs_safety::{SafetyFault, ksafe, safe};
 use cs_schema::{Catalog, Loss};
@@ -72,23 +70,7 @@ pub fn rebuild_gated<R: Threads + Sync, G: Gate + Sync>(
         cut,
         gate,
     };
-    let segments = match surviving_segments(alloc, catalog, loss) {
-        Ok(segments) => segments,
-        Err(_) => return Err(Fault::Memory),
-    };
-    let surviving = Surviving {
-        catalog,
-        loss,
-        segments,
-    };
-    let survivors = match read_store(&run, &surviving, files) {
-        Ok(survivors) => survivors,
-        Err(fault) => return Err(fault),
-    };
-    match verify(&run, &surviving, &survivors) {
-        Ok(store) => lost_files(&run, &store),
-        Err(fault) => Err(fault),
-    }
+    rebuild_files(&run, catalog, loss, files)
 }
 
 /// The number of rows of a store that is sound, and safe for losses of at most `k` sites.
@@ -139,24 +121,7 @@ pub fn check_gated<R: Threads + Sync, G: Gate + Sync>(
         cut,
         gate,
     };
-    let loss = Loss::none();
-    let segments = match surviving_segments(alloc, catalog, loss) {
-        Ok(segments) => segments,
-        Err(_) => return Err(Fault::Memory),
-    };
-    let surviving = Surviving {
-        catalog,
-        loss,
-        segments,
-    };
-    let survivors = match read_store(&run, &surviving, files) {
-        Ok(survivors) => survivors,
-        Err(fault) => return Err(fault),
-    };
-    match verify(&run, &surviving, &survivors) {
-        Ok(store) => Ok(store.ordered().walked.rows() as u64),
-        Err(fault) => Err(fault),
-    }
+    count_rows(&run, catalog, Loss::none(), files)
 }
 
 /// How a catalog that is not safe is refused.

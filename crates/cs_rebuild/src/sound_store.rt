@@ -14,8 +14,12 @@ pub struct SoundStore<'a> {
 impl<'a> Model for SoundStore<'a> {
     ghost use Rattle.cs_rebuild.specs.OnStore.{IsSound};
     ghost use Rattle.cs_rebuild.specs.declared.ordered_store.OrderedStore.{OrderedStore as Ordered};
+    ghost use Rattle.cs_recovery.proofs.CatalogFacts.{IsTable-prop};
+    ghost use Rattle.std.specs.Coded.{codes};
 
     ghost Value = { Ordered };
+
+    ghost coded = { Prim.hlevel (IsTable-prop, codes) };
 
     ghost view = { λ s. s.ordered };
 

@@ -5,23 +5,11 @@ ghost use Rattle.cs_schema.specs.CatalogData.{has_join, segments, HasSegment};
 ghost use Rattle.cs_schema.specs.CatalogRules.{IsCatalog};
 ghost use Rattle.cs_schema.specs.Lists.{IsIn, numbers_below};
 ghost use Rattle.cs_schema.specs.Losses.{lost};
-ghost use Rattle.cs_recovery.proofs.CatalogFacts.{IsCatalog-prop};
 ghost use Rattle.cs_recovery.specs.Verdicts.{surviving_segments};
 ghost use Rattle.cs_rebuild.specs.Surveys.{survivors_of, joins_at, joins_among};
 
 use cs_schema::{Catalog, Loss};
 use std::alloc::{AllocError, Global};
-
-/// What a loss leaves of a catalog: the segments that survive it.
-#[derive(Drop)]
-pub struct Surviving<'a> {
-    pub catalog: &'a Catalog,
-    pub loss: Loss,
-    pub segments: Vec<(u16, u16)>,
-    pub ghost rules: { IsCatalog catalog.now } by { IsCatalog-prop catalog.now },
-    pub ghost few: { length segments.items ≤ 128 },
-    pub ghost are: { segments.items ≡ surviving_segments catalog.now loss },
-}
 
 /// Puts the surviving segments of a projection at the end of a list.
 fn push_segments(

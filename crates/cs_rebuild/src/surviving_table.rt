@@ -16,7 +16,6 @@ use crate::lending::column_count;
 use crate::ordered_store::OrderedStore;
 use crate::reading::read_store;
 use crate::run::Run;
-use crate::surviving::{Surviving, surviving_segments};
 use crate::verifying::verify;
 use cs_board::Gate;
 use cs_order::key_order;
@@ -106,20 +105,11 @@ pub fn table<R: Threads + Sync, G: Gate + Sync>(
     if !safe(catalog, loss) {
         return Err(Fault::Unsafe(loss));
     }
-    let segments = match surviving_segments(run.alloc, catalog, loss) {
-        Ok(segments) => segments,
-        Err(_) => return Err(Fault::Memory),
-    };
-    let surviving = Surviving {
-        catalog,
-        loss,
-        segments,
-    };
-    let survivors = match read_store(run, &surviving, files) {
+    let survivors = match read_store(run, catalog, loss, files) {
         Ok(survivors) => survivors,
         Err(fault) => return Err(fault),
     };
-    let store = match verify(run, &surviving, &survivors) {
+    let store = match verify(run, catalog, loss, &survivors) {
         Ok(store) => store,
         Err(fault) => return Err(fault),
     };

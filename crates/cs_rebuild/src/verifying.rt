@@ -1,11 +1,11 @@
 //! What the surviving files of a store come to.
-ghost use Rattle.std.specs.Prelude.{Err, IfOk, IfErr};
+ghost use Rattle.std.specs.Prelude.{◌≡◌, None, Some, Err, IfOk, IfErr, OnOk};
 ghost use Rattle.cs_schema.specs.FileNames.{FileContents};
 ghost use Rattle.cs_store.specs.Fault.{MemoryOr};
 ghost use Rattle.cs_safety.specs.Safety.{IsSafe};
 ghost use Rattle.cs_recovery.specs.Verdicts.{IsVerdict};
 ghost use Rattle.cs_rows.specs.Survivors.{contents_of as held_by};
-ghost use Rattle.cs_rebuild.specs.OnStore.{IsStoreOf};
+ghost use Rattle.cs_rebuild.specs.OnStore.{IsStoreOf, contradiction_on};
 ghost use Rattle.cs_rebuild.specs.Steps.{AreRead, AreOrdered, AreSound, IsUnordered};
 
 use crate::joined::verify_joins;
@@ -14,7 +14,7 @@ use crate::ordering::orders_of;
 use crate::placed::verify_images;
 use crate::run::Run;
 use crate::sound_store::SoundStore;
-use crate::surviving::{Surviving, joins_of};
+use crate::surviving::{joins_of, surviving_segments};
 use crate::walking::walk_all;
 use cs_board::Gate;
 use cs_rows::Survivors;
@@ -36,6 +36,7 @@ pub fn order_store<'a, R: Threads + Sync, G: Gate + Sync>(
     ensures of { IfOk result (IsStoreOf catalog.now loss survivors.now) }
     ensures err { IfErr result (λ fault. MemoryOr fault (IsUnordered catalog.now loss (held_by survivors.now) fault)) }
 {
+    let _rules = catalog.projection_count();
     let walked = match walk_all(run, catalog, loss, survivors) {
         Ok(walked) => walked,
         Err(fault) => return Err(fault),
@@ -46,33 +47,49 @@ pub fn order_store<'a, R: Threads + Sync, G: Gate + Sync>(
     }
 }
 
-/// What a store comes to of which this was read: the first refusal that applies, or the sound store.
-pub fn verify<'a, R: Threads + Sync, G: Gate + Sync>(
+/// Compares the files that survive with the rows of the table: the fault of the first that says otherwise, images first.
+pub fn verify_files<R: Threads + Sync, G: Gate + Sync>(
     run: &Run<'_, R, G>,
-    surviving: &Surviving<'a>,
-    survivors: &'a Survivors<'a>,
-) -> Result<SoundStore<'a>, Fault>
-    requires safe { IsSafe surviving.now.catalog.now surviving.now.loss }
-    requires read { (F : FileContents) × AreRead surviving.now.catalog.now F surviving.now.loss survivors.now }
-    ensures ok { IfOk result (λ store. (F : FileContents) → AreRead surviving.now.catalog.now F surviving.now.loss survivors.now → AreSound surviving.now.catalog.now F surviving.now.loss survivors.now store.walked store.orders) }
-    ensures of { IfOk result (IsStoreOf surviving.now.catalog.now surviving.now.loss survivors.now) }
-    ensures err { IfErr result (λ fault. (F : FileContents) → AreRead surviving.now.catalog.now F surviving.now.loss survivors.now → MemoryOr fault (IsVerdict surviving.now.catalog.now F surviving.now.loss (Err fault))) }
+    store: &OrderedStore<'_>,
+) -> Result<(), Fault>
+    ensures ok { OnOk result (contradiction_on store.now ≡ None) }
+    ensures err { IfErr result (λ fault. MemoryOr fault (contradiction_on store.now ≡ Some fault)) }
 {
-    let store = match order_store(run, surviving.catalog, surviving.loss, survivors) {
-        Ok(store) => store,
-        Err(fault) => return Err(fault),
+    let segments = match surviving_segments(run.alloc, store.catalog, store.loss) {
+        Ok(segments) => segments,
+        Err(_) => return Err(Fault::Memory),
     };
-    match verify_images(run, &store, surviving.segments.as_slice()) {
+    match verify_images(run, store, segments.as_slice()) {
         Ok(()) => {}
         Err(fault) => return Err(fault),
     }
-    let joins = match joins_of(run.alloc, surviving.catalog, surviving.segments.as_slice()) {
+    let joins = match joins_of(run.alloc, store.catalog, segments.as_slice()) {
         Ok(joins) => joins,
         Err(_) => return Err(Fault::Memory),
     };
-    match verify_joins(run, &store, joins.as_slice()) {
-        Ok(()) => {}
+    verify_joins(run, store, joins.as_slice())
+}
+
+/// What a store comes to of which this was read: the first refusal that applies, or the sound store.
+pub fn verify<'a, R: Threads + Sync, G: Gate + Sync>(
+    run: &Run<'_, R, G>,
+    catalog: &'a Catalog,
+    loss: Loss,
+    survivors: &'a Survivors<'a>,
+) -> Result<SoundStore<'a>, Fault>
+    requires safe { IsSafe catalog.now loss }
+    requires read { (F : FileContents) × AreRead catalog.now F loss survivors.now }
+    ensures ok { IfOk result (λ store. (F : FileContents) → AreRead catalog.now F loss survivors.now → AreSound catalog.now F loss survivors.now store.walked store.orders) }
+    ensures of { IfOk result (IsStoreOf catalog.now loss survivors.now) }
+    ensures err { IfErr result (λ fault. (F : FileContents) → AreRead catalog.now F loss survivors.now → MemoryOr fault (IsVerdict catalog.now F loss (Err fault))) }
+{
+    let _rules = catalog.projection_count();
+    let store = match order_store(run, catalog, loss, survivors) {
+        Ok(store) => store,
         Err(fault) => return Err(fault),
+    };
+    match verify_files(run, &store) {
+        Ok(()) => Ok(SoundStore::of(store)),
+        Err(fault) => Err(fault),
     }
-    Ok(SoundStore::of(store))
 }

@@ -77,7 +77,7 @@ module _ (C : CatalogData) (F G : FileContents) (L : Sites) (same : SameSurvivor
     before = λ m v e. sound_under C F G L same m v (b.before m v e);
   }
 
-  verdict_under : (v : Verdict) → IsVerdict C F L v → IsVerdict C G L v
+  pub verdict_under : (v : Verdict) → IsVerdict C F L v → IsVerdict C G L v
   verdict_under v (IsVerdict.bad_file n f b e) = IsVerdict.bad_file n f (bad_under n f b) e
   verdict_under v (IsVerdict.contents S w r k e) = IsVerdict.contents S w (reads_under C F G L S same r) k e
 

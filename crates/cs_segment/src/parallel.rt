@@ -1,14 +1,15 @@
-//! Reading a segment's file in several threads: one takes the digest, and one each column.
+//! Reading a segment's file in several threads: one takes the digest, and one each column. What stands before the digest is read
+//! by itself too, where the digest is taken apart from it.
 ghost use Rattle.std.specs.Prelude.{◌≡◌, ◌<◌, ◌≤◌, List, map, length, IfOk};
 ghost use Rattle.cs_schema.specs.CatalogRules.{IsCatalog};
-ghost use Rattle.cs_segment.specs.SegmentFile.{Base, IsSegmentFile};
+ghost use Rattle.cs_segment.specs.SegmentFile.{Base, IsSegmentFile, sealed};
 ghost use Rattle.cs_segment.specs.SegmentData.{IsSegmentOf};
 ghost use Rattle.cs_segment.specs.Bodies.{IsReadAt, AreFirstRead, AreReadOf, HoldsColumns, HoldsNone, IsSealed};
 
 use crate::fault::FileFault;
 use crate::reader::SegmentReader;
 use crate::seal::{DIGEST, is_sealed};
-use crate::segment::{Segment, find_columns, read_segment};
+use crate::segment::{self, Segment, find_columns, read_segment};
 use cs_schema::{Catalog, Cells};
 use std::alloc::Global;
 use std::thread::{Threads, join, join_mut};
@@ -104,6 +105,50 @@ pub fn par_read_segment<R: Threads>(
         return Err(FileFault::Damaged);
     }
     let (rows, columns) = read?;
+    Ok(Segment {
+        p,
+        s,
+        rows,
+        columns,
+    })
+}
+
+/// The number of rows, and the columns, of what stands in a segment's file before its digest. What is long is read in several
+/// threads.
+fn read_front<R: Threads>(
+    rt: &R,
+    alloc: Global,
+    catalog: &Catalog,
+    p: u16,
+    s: u16,
+    front: &[u8],
+) -> Result<(u32, Vec<Cells>), FileFault>
+    requires { p < length catalog.now.projections }
+    ensures found { IfOk result (λ r. HoldsColumns catalog.now p s front.now r.0 r.1.items) }
+    ensures refused { result ≡ Err FileFault.Damaged → HoldsNone catalog.now p s front.now }
+    ensures rules { IsCatalog catalog.now }
+{
+    if front.len() < WORTH_THREADS {
+        return segment::read_columns(alloc, catalog, p, s, front);
+    }
+    read_columns(rt, alloc, catalog, p, s, front)
+}
+
+/// The segment whose file is this text and its digest. A long text is read in several threads.
+pub fn par_read_text<R: Threads>(
+    rt: &R,
+    alloc: Global,
+    catalog: &Catalog,
+    p: u16,
+    s: u16,
+    text: &[u8],
+) -> Result<Segment, FileFault>
+    requires { p < length catalog.now.projections }
+    ensures found { IfOk result (IsSegmentOf catalog.now p s (sealed text.now)) }
+    ensures refused { result ≡ Err FileFault.Damaged → (b : Base) → IsSegmentFile catalog.now p s (sealed text.now) b → ⊥ }
+    ensures only { IfOk result (λ segment. (b : Base) → IsSegmentFile catalog.now p s (sealed text.now) b → b ≡ segment.base) }
+{
+    let (rows, columns) = read_front(rt, alloc, catalog, p, s, text)?;
     Ok(Segment {
         p,
         s,

@@ -99,7 +99,7 @@ pub(crate) fn find_columns<'a>(
 }
 
 /// The number of rows, and the columns, of what stands in a segment's file before its digest.
-fn read_columns(
+pub(crate) fn read_columns(
     alloc: Global,
     catalog: &Catalog,
     p: u16,

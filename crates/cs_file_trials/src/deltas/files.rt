@@ -4,7 +4,7 @@ ghost use Rattle.std.specs.Prelude.{◌<◌, length};
 use super::{LOWER, NO_ITEMS, UPPER, one_column, sealed, single, stacked};
 use crate::made::are_made;
 use cs_codec::Cell;
-use cs_delta::{CellPlace, Delta, Item, ItemCell, read_delta, write_empty_delta};
+use cs_delta::{CellContent, Delta, Item, ItemCell, read_delta, write_empty_delta};
 use cs_schema::Catalog;
 use cs_segment::fault::FileFault;
 use cs_segment::seal::seal;
@@ -32,9 +32,12 @@ fn changed(alloc: Global, bytes: &[u8], at: usize) -> Result<Vec<u8>, AllocError
 }
 
 fn write_cell(out: &mut Vec<u8>, cell: &ItemCell) -> Result<(), AllocError> {
-    match &cell.place {
-        CellPlace::Int(int) => int.write(out),
-        CellPlace::Text(text) => text.write(out),
+    match cell.content() {
+        CellContent::Int(int) => int.write(out),
+        CellContent::Text(text) => {
+            out.push(text.len() as u8)?;
+            out.extend_from_slice(text.as_bytes())
+        }
     }
 }
 
@@ -44,8 +47,8 @@ fn write_item(out: &mut Vec<u8>, item: &Item) -> Result<(), AllocError> {
             out.push(1)?;
             out.extend_from_slice(&at.to_be_bytes())?;
             out.extend_from_slice(&key.to_be_bytes())?;
-            for value in row {
-                write_cell(out, value)?;
+            for j in 0..row.len() {
+                write_cell(out, &row.cell(j))?;
             }
         }
         Item::Delete { at } => {
@@ -82,8 +85,8 @@ fn write_layers(out: &mut Vec<u8>, delta: &Delta) -> Result<(), AllocError> {
     }
     for layer in &delta.layers {
         out.extend_from_slice(&layer.len().to_be_bytes()[4..])?;
-        for item in layer {
-            write_item(out, item)?;
+        for i in 0..layer.len() {
+            write_item(out, &layer.item(i))?;
         }
     }
     Ok(())

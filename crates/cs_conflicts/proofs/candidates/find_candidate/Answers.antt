@@ -1,5 +1,4 @@
 use Rattle.std.proofs.Common.{◌∙◌, sym, subst, refl}
-use Rattle.cs_schema.specs.Order.{Fits}
 use Rattle.cs_schema.specs.Rows.{IsTable}
 use Rattle.cs_order.specs.Tables.{table_of}
 use Rattle.cs_rebuild.specs.OnStore.{table_on}
@@ -7,7 +6,7 @@ use Rattle.cs_rebuild.specs.Steps.{AreRead}
 use Rattle.cs_rebuild.proofs.Verdicts.{on_store}
 use Rattle.cs_conflicts.specs.Candidates.{AreConflictsOf}
 use Rattle.cs_conflicts.proofs.Passes.{read_beside}
-use Rattle.cs_conflicts.proofs.WalkedTables.{no_table_beside, only_table, is_table, fits}
+use Rattle.cs_conflicts.proofs.WalkedTables.{no_table_beside, only_table, is_table}
 use Rattle.cs_conflicts.proofs.candidates.find_candidate.Goals as goal
 
 pub order_store-requires-clause-read : goal.order_store-requires-clause-read
@@ -20,21 +19,11 @@ returns-in_default g c F read =
     let m = c.args.remains.now in
     no_table_beside m.catalog.now m.rules F m.first c.args.loss m.survivors.now read c.in-Err.fault c.in-Err.ensures.err c.in_default.not-Memory
 
-pub conflicts_of-requires-clause-table : goal.conflicts_of-requires-clause-table
-conflicts_of-requires-clause-table g c κs within =
+pub store_of-store-requires-clause-table : goal.store_of-store-requires-clause-table
+store_of-store-requires-clause-table g c =
     let m = c.args.remains.now in
-    let e = c.store_of-store.ensures in
     let o = c.in-Ok.ensures.ok in
-    on_store (λ C L v w. IsTable C (table_of C w.rows)) (sym e.catalog) (sym e.loss) (sym e.survivors) (sym e.walked)
-    (is_table m.catalog.now m.rules c.requires.read.0 m.first c.args.loss m.survivors.now c.requires.read.1 c.in-Ok.store.walked.rows o.walked.walk o.rows_sound c.requires.within)
-
-pub conflicts_of-requires-clause-fits : goal.conflicts_of-requires-clause-fits
-conflicts_of-requires-clause-fits g c κs within =
-    let m = c.args.remains.now in
-    let e = c.store_of-store.ensures in
-    let o = c.in-Ok.ensures.ok in
-    on_store (λ C L v w. Fits C (table_of C w.rows)) (sym e.catalog) (sym e.loss) (sym e.survivors) (sym e.walked)
-    (fits m.catalog.now m.rules c.requires.read.0 m.first c.args.loss m.survivors.now c.requires.read.1 c.in-Ok.store.walked.rows o.walked.walk o.rows_sound c.requires.within)
+    is_table m.catalog.now m.rules c.requires.read.0 m.first c.args.loss m.survivors.now c.requires.read.1 c.in-Ok.store.walked.rows o.walked.walk c.requires.within
 
 pub returns : goal.returns
 returns g c F read =
@@ -48,7 +37,7 @@ returns g c F read =
     record {
       catalog = e.catalog;
       table = subst (λ D. IsTable D (table_on store)) e.catalog
-          (on_store (λ C L v w. IsTable C (table_of C w.rows)) (sym e.catalog) (sym e.loss) (sym e.survivors) (sym e.walked) (is_table m.catalog.now cat F m.first c.args.loss m.survivors.now read rows o.walked.walk o.rows_sound c.requires.within));
+          (on_store (λ C L v w. IsTable C (table_of C w.rows)) (sym e.catalog) (sym e.loss) (sym e.survivors) (sym e.walked) (is_table m.catalog.now cat F m.first c.args.loss m.survivors.now read rows o.walked.walk c.requires.within));
       conflicts = subst (λ D. AreConflictsOf D F m.first (table_on store) c.in_ok-conflicts.conflicts) e.catalog
           (subst (λ L. AreConflictsOf store.catalog.now F L (table_on store) c.in_ok-conflicts.conflicts) e.loss (c.in_ok-conflicts.ensures F here));
       only = λ M U like held. only_table m.catalog.now cat F m.first c.args.loss m.survivors.now read rows o.walked.walk M U like held ∙ λ i. table_of (sym e.catalog i) ((sym e.walked) i).rows;

@@ -51,6 +51,6 @@ returns g c F read =
     let joins = c.in_ok-of_joins.ensures in
     are_conflicts C c.projection_count-rules.ensures.rules store.loss store.survivors.now (table_on store) c.in_ok-of_images.of_images.items c.in_ok-of_joins.of_joins.items
     c.as_slice-2.result.now segments images.count images.each c.as_slice-3.result.now all joins.count joins.each
-    F read c.requires.table c.requires.fits c.gather.result
+    F read store.table store.fits c.gather.result
     (λ L. subst (λ (xs : List (ℕ × Sites)). AreAllHit c.gather.result L ↔ (AreHit xs L × AreHit c.in_ok-of_joins.of_joins.items L)) c.as_slice-4.ensures.value
     (subst (λ (xs : List (ℕ × Sites)). AreAllHit c.gather.result L ↔ (AreHit c.as_slice-4.result.now L × AreHit xs L)) c.as_slice-5.ensures.value (c.gather.ensures L)))

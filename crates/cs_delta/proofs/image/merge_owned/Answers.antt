@@ -1,11 +1,9 @@
 use Rattle.std.proofs.Common.{◌≡◌, ◌≤◌, ℕ, List, map, length, ap, sym, subst, ◌∙◌, arith, refl, inl, inr}
-use Rattle.std.proofs.lemmas.List.{length-map}
 use Rattle.std.proofs.lemmas.Result.{err_from_is_err_and}
 use Rattle.cs_schema.specs.Values.{values, kind_of}
 use Rattle.cs_delta.specs.Image.{base_pairs}
 use Rattle.cs_segment.specs.SegmentData.{SegmentData}
 use Rattle.cs_segment.specs.SegmentView.{segment_data}
-use Rattle.cs_delta.specs.ItemView.{changes_of}
 use Rattle.cs_delta.specs.DeltaView.{delta_data}
 use Rattle.cs_delta.specs.Layers.{AreLayers, HaveLength, IsMadeBy}
 use Rattle.cs_delta.specs.DeltaFile.{DeltaData, CanMerge, HasVersion}
@@ -37,13 +35,13 @@ apply_layers-requires-clause-some c =
     let d = c.args.delta.now in
     let some = some_layers d.version (length d.layers) c.requires.delta.version in
     let layers = ap (λ (x : DeltaData). length x.layers) c.delta.view_is in
-    omega (arith, some, layers, length-map c.delta.inside.layers.items changes_of, ap length c.deref-3.ensures.value)
+    omega (arith, some, layers, ap length c.deref-3.ensures.value)
 
 pub apply_layers-requires-clause-layers : goal.apply_layers-requires-clause-layers
 apply_layers-requires-clause-layers c =
     let req = may (segment_data c.segment.inside) c.args.segment (delta_data c.delta.inside) c.args.delta.now c.segment.view_is c.delta.view_is (may_merge c.args.segment c.args.delta.now c.requires) in
     let same : c.segment.inside.rows ≡ c.delta.inside.rows = omega arith in
-    let N : List ℕ → Type 0 = λ n. AreLayers (map kind_of c.segment.inside.columns.items) n (map changes_of c.delta.inside.layers.items) in
+    let N : List ℕ → Type 0 = λ n. AreLayers (map kind_of c.segment.inside.columns.items) n c.delta.inside.layers.items in
     rw (c.deref-2.ensures.value, c.deref-3.ensures.value) (subst N (sym (c.in_ok-keys.ensures ∙ ap base_keys same)) req.layers)
 
 pub apply_layers-requires-clause-lengths : goal.apply_layers-requires-clause-lengths
@@ -86,11 +84,11 @@ module _ (c : goal.After-first) where
   req : MayMerge (segment_data c.segment.inside) (delta_data c.delta.inside)
   req = may (segment_data c.segment.inside) c.args.segment (delta_data c.delta.inside) c.args.delta.now c.segment.view_is c.delta.view_is (may_merge c.args.segment c.args.delta.now c.requires)
 
-  made : IsMadeBy (base_keys c.segment.inside.rows) (map values c.segment.inside.columns.items) (map changes_of c.delta.inside.layers.items) (base_keys c.segment.inside.rows) (map values c.segment.inside.columns.items)
+  made : IsMadeBy (base_keys c.segment.inside.rows) (map values c.segment.inside.columns.items) c.delta.inside.layers.items (base_keys c.segment.inside.rows) (map values c.segment.inside.columns.items)
   made =
       let few : length (base_keys c.segment.inside.rows) ≤ 1048576 = omega (arith, (req).count, length-base_keys c.segment.inside.rows) in
       let none = rw c.deref.ensures.value at (c.say_nothing.ensures c.if-say_nothing.true) in
-      made_of_nothing (base_keys c.segment.inside.rows) (map values c.segment.inside.columns.items) (map changes_of c.delta.inside.layers.items) few none
+      made_of_nothing (base_keys c.segment.inside.rows) (map values c.segment.inside.columns.items) c.delta.inside.layers.items few none
 
 pub invariant_of-result : goal.invariant_of-result
 invariant_of-result c =
@@ -103,7 +101,7 @@ returns-then-say_nothing-clause-merged c =
     let y = delta_data c.delta.inside in
     let kinds = map kind_of c.segment.inside.columns.items in
     let columns = map values c.segment.inside.columns.items in
-    let M : List ℕ → Type 0 = λ keys. IsMadeBy (base_keys c.segment.inside.rows) columns (map changes_of c.delta.inside.layers.items) keys columns in
+    let M : List ℕ → Type 0 = λ keys. IsMadeBy (base_keys c.segment.inside.rows) columns c.delta.inside.layers.items keys columns in
     merged_is x.base y x.kinds kinds c.first.result columns c.delta.inside.top (req c).lengths (subst M (sym c.first.ensures) (made c)) refl refl
     ∙ ap (λ (s : SegmentData). merged_image s y) c.segment.view_is ∙ ap (λ (d : DeltaData). merged_image c.args.segment d) c.delta.view_is
 

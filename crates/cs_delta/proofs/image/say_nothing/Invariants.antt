@@ -1,7 +1,6 @@
-use Rattle.std.proofs.Common.{◌≡◌, [], map, take}
+use Rattle.std.proofs.Common.{◌≡◌, [], take}
 use Rattle.std.specs.Prelude.{All}
-use Rattle.cs_delta.specs.ItemView.{changes_of}
 use Rattle.cs_delta.proofs.image.say_nothing.Given as goal
 
 abbrev pub invariant-loop-layer : goal.invariant-loop-layer
-invariant-loop-layer l = All (λ layer. layer ≡ []) (map changes_of (take l.layer-index l.layers))
+invariant-loop-layer l = All (λ layer. layer ≡ []) (take l.layer-index l.layers)

@@ -7,9 +7,9 @@ use Rattle.cs_delta.proofs.item_list.are_in_order.Goals as goal
 pub returns-then-not-follows : goal.returns-then-not-follows
 returns-then-not-follows c = (
   λ t. absurd (false≢true t),
-  λ h. absurd (out_of_order change_of c.args.items.now c.loop-i.i c.index-items-i.result c.index-items-i-in-loop-i.result (omega arith) (omega arith) c.index-items-i.is c.index-items-i-in-loop-i.is (sym c.follows.ensures ∙ c.if-not-follows.true) h),
+  λ h. absurd (out_of_order c.args.layer.now c.loop-i.i (change_of c.item.result) (change_of c.item-in-loop-i.result) (omega arith) c.item.ensures c.item-in-loop-i.ensures (sym c.follows.ensures ∙ c.if-not-follows.true) h),
 )
 
 pub loop-i-preserved : goal.loop-i-preserved
 loop-i-preserved c =
-    order_more change_of c.args.items.now c.loop-i.i c.index-items-i.result c.index-items-i-in-loop-i.result (omega arith) (omega arith) c.index-items-i.is c.index-items-i-in-loop-i.is (sym c.follows.ensures ∙ c.if-not-follows.false) c.loop-i.invariant
+    order_more c.args.layer.now c.loop-i.i (change_of c.item.result) (change_of c.item-in-loop-i.result) (omega arith) c.item.ensures c.item-in-loop-i.ensures (sym c.follows.ensures ∙ c.if-not-follows.false) c.loop-i.invariant

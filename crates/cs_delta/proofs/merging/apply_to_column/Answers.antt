@@ -1,12 +1,11 @@
-use Rattle.std.proofs.Common.{◌≡◌, ◌-◌, take, drop, pos, List, [], ◌∷◌, ◌++◌, ap, subst, ◌∙◌, cond, Some, None, Bool, eq-eqb}
+use Rattle.std.proofs.Common.{◌-◌, take, drop, pos, List, [], ◌∷◌, ◌++◌, ap, subst, ◌∙◌, cond, Some, None, Bool, eq-eqb}
 use Rattle.std.specs.List.{cons_option}
-use Rattle.std.proofs.lemmas.List.{get_or_read}
 use Rattle.cs_schema.specs.declared.cells.Value.{Value}
-use Rattle.cs_schema.specs.Values.{values, kind_of}
+use Rattle.cs_schema.specs.Values.{values}
 use Rattle.cs_schema.specs.Rows.{cell}
 use Rattle.cs_delta.specs.declared.item.Item.{Item}
 use Rattle.cs_delta.specs.Edits.{Edit}
-use Rattle.cs_delta.specs.ItemView.{change_of, cell_edits, HasKind}
+use Rattle.cs_delta.specs.ItemView.{change_of, cell_edits}
 use Rattle.cs_delta.specs.MergeSteps.{Makes}
 use Rattle.cs_delta.proofs.MakeSteps.{put_makes, cut_makes, change_makes}
 use Rattle.cs_delta.proofs.merging.apply_to_column.Goals as goal
@@ -14,12 +13,9 @@ use Rattle.cs_delta.proofs.merging.apply_to_column.Goals as goal
 pub returns-in_ok-push-in-Insert-clause-steps : goal.returns-in_ok-push-in-Insert-clause-steps
 returns-in_ok-push-in-Insert-clause-steps c = λ rest target m.
     let P : Item → Type 0 = λ i. Makes (values c.args.base.now) target (values c.args.out.now) c.args.done (cell_edits c.args.j (change_of i ∷ rest)) in
-    let Q : Item → Type 0 = λ i. HasKind (kind_of c.args.base.now) c.args.j (change_of i) in
-    let fits = subst Q c.in-Insert.is c.requires.fits in
-    let read : c.index.result.now ≡ cell c.in-Insert.row.items c.args.j = get_or_read c.in-Insert.row.items c.args.j c.index.result.now fits.0 c.index.ensures (Value.Int (pos 0)) in
-    put_makes (values c.args.base.now) target (values c.args.out.now) (values c.push.new.out) c.args.done c.in-Insert.at (cell c.in-Insert.row.items c.args.j) (cell_edits c.args.j rest)
+    put_makes (values c.args.base.now) target (values c.args.out.now) (values c.push.new.out) c.args.done c.in-Insert.at (cell c.in-Insert.row c.args.j) (cell_edits c.args.j rest)
     (subst P c.in-Insert.is m)
-    (c.in_ok-push-in-Insert.ensures.values ∙ ap (λ (a : List Value). a ++ c.index.result.now ∷ []) c.in_ok-extend-in-Insert.ensures.values ∙ ap (λ (v : Value). (values c.args.out.now ++ take (c.in-Insert.at - c.args.done) (drop c.args.done (values c.args.base.now))) ++ v ∷ []) read)
+    (c.in_ok-push-in-Insert.ensures.values ∙ ap (λ (a : List Value). a ++ c.cell.result ∷ []) c.in_ok-extend-in-Insert.ensures.values ∙ ap (λ (v : Value). (values c.args.out.now ++ take (c.in-Insert.at - c.args.done) (drop c.args.done (values c.args.base.now))) ++ v ∷ []) c.cell.ensures)
 
 pub returns-in_ok-extend-in-Delete-clause-steps : goal.returns-in_ok-extend-in-Delete-clause-steps
 returns-in_ok-extend-in-Delete-clause-steps c = λ rest target m.

@@ -3,7 +3,6 @@ use Rattle.std.specs.List.{concat, filter_map, flat_map, IsDistinct}
 use Rattle.std.proofs.lemmas.Bool.{false≢true}
 use Rattle.std.proofs.lemmas.Result.{err_from_is_err_and}
 use Rattle.cs_delta.specs.Image.{Change}
-use Rattle.cs_delta.specs.ItemView.{changes_of}
 use Rattle.cs_delta.specs.DeltaFile.{inserted_key, layer_text}
 use Rattle.cs_delta.proofs.HeadTexts.{file_head, file_layers, file_found, read_is, one_layers}
 use Rattle.cs_delta.proofs.reading.read_delta.Goals as goal
@@ -25,7 +24,7 @@ returns-then-not-are_distinct-clause-refused c = λ damaged d file.
     let head = c.in-Some-read_head.head in
     let C = c.args.catalog.now in
     let parts = c.in-Some-read_head.parts.now in
-    let ls = map changes_of c.in_ok-layers.layers.items in
+    let ls = c.in_ok-layers.layers.items in
     let found = c.in-Some-read_head.ensures.found in
     let same = one_layers C c.args.p head.rows head.top head.layers parts ls d.layers found.top_limit c.in_ok-layers.ensures.found
     (file_layers C c.args.p c.args.s c.args.bytes.now c.in-Some.body.now parts head.version head.layers head.rows head.top d c.in-Some.ensures.found found file) in
@@ -36,7 +35,7 @@ returns-then-not-are_distinct-clause-refused c = λ damaged d file.
 pub returns-clause-found : goal.returns-clause-found
 returns-clause-found c =
     let head = c.in-Some-read_head.head in
-    let ls : List (List Change) = map changes_of c.in_ok-layers.layers.items in
+    let ls : List (List Change) = c.in_ok-layers.layers.items in
     let keys = rw c.deref.ensures.value at c.in_ok-keys.ensures in
     let Q : List ℕ → Type 0 = λ x. IsDistinct ◌==◌ x in
     file_found c.args.catalog.now c.args.p c.args.s c.args.bytes.now c.in-Some.body.now c.in-Some-read_head.parts.now
@@ -46,6 +45,6 @@ returns-clause-found c =
 pub returns-clause-only : goal.returns-clause-only
 returns-clause-only c = λ d file.
     let head = c.in-Some-read_head.head in
-    let ls : List (List Change) = map changes_of c.in_ok-layers.layers.items in
+    let ls : List (List Change) = c.in_ok-layers.layers.items in
     read_is c.args.catalog.now c.args.p c.args.s c.args.bytes.now c.in-Some.body.now c.in-Some-read_head.parts.now
     (record { p = c.args.p; s = c.args.s; version = head.version; rows = head.rows; top = head.top; layers = ls }) d head.layers c.in-Some.ensures.found refl refl c.in-Some-read_head.ensures.found c.in_ok-layers.ensures.found file

@@ -1,23 +1,17 @@
-use Rattle.std.proofs.Common.{◌≤◌, length, subst, sym, ◌∙◌}
+use Rattle.std.proofs.Common.{subst}
+use Rattle.std.specs.Prelude.{IfOk, IfErr}
 use Rattle.cs_store.specs.FileSet.{contents_of}
-use Rattle.cs_schema.specs.Lists.{IsIn}
-use Rattle.cs_recovery.proofs.Exact.{survivors_survive}
-use Rattle.cs_rebuild.proofs.Segments.{least_bad}
-use Rattle.cs_rebuild.proofs.Verdicts.{memory_or, bad_file}
+use Rattle.cs_store.specs.Fault.{MemoryOr}
+use Rattle.cs_rebuild.specs.Steps.{AreRead, IsBadFile}
+use Rattle.cs_rebuild.proofs.Sealing.{read_as_is}
+use Rattle.cs_rebuild.proofs.Verdicts.{memory_or, on_error, bad_file}
 use Rattle.cs_rebuild.proofs.reading.read_store.Goals as goal
 
-pub invariant_of-work : goal.invariant_of-work
-invariant_of-work g c =
-    let w = c.args.surviving.now in
-    let are = c.as_slice.ensures.value ∙ w.are in
-    record { rules = w.rules; few = subst (λ l. length l ≤ 128) (sym c.as_slice.ensures.value) w.few; exist = λ a i. (survivors_survive w.catalog.now w.loss a (subst (IsIn a) are i)).0 }
+pub returns-clause-ok : goal.returns-clause-ok
+returns-clause-ok g c = subst (λ F. IfOk c.read_segments.result (AreRead c.args.catalog.now F c.args.loss)) (read_as_is (contents_of c.args.files.now)) c.read_segments.ensures.ok
 
-pub returns-in-Err-clause-bad : goal.returns-in-Err-clause-bad
-returns-in-Err-clause-bad g c =
-    let w = c.args.surviving.now in
-    memory_or _ c.in-Err.ensures.err (least_bad w.catalog.now (contents_of c.args.files.now) w.loss c.as_slice.result.now (c.as_slice.ensures.value ∙ w.are) (length c.as_slice.result.now) c.in-Err.fault)
+pub returns-clause-bad : goal.returns-clause-bad
+returns-clause-bad g c = subst (λ F. IfErr c.read_segments.result (λ fault. MemoryOr fault (IsBadFile c.args.catalog.now F c.args.loss fault))) (read_as_is (contents_of c.args.files.now)) c.read_segments.ensures.bad
 
-pub returns-in-Err-clause-err : goal.returns-in-Err-clause-err
-returns-in-Err-clause-err g c =
-    let w = c.args.surviving.now in
-    memory_or _ (returns-in-Err-clause-bad g c) (bad_file w.catalog.now (contents_of c.args.files.now) w.loss _)
+pub returns-clause-err : goal.returns-clause-err
+returns-clause-err g c = on_error c.read_segments.result _ _ (returns-clause-bad g c) (λ fault h. memory_or fault h (bad_file c.args.catalog.now (contents_of c.args.files.now) c.args.loss fault))

@@ -1,5 +1,6 @@
 use Rattle.std.proofs.Common.{sym, subst}
 use Rattle.cs_rebuild.specs.Steps.{AreOrdered, IsUnordered}
+use Rattle.cs_rebuild.proofs.SoundFacts.{walked_table}
 use Rattle.cs_rebuild.proofs.Verdicts.{memory_or}
 use Rattle.cs_rebuild.proofs.verifying.order_store.Goals as goal
 
@@ -8,6 +9,9 @@ returns-in-Err-clause-err g c = memory_or _ c.in-Err.ensures.err IsUnordered.ast
 
 pub returns-clause-err : goal.returns-clause-err
 returns-clause-err g c = memory_or _ c.in-Err-orders_of.ensures.err (IsUnordered.refused c.in-Ok.walked.rows c.in-Ok.ensures.ok.walk)
+
+pub store_of-requires-clause-table : goal.store_of-requires-clause-table
+store_of-requires-clause-table g c = walked_table c.args.catalog.now c.projection_count-rules.ensures.rules c.requires.read.0 c.args.loss c.args.survivors.now c.requires.read.1.reads c.in-Ok.walked.rows c.in-Ok.ensures.ok.walk
 
 pub returns-in-Ok-orders_of-clause-ok : goal.returns-in-Ok-orders_of-clause-ok
 returns-in-Ok-orders_of-clause-ok g c =

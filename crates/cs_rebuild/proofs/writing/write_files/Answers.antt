@@ -1,11 +1,13 @@
-use Rattle.std.proofs.Common.{◌≡◌, Some, map, arith}
+use Rattle.std.proofs.Common.{◌≡◌, ◌++◌, All, Some, map, sym, ap, subst, ◌∙◌, arith}
+use Rattle.std.proofs.lemmas.List.{map-append}
+use Rattle.std.proofs.lemmas.List.Elements.{All-append}
 use Rattle.cs_rows.specs.Survivors.{contents_of as held_by}
 use Rattle.cs_order.specs.Tables.{table_of}
 use Rattle.cs_recovery.specs.Expected.{written}
-use Rattle.cs_rebuild.specs.Unwritten.{name_of}
+use Rattle.cs_rebuild.specs.LostFiles.{lost_names, join_name, affected_joins}
 use Rattle.cs_rebuild.proofs.Keeping.{no_rest}
 use Rattle.cs_rebuild.proofs.WrittenFiles.{one_put}
-use Rattle.cs_rebuild.proofs.UnwrittenFiles.{all_left, last_taken, one_less_left, none_left}
+use Rattle.cs_rebuild.proofs.ListedFiles.{all_left, all_names, last_taken, one_less_left, none_left}
 use Rattle.cs_rebuild.proofs.writing.write_files.Goals as goal
 
 pub loop-name-init : goal.loop-name-init
@@ -13,9 +15,11 @@ loop-name-init g c =
     let x = c.args.store.now in
     let C = x.catalog.now in
     let all = written C x.loss (held_by x.survivors.now) (table_of C x.walked.rows) in
+    let joined = c.in_ok-append.ensures.items in
+    let names = ap (map (λ file. file.0)) joined ∙ map-append (λ file. file.0) c.args.lost.items c.in_ok-joins.joins.items ∙ ap (λ l. l ++ map (λ file. file.0) c.in_ok-joins.joins.items) c.requires.names ∙ ap (λ l. lost_names C x.loss ++ l) c.in_ok-joins.ensures.names in
     record {
-      texts = c.in_ok-made.ensures.texts;
-      left = all_left (λ file. file.0) all (map name_of c.in_ok-unwritten.unwritten.items) c.in_ok-made.made.items c.in_ok-files.files c.in_ok-files.ensures c.in_ok-made.ensures.names c.in_ok-unwritten.ensures.all;
+      texts = subst (All (λ file. all file.0 ≡ Some file.1.items)) (sym joined) (All-append (λ file. all file.0 ≡ Some file.1.items) c.args.lost.items c.in_ok-joins.joins.items c.requires.texts c.in_ok-joins.ensures.texts);
+      left = all_left (λ file. file.0) all (lost_names C x.loss ++ map join_name (affected_joins C x.loss)) c.append.new.self.items c.in_ok-files.files c.in_ok-files.ensures names (all_names C x.loss c.projection_count-rules.ensures.rules (held_by x.survivors.now) (table_of C x.walked.rows));
     }
 
 pub loop-name-preserved : goal.loop-name-preserved

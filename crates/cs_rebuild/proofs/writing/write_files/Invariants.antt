@@ -2,7 +2,7 @@ use Rattle.std.proofs.Common.{◌≡◌, All, Some, length}
 use Rattle.cs_rows.specs.Survivors.{contents_of as held_by}
 use Rattle.cs_order.specs.Tables.{table_of}
 use Rattle.cs_recovery.specs.Expected.{written}
-use Rattle.cs_rebuild.proofs.UnwrittenFiles.{IsLeftOrWritten}
+use Rattle.cs_rebuild.proofs.ListedFiles.{IsLeftOrWritten}
 use Rattle.cs_rebuild.proofs.writing.write_files.Given as goal
 
 -- each name is that of a file that is left to put, or written

@@ -4,15 +4,15 @@ use Rattle.cs_piece.specs.Columns.{CanEncode}
 use Rattle.cs_piece.specs.Pieces.{IsPieceOf}
 use Rattle.cs_rebuild.specs.Encoding.{values_at, cut_at, EncodeAnswerAt}
 use Rattle.cs_rebuild.proofs.Encodings.{front_fits, first_cut, one_more, all_cuts}
-use Rattle.cs_rebuild.proofs.Rests.{left_but_one, piece_taken, piece_below}
+use Rattle.cs_rebuild.proofs.JoinedColumns.{next_piece}
+use Rattle.cs_rebuild.proofs.Rests.{left_but_one}
 use Rattle.cs_rebuild.proofs.encoding.EncodeWork.join_column.Goals as goal
 
 pub take_last-column-requires : goal.take_last-column-requires
 take_last-column-requires c =
     let w = c.args.self.now in
-    let next = c.requires.next in
-    let below = piece_below next.0 0 w.per _ w.pieces w.pieces_are next.1 (omega (arith, w.some)) in
-    omega (arith, below, next.2)
+    let whole = c.requires.column.count in
+    omega (arith, w.some, whole)
 
 pub loop-init : goal.loop-init
 loop-init c =
@@ -23,37 +23,33 @@ loop-init c =
     let long = ap length taken.ensures ∙ length-append taken.new.rest.items (taken.result ∷ []) in
     record {
       left = omega (arith, long);
-      rest = left_but_one (EncodeAnswerAt C w.p rows w.numbers.now w.cut) w.pieces c.args.rest.now.items taken.new.rest.items taken.result taken.ensures c.requires.rest;
-      column = λ j e.
-          let piece = piece_taken C w.p rows w.numbers.now w.cut w.per w.pieces j 0 (length c.args.rest.now.items) c.args.rest.now.items taken.new.rest.items taken.result w.per_is (omega (arith, w.some)) e (omega arith) taken.ensures c.requires.rest in
+      rest = λ j here. left_but_one (EncodeAnswerAt C w.p rows w.numbers.now w.cut) ((j + 1) * w.per) c.args.pieces.now.items taken.new.rest.items taken.result taken.ensures here.each;
+      column = λ j here.
+          let piece = next_piece w j 0 c.args.pieces.now.items c.args.pieces.now.items taken.new.rest.items taken.result (omega (arith, w.some)) (omega arith) taken.ensures here here.each in
           subst (IsPieceOf c.reserve.new.self (code_at C w.p j) (kind_at C w.p j)) (first_cut C w.p rows j w.numbers.now w.cut)
           (c.reserve.ensures (code_at C w.p j) (kind_at C w.p j) (values_at C w.p rows j (cut_at w.cut w.numbers.now 0)) piece);
     }
 
 pub take_last-piece-requires : goal.take_last-piece-requires
 take_last-piece-requires c =
-    let w = c.args.self.now in
-    let next = c.requires.next in
-    let below = piece_below next.0 c.loop.counter w.per _ w.pieces w.pieces_are next.1 c.loop-test.true in
-    omega (arith, below, next.2, c.loop.invariant.left)
+    let whole = c.requires.column.count in
+    omega (arith, whole, c.loop-test.true, c.loop.invariant.left)
 
 pub join_pieces-requires : goal.join_pieces-requires
 join_pieces-requires c =
     let w = c.args.self.now in
     let C = w.store.now.catalog.now in
     let rows = w.store.now.walked.rows in
-    let j = c.requires.next.0 in
+    let j = c.requires.number in
     let k = c.loop.counter in
-    let i = c.loop.invariant in
-    let taken = c.take_last-piece in
     record {
       code = code_at C w.p j;
       kind = kind_at C w.p j;
       front = values_at C w.p rows j (take (k * w.cut) w.numbers.now);
       back = values_at C w.p rows j (cut_at w.cut w.numbers.now k);
-      left_is = i.column j c.requires.next.2;
-      right_is = piece_taken C w.p rows w.numbers.now w.cut w.per w.pieces j k (length c.args.rest.now.items) c.loop.rest.items taken.new.rest.items taken.result w.per_is c.loop-test.true c.requires.next.2 i.left taken.ensures i.rest;
-      fits = subst (CanEncode (code_at C w.p j) (kind_at C w.p j)) (sym (one_more C w.p rows j w.numbers.now w.cut k)) (front_fits C w.p rows j w.numbers.now (w.rises j c.requires.next.1) w.few ((k + 1) * w.cut));
+      left_is = c.loop.invariant.column j c.requires.column;
+      right_is = next_piece w j k c.args.pieces.now.items c.loop.pieces.items c.take_last-piece.new.rest.items c.take_last-piece.result c.loop-test.true c.loop.invariant.left c.take_last-piece.ensures c.requires.column (c.loop.invariant.rest j c.requires.column);
+      fits = subst (CanEncode (code_at C w.p j) (kind_at C w.p j)) (sym (one_more C w.p rows j w.numbers.now w.cut k)) (front_fits C w.p rows j w.numbers.now (w.rises j c.requires.below) w.few ((k + 1) * w.cut));
     }
 
 pub loop-preserved : goal.loop-preserved
@@ -67,17 +63,17 @@ loop-preserved c =
     let long = ap length taken.ensures ∙ length-append taken.new.rest.items (taken.result ∷ []) in
     record {
       left = omega (arith, long, i.left);
-      rest = left_but_one (EncodeAnswerAt C w.p rows w.numbers.now w.cut) w.pieces c.loop.rest.items taken.new.rest.items taken.result taken.ensures i.rest;
-      column = λ j e.
-          let piece = piece_taken C w.p rows w.numbers.now w.cut w.per w.pieces j k (length c.args.rest.now.items) c.loop.rest.items taken.new.rest.items taken.result w.per_is c.loop-test.true e i.left taken.ensures i.rest in
+      rest = λ j here. left_but_one (EncodeAnswerAt C w.p rows w.numbers.now w.cut) ((j + 1) * w.per) c.loop.pieces.items taken.new.rest.items taken.result taken.ensures (i.rest j here);
+      column = λ j here.
           subst (IsPieceOf c.in_ok-column.column (code_at C w.p j) (kind_at C w.p j)) (one_more C w.p rows j w.numbers.now w.cut k)
-          (c.in_ok-column.ensures (code_at C w.p j) (kind_at C w.p j) (values_at C w.p rows j (take (k * w.cut) w.numbers.now)) (values_at C w.p rows j (cut_at w.cut w.numbers.now k)) (i.column j e) piece);
+          (c.in_ok-column.ensures (code_at C w.p j) (kind_at C w.p j) (values_at C w.p rows j (take (k * w.cut) w.numbers.now)) (values_at C w.p rows j (cut_at w.cut w.numbers.now k)) (i.column j here)
+          (next_piece w j k c.args.pieces.now.items c.loop.pieces.items taken.new.rest.items taken.result c.loop-test.true i.left taken.ensures here (i.rest j here)));
     }
 
-pub returns-clause-column : goal.returns-clause-column
-returns-clause-column c =
+pub returns : goal.returns
+returns c =
     let w = c.args.self.now in
     let C = w.store.now.catalog.now in
     let rows = w.store.now.walked.rows in
-    λ j e.
-    subst (IsPieceOf c.loop.column (code_at C w.p j) (kind_at C w.p j)) (all_cuts C w.p rows j w.numbers.now w.cut w.per c.loop.counter w.cut_range.0 w.per_is (omega (arith, c.loop-test.false))) (c.loop.invariant.column j e)
+    λ j here.
+    subst (IsPieceOf c.loop.column (code_at C w.p j) (kind_at C w.p j)) (all_cuts C w.p rows j w.numbers.now w.cut w.per c.loop.counter w.cut_range.0 w.per_is (omega (arith, c.loop-test.false))) (c.loop.invariant.column j here)

@@ -3,8 +3,8 @@ use Rattle.cs_schema.proofs.Lists.{in_at}
 use Rattle.cs_rebuild.proofs.Verdicts.{memory_or}
 use Rattle.cs_rebuild.proofs.reading.FilesWorkTasks.task.Goals as goal
 
-pub read_files-requires : goal.read_files-requires
-read_files-requires g c = c.args.self.now.exist _ (in_at c.args.self.now.segments.now c.args.i _ (slice_get-get_or c.args.self.now.segments.now c.args.i (0, 0) c.requires))
+pub invariant_of-source : goal.invariant_of-source
+invariant_of-source g c = record { exists = c.args.self.now.exist _ (in_at c.args.self.now.segments.now c.args.i _ (slice_get-get_or c.args.self.now.segments.now c.args.i (0, 0) c.requires)) }
 
 pub returns-in-Ok-clause-ok : goal.returns-in-Ok-clause-ok
 returns-in-Ok-clause-ok g c =

@@ -1,0 +1,94 @@
+//! All columns with the items of a layer applied.
+ghost use Rattle.std.specs.Prelude.{◌≡◌, ◌≤◌, ◌<◌, ℕ, List, map, length, IfOk};
+ghost use Rattle.cs_schema.specs.Values.{values, kind_of};
+ghost use Rattle.cs_delta.specs.Image.{Pair};
+ghost use Rattle.cs_delta.specs.Edits.{edited_from};
+ghost use Rattle.cs_delta.specs.ItemView.{key_edits};
+ghost use Rattle.cs_delta.specs.Layers.{IsLayerOf, edited_columns, AreLayers, ArePairs, IsMadeBy, HaveLength, key_of};
+ghost use Rattle.cs_delta.specs.DeltaFile.{AllFit};
+
+use crate::layer::Layer;
+use crate::merging::{merge_column, merge_keys};
+use cs_schema::Cells;
+use cs_segment::fault::FileFault;
+use std::alloc::Global;
+use std::mem::replace;
+
+/// The keys of rows, and their cells by columns.
+#[derive(Drop)]
+pub struct Rows {
+    pub keys: Vec<u32>,
+    pub columns: Vec<Cells>,
+}
+
+/// The most rows of an image.
+const ROW_LIMIT: usize = 1_048_576;
+
+/// The rows with the items of a layer applied, in the room of spent columns. A column is spent as soon as it is merged: so
+/// the next one of its kind is made in its room.
+pub fn apply_layer(
+    alloc: Global,
+    spent: &mut Vec<Cells>,
+    keys: &[u32],
+    columns: Vec<Cells>,
+    layer: &Layer,
+) -> Result<Rows, FileFault>
+    requires layer { IsLayerOf (map kind_of columns.items) (length keys.now) layer.now }
+    requires lengths { HaveLength (length keys.now) (map values columns.items) }
+    ensures keys { IfOk result (λ rows. rows.keys.items ≡ edited_from (key_edits layer.now) 0 keys.now) }
+    ensures columns { IfOk result (λ rows. map values rows.columns.items ≡ edited_columns layer.now 0 (map values columns.items)) }
+    ensures kinds { IfOk result (λ rows. map kind_of rows.columns.items ≡ map kind_of columns.items) }
+    ensures few { IfOk result (λ rows. length rows.keys.items ≤ 1048576) }
+    ensures many { result ≡ Err FileFault.Damaged → 1048576 < length (edited_from (key_edits layer.now) 0 keys.now) }
+{
+    let merged_keys = merge_keys(alloc, keys, layer)?;
+    if merged_keys.len() > ROW_LIMIT {
+        return Err(FileFault::Damaged);
+    }
+    let rows = merged_keys.len();
+    let mut merged = Vec::new(alloc);
+    let mut columns = columns;
+    for j in 0..columns.len() {
+        // they are few: so it takes no time that those behind move up
+        let column = columns.remove(0);
+        merged.push(merge_column(alloc, spent, rows, &column, layer, j)?)?;
+        spent.push(column)?;
+    }
+    Ok(Rows {
+        keys: merged_keys,
+        columns: merged,
+    })
+}
+
+/// The rows with the items of layers applied, the lowest first. A layer above the lowest that has no items makes no
+/// columns anew.
+pub fn apply_layers(
+    alloc: Global,
+    keys: &[u32],
+    columns: Vec<Cells>,
+    layers: &[Layer],
+) -> Result<Rows, FileFault>
+    requires some { 1 ≤ length layers.now }
+    requires layers { AreLayers (map kind_of columns.items) keys.now layers.now }
+    requires lengths { HaveLength (length keys.now) (map values columns.items) }
+    ensures made { IfOk result (λ made. IsMadeBy keys.now (map values columns.items) layers.now made.keys.items (map values made.columns.items)) }
+    ensures few { IfOk result (λ made. length made.keys.items ≤ 1048576) }
+    ensures lengths { IfOk result (λ made. HaveLength (length made.keys.items) (map values made.columns.items)) }
+    ensures kinds { IfOk result (λ made. map kind_of made.columns.items ≡ map kind_of columns.items) }
+    ensures many { result ≡ Err FileFault.Damaged → (xs : List Pair) → map key_of xs ≡ keys.now → AllFit layers.now xs → ⊥ }
+{
+    let Some((lowest, above)) = layers.split_first() else {
+        unreachable!()
+    };
+    let mut spent = Vec::new(alloc);
+    let mut made = apply_layer(alloc, &mut spent, keys, columns, lowest)?;
+    for layer in above {
+        if !layer.is_empty() {
+            let keys_below = made.keys.as_slice();
+            let columns_below = replace(&mut made.columns, Vec::new(alloc));
+            let next = apply_layer(alloc, &mut spent, keys_below, columns_below, layer)?;
+            made = next;
+        }
+    }
+    Ok(made)
+}

@@ -1,0 +1,10 @@
+use Rattle.std.proofs.Common.{false}
+use Rattle.cs_store.specs.FileSet.{contents_of}
+use Rattle.cs_rebuild.specs.Reading.{as_read}
+use Rattle.cs_rebuild.proofs.counting.count_texts.Goals as goal
+
+pub count_read-requires-clause-read : goal.count_read-requires-clause-read
+count_read-requires-clause-read g c κs within = (as_read false (contents_of c.args.files.now), (c.read_texts-read.ensures.ok, c.read_texts-read.ensures.err))
+
+pub returns : goal.returns
+returns g c = c.count_read.ensures (as_read false (contents_of c.args.files.now)) (c.read_texts-read.ensures.ok, c.read_texts-read.ensures.err)

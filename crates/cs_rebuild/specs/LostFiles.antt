@@ -1,0 +1,85 @@
+-- The files that a loss leaves to be written: those of the lost segments and their deltas, and the join indexes that it affects.
+use Rattle.std.specs.Prelude.{◌≡◌, ℕ, ◌<◌, List, [], ◌∷◌, length, true, cond, Some}
+use Rattle.std.specs.List.{flat_map}
+use Rattle.cs_schema.specs.declared.file_name.FileName.{FileName}
+use Rattle.cs_schema.specs.CatalogData.{CatalogData, HasSegment, segments}
+use Rattle.cs_schema.specs.Lists.{numbers_below}
+use Rattle.cs_schema.specs.Losses.{Sites, lost}
+use Rattle.cs_recovery.specs.Expected.{is_affected}
+use Rattle.cs_rebuild.specs.Encoding.{ArePiecesOn}
+use Rattle.cs_rebuild.specs.OnStore.{written_on}
+use Rattle.cs_rebuild.specs.declared.lost_files.LostFile.{LostFile}
+use Rattle.cs_rebuild.specs.declared.ordered_store.OrderedStore.{OrderedStore}
+
+-- ---- the lost segments and their deltas
+
+abbrev pub name_of : LostFile → FileName
+name_of (LostFile.Segment p s pieces) = FileName.Seg p s
+name_of (LostFile.Delta p s) = FileName.Del p s
+
+-- the names of a segment and its delta, where it is lost
+abbrev pub base_names : CatalogData → Sites → ℕ → ℕ → List FileName
+base_names C L p s = cond (lost C L p s) (FileName.Seg p s ∷ FileName.Del p s ∷ []) []
+
+-- those of the first n segments of a projection
+abbrev pub names_in : CatalogData → Sites → ℕ → ℕ → List FileName
+names_in C L p n = flat_map (base_names C L p) (numbers_below n)
+
+-- those of the first n projections
+abbrev pub names_below : CatalogData → Sites → ℕ → List FileName
+names_below C L n = flat_map (λ p. names_in C L p (segments C p)) (numbers_below n)
+
+-- those of all lost segments
+abbrev pub lost_names : CatalogData → Sites → List FileName
+lost_names C L = names_below C L (length C.projections)
+
+-- a segment that is lost
+pub record IsLostSegment (C : CatalogData) (L : Sites) (p s : ℕ) : Type 0 where
+  pub segment : HasSegment C p s
+  pub is_lost : lost C L p s ≡ true
+
+abbrev pub IsMadeFrom : OrderedStore → ℕ → LostFile → Type 0
+IsMadeFrom g cut (LostFile.Segment p s pieces) = IsLostSegment g.catalog.now g.loss p s × ArePiecesOn g p s cut pieces.items
+IsMadeFrom g cut (LostFile.Delta p s) = IsLostSegment g.catalog.now g.loss p s
+
+-- the file has to be written, and this is what it is made from, cut into pieces of so many rows
+pub record IsToWrite (g : OrderedStore) (cut : ℕ) (file : LostFile) : Type 0 where
+  pub from : IsMadeFrom g cut file
+
+-- ---- the join indexes that the loss affects
+
+abbrev pub join_name : ℕ × ℕ × ℕ → FileName
+join_name a = FileName.Jix a.0 a.1 a.2
+
+-- a join index, where the loss affects it
+abbrev pub if_affected : CatalogData → Sites → ℕ → ℕ → ℕ → List (ℕ × ℕ × ℕ)
+if_affected C L p s q = cond (is_affected C L p s q) ((p, s, q) ∷ []) []
+
+-- those of a segment to the first n projections
+abbrev pub joins_at : CatalogData → Sites → ℕ → ℕ → ℕ → List (ℕ × ℕ × ℕ)
+joins_at C L p s n = flat_map (if_affected C L p s) (numbers_below n)
+
+-- those of the first n segments of a projection
+abbrev pub joins_in : CatalogData → Sites → ℕ → ℕ → List (ℕ × ℕ × ℕ)
+joins_in C L p n = flat_map (λ s. joins_at C L p s (length C.projections)) (numbers_below n)
+
+-- those of the first n projections
+abbrev pub joins_below : CatalogData → Sites → ℕ → List (ℕ × ℕ × ℕ)
+joins_below C L n = flat_map (λ p. joins_in C L p (segments C p)) (numbers_below n)
+
+-- all of them
+abbrev pub affected_joins : CatalogData → Sites → List (ℕ × ℕ × ℕ)
+affected_joins C L = joins_below C L (length C.projections)
+
+-- a join index of the catalog that the loss affects
+pub record IsAffectedJoin (C : CatalogData) (L : Sites) (p s q : ℕ) : Type 0 where
+  pub segment : HasSegment C p s
+  pub target : q < length C.projections
+  pub affected : is_affected C L p s q ≡ true
+
+-- ---- what was made
+
+-- this is the file of that name, with its text
+pub record IsFileOf (g : OrderedStore) (wanted name : FileName) (bytes : List ℕ) : Type 0 where
+  pub name_is : name ≡ wanted
+  pub text_is : written_on g name ≡ Some bytes

@@ -1,0 +1,58 @@
+//! The digests of surviving segment files, taken side by side, apart from the reading of what they seal.
+ghost use Rattle.std.specs.Prelude.{◌≡◌, ◌<◌, IsTrue, length};
+ghost use Rattle.cs_recovery.specs.Verdicts.{surviving_segments as segments_after};
+ghost use Rattle.cs_store.specs.FileSet.{contents_of};
+ghost use Rattle.cs_rebuild.specs.Reading.{AreSealed, IsSealedAt};
+
+use crate::run::Run;
+use crate::surviving::surviving_segments;
+use cs_schema::{Catalog, FileName, Loss};
+use cs_segment::seal::is_sealed;
+use cs_store::FileSet;
+use rayon::prelude::*;
+use std::marker::Sync;
+use std::thread::Threads;
+
+/// Whether a segment's file, where it is there, has the digest of its text.
+fn has_digest(files: &FileSet, segments: &[(u16, u16)], at: usize) -> bool
+    requires { at < length segments.now }
+    ensures { IsTrue result → IsSealedAt (contents_of files.now) segments.now at }
+{
+    let (p, s) = segments[at];
+    match files.get(FileName::Seg { p, s }) {
+        Some(bytes) => is_sealed(bytes),
+        None => true,
+    }
+}
+
+/// Whether each segment's file, where it is there, has the digest of its text. Each is asked in a thread where one is free.
+fn have_digests<R: Threads + Sync>(rt: &R, files: &FileSet, segments: &[(u16, u16)]) -> bool
+    ensures { IsTrue result → AreSealed (contents_of files.now) segments.now }
+{
+    (0..segments.len())
+        .into_par_iter()
+        // a digest is worth a thread
+        .with_min_len(1)
+        .all(
+            rt,
+            |at: usize| -> bool
+                requires { at < length segments.now }
+                ensures { IsTrue result → IsSealedAt (contents_of files.entry.now) segments.entry.now at }
+            { has_digest(files, segments, at) },
+        )
+}
+
+/// Whether each surviving segment file that is there has the digest of its text. For want of memory it isn't told.
+pub fn are_sealed<R: Threads + Sync, G>(
+    run: &Run<'_, R, G>,
+    catalog: &Catalog,
+    loss: Loss,
+    files: &FileSet,
+) -> bool
+    ensures { IsTrue result → AreSealed (contents_of files.now) (segments_after catalog.now loss) }
+{
+    match surviving_segments(run.alloc, catalog, loss) {
+        Ok(segments) => have_digests(run.rt, files, segments.as_slice()),
+        Err(_) => false,
+    }
+}
