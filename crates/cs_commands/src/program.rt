@@ -8,7 +8,7 @@ use crate::request::{Recovery, Request, WordsFault, parse};
 use crate::sample;
 use crate::stop::{DEVICE, DONE, Stop, report};
 use cs_catalog::read_catalog;
-use cs_rebuild::{check_gated, rebuild, rebuild_gated};
+use cs_rebuild::{Run, check_owned, rebuild, rebuild_owned};
 use cs_schema::{Catalog, Loss};
 use cs_store::{FileSet, StoreFault, load, save};
 use std::alloc::Global;
@@ -132,17 +132,14 @@ fn check_store<R: Threads + Sync, P: Places>(
         Ok(loaded) => loaded,
         Err(stop) => return Err(stop),
     };
-    let watch = places.watch();
-    match check_gated(
+    let run = Run {
         rt,
         alloc,
-        &catalog,
-        &files,
-        k,
-        ONE_WORKER,
-        DEFAULT_CUT,
-        watch,
-    ) {
+        workers: ONE_WORKER,
+        cut: DEFAULT_CUT,
+        gate: places.watch(),
+    };
+    match check_owned(&run, &catalog, k, files) {
         Ok(rows) => Ok(rows),
         Err(fault) => Err(Stop::Store(fault)),
     }
@@ -172,8 +169,14 @@ fn recover_store<R: Threads + Sync, P: Places>(
         Ok(loaded) => loaded,
         Err(stop) => return Err(stop),
     };
-    let watch = places.watch();
-    let rebuilt = match rebuild_gated(rt, alloc, &catalog, &files, loss, workers, cut, watch) {
+    let run = Run {
+        rt,
+        alloc,
+        workers,
+        cut,
+        gate: places.watch(),
+    };
+    let rebuilt = match rebuild_owned(&run, &catalog, loss, files) {
         Ok(rebuilt) => rebuilt,
         Err(fault) => return Err(Stop::Store(fault)),
     };

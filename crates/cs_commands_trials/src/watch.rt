@@ -9,7 +9,7 @@ use std::sync::atomic::{AtomicU64, Ordering};
 use std::test::Fail;
 use std::thread::Threads;
 
-/// Counts the pieces, and holds the first of each round of work until the second of that round is begun.
+/// Counts the pieces, and holds the first of the first round of work until the second of that round is begun.
 #[derive(Drop)]
 pub struct Watch {
     /// How long a piece is held at most.
@@ -42,9 +42,11 @@ impl Gate for Watch {
         if piece != 0 {
             return;
         }
-        let before = self.firsts.fetch_add(1, Ordering::SeqCst);
+        if self.firsts.fetch_add(1, Ordering::SeqCst) > 0 {
+            return;
+        }
         for _ in 0..self.turns {
-            if self.seconds.load(Ordering::SeqCst) > before {
+            if self.seconds.load(Ordering::SeqCst) > 0 {
                 return;
             }
         }

@@ -10,7 +10,7 @@ use cs_operator_words::Recovering;
 use cs_places::{Places, Stop, find_store, stop_of};
 use cs_progress::{Progress, Stage};
 use cs_reading::load_side_by_side;
-use cs_rebuild::{Run, rebuild_gated};
+use cs_rebuild::rebuild_owned;
 use cs_schema::{Catalog, Loss};
 use cs_store::{FileSet, StoreFault, save};
 use std::alloc::Global;
@@ -54,22 +54,16 @@ fn rebuild_store<R: Threads + Sync, G: Progress + Sync, P: Places>(
     ensures err { OnErr result (LooksUp P.reads P.misses places.old request.now.store.now places.new) }
 {
     let (alloc, loss) = (host.alloc, request.loss);
-    let Run {
-        rt,
-        workers,
-        cut,
-        gate,
-        ..
-    } = host.run_by(request.workers);
+    let run = host.run_by(request.workers);
     let (catalog, source) = match find_store(alloc, places, request.store) {
         Ok(found) => found,
         Err(stop) => return Err(stop),
     };
-    let files = match load_side_by_side(rt, alloc, &catalog, loss, &source) {
+    let files = match load_side_by_side(run.rt, alloc, &catalog, loss, &source) {
         Ok(files) => files,
         Err(fault) => return Err(stop_of(alloc, &catalog, loss, &fault)),
     };
-    match rebuild_gated(rt, alloc, &catalog, &files, loss, workers, cut, gate) {
+    match rebuild_owned(&run, &catalog, loss, files) {
         Ok(rebuilt) => Ok((catalog, rebuilt)),
         Err(fault) => Err(stop_of(alloc, &catalog, loss, &fault)),
     }

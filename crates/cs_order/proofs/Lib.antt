@@ -3,6 +3,7 @@ pub mod SortedItems
 pub mod SortedNumbers
 pub mod Filling
 pub mod SegmentNumbers
+pub mod SortedRanges
 pub mod TableRows
 pub mod FullRanges
 pub mod FirstFault

@@ -1,6 +1,7 @@
 pub mod Tables
 pub mod Orders
 pub mod Numbers
+pub mod Ranges
 pub mod Items
 pub mod Faults
 pub mod Places

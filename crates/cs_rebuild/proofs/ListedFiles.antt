@@ -36,9 +36,9 @@ one_pushed f n old now new so_far e =
     e ∙ ap (λ l. l ++ f n) so_far ∙ append_assoc old (flat_map f (numbers_below n)) (f n) ∙ ap (λ l. old ++ l) (sym more)
 
 -- one file more
-module _ (g : OrderedStore) (cut : ℕ) (old new : List LostFile) (file : LostFile) (pushed : new ≡ old ++ file ∷ []) where
-  pub each_pushed : All (IsToWrite g cut) old → IsToWrite g cut file → All (IsToWrite g cut) new
-  each_pushed each one = subst (All (IsToWrite g cut)) (sym pushed) (All-append (IsToWrite g cut) old (file ∷ []) each (All-cons (IsToWrite g cut) file [] one (All-nil (IsToWrite g cut))))
+module _ (g : OrderedStore) (old new : List LostFile) (file : LostFile) (pushed : new ≡ old ++ file ∷ []) where
+  pub each_pushed : All (IsToWrite g) old → IsToWrite g file → All (IsToWrite g) new
+  each_pushed each one = subst (All (IsToWrite g)) (sym pushed) (All-append (IsToWrite g) old (file ∷ []) each (All-cons (IsToWrite g) file [] one (All-nil (IsToWrite g))))
 
   pub name_pushed : map name_of new ≡ map name_of old ++ name_of file ∷ []
   name_pushed = ap (map name_of) pushed ∙ map-append name_of old (file ∷ [])

@@ -23,22 +23,6 @@ values_at C p rows j numbers = map (λ r. cell (row_at rows r) (slice_index (pro
 abbrev pub cut_at : ℕ → List ℕ → ℕ → List ℕ
 cut_at cut numbers k = take cut (drop (k * cut) numbers)
 
--- an answer at piece i: the pieces are numbered column by column
-abbrev pub EncodeAnswerAt : CatalogData → ℕ → List Row → List ℕ → ℕ → ℕ → Piece → Type 0
-EncodeAnswerAt C p rows numbers cut i out =
-    let per : ℕ = pieces_of (length numbers) cut in
-    IsPieceOf out (code_at C p (i / per)) (kind_at C p (i / per)) (values_at C p rows (i / per) (cut_at cut numbers (i % per)))
-
--- the pieces are those of all columns, column by column, each of which is cut into pieces of so many rows
-pub record AreCutColumns (C : CatalogData) (p : ℕ) (rows : List Row) (numbers : List ℕ) (cut : ℕ) (pieces : List Piece) : Type 0 where
-  pub count : length pieces ≡ length (projection C p).columns * pieces_of (length numbers) cut
-  pub each : AnswersInOrder (EncodeAnswerAt C p rows numbers cut) pieces
-
--- they are those of the columns of a segment of a store
-pub record ArePiecesOn (g : OrderedStore) (p s cut : ℕ) (pieces : List Piece) : Type 0 where
-  pub cut_range : (1 ≤ cut) × (cut ≤ 1048576)
-  pub columns : AreCutColumns g.catalog.now p g.walked.rows (numbers_in g.orders p s) cut pieces
-
 -- the base of some rows, by their numbers
 abbrev pub base_at : CatalogData → ℕ → List Row → List ℕ → Base
 base_at C p rows numbers = base_of C p (map (project C p) (map (row_at rows) numbers))
@@ -46,7 +30,3 @@ base_at C p rows numbers = base_of C p (map (project C p) (map (row_at rows) num
 -- no int is below the one before it, by positions
 abbrev pub Rises : List Value → Type 0
 Rises v = (i : ℕ) → i + 1 < length v → int_of (cell v i) ≤ℤ int_of (cell v (i + 1))
-
--- Of `total` pieces some are left, the last first: what stands at place m is an answer at piece total - 1 - m.
-abbrev pub IsRestOf : CatalogData → ℕ → List Row → List ℕ → ℕ → ℕ → List Piece → Type 0
-IsRestOf C p rows numbers cut total rest = (m : ℕ) (out : Piece) → slice_get rest m ≡ Some out → EncodeAnswerAt C p rows numbers cut (total - 1 - m) out

@@ -1,6 +1,7 @@
 pub mod Answers
 pub mod Building
 pub mod Encoding
+pub mod Held
 pub mod Joining
 pub mod StoreFacts
 pub mod Comparing

@@ -6,7 +6,6 @@ use Rattle.cs_schema.specs.CatalogData.{CatalogData, HasSegment, segments}
 use Rattle.cs_schema.specs.Lists.{numbers_below}
 use Rattle.cs_schema.specs.Losses.{Sites, lost}
 use Rattle.cs_recovery.specs.Expected.{is_affected}
-use Rattle.cs_rebuild.specs.Encoding.{ArePiecesOn}
 use Rattle.cs_rebuild.specs.OnStore.{written_on}
 use Rattle.cs_rebuild.specs.declared.lost_files.LostFile.{LostFile}
 use Rattle.cs_rebuild.specs.declared.ordered_store.OrderedStore.{OrderedStore}
@@ -14,7 +13,7 @@ use Rattle.cs_rebuild.specs.declared.ordered_store.OrderedStore.{OrderedStore}
 -- ---- the lost segments and their deltas
 
 abbrev pub name_of : LostFile → FileName
-name_of (LostFile.Segment p s pieces) = FileName.Seg p s
+name_of (LostFile.Segment p s) = FileName.Seg p s
 name_of (LostFile.Delta p s) = FileName.Del p s
 
 -- the names of a segment and its delta, where it is lost
@@ -38,13 +37,10 @@ pub record IsLostSegment (C : CatalogData) (L : Sites) (p s : ℕ) : Type 0 wher
   pub segment : HasSegment C p s
   pub is_lost : lost C L p s ≡ true
 
-abbrev pub IsMadeFrom : OrderedStore → ℕ → LostFile → Type 0
-IsMadeFrom g cut (LostFile.Segment p s pieces) = IsLostSegment g.catalog.now g.loss p s × ArePiecesOn g p s cut pieces.items
-IsMadeFrom g cut (LostFile.Delta p s) = IsLostSegment g.catalog.now g.loss p s
-
--- the file has to be written, and this is what it is made from, cut into pieces of so many rows
-pub record IsToWrite (g : OrderedStore) (cut : ℕ) (file : LostFile) : Type 0 where
-  pub from : IsMadeFrom g cut file
+-- the file is that of a lost segment, or of its delta
+abbrev pub IsToWrite : OrderedStore → LostFile → Type 0
+IsToWrite g (LostFile.Segment p s) = IsLostSegment g.catalog.now g.loss p s
+IsToWrite g (LostFile.Delta p s) = IsLostSegment g.catalog.now g.loss p s
 
 -- ---- the join indexes that the loss affects
 

@@ -1,9 +1,11 @@
 //! The digests of surviving segment files, taken side by side, apart from the reading of what they seal.
-ghost use Rattle.std.specs.Prelude.{◌≡◌, ◌<◌, IsTrue, length};
+ghost use Rattle.std.specs.Prelude.{◌≡◌, ◌<◌, IsTrue, Some, false, length};
 ghost use Rattle.cs_recovery.specs.Verdicts.{surviving_segments as segments_after};
-ghost use Rattle.cs_store.specs.FileSet.{contents_of};
+ghost use Rattle.cs_store.specs.FileSet.{Files, contents_of};
+ghost use Rattle.cs_rebuild.specs.Held.{held_files};
 ghost use Rattle.cs_rebuild.specs.Reading.{AreSealed, IsSealedAt};
 
+use crate::held::Held;
 use crate::run::Run;
 use crate::surviving::surviving_segments;
 use cs_schema::{Catalog, FileName, Loss};
@@ -55,4 +57,22 @@ pub fn are_sealed<R: Threads + Sync, G>(
         Ok(segments) => have_digests(run.rt, files, segments.as_slice()),
         Err(_) => false,
     }
+}
+
+/// The same, of files that are let go of where it is so.
+pub fn release_sealed<R: Threads + Sync, G>(
+    run: &Run<'_, R, G>,
+    catalog: &Catalog,
+    loss: Loss,
+    files: &mut Held<'_>,
+) -> bool
+    requires held { (F : Files) × held_files files.old ≡ Some F }
+    ensures sealed { IsTrue result → (F : Files) → held_files files.old ≡ Some F → AreSealed (contents_of F) (segments_after catalog.now loss) }
+    ensures kept { result ≡ false → files.new ≡ files.old }
+{
+    if !are_sealed(run, catalog, loss, files.files()) {
+        return false;
+    }
+    files.release();
+    true
 }

@@ -1,29 +1,19 @@
-//! Encoding the columns of a lost segment, in pieces.
-ghost use Rattle.std.specs.Prelude.{◌≡◌, ◌<◌, ◌≤◌, ◌*◌, ℕ, None, Some, length, map, slice_index, IfOk, IfErr};
+//! Encoding cells of the columns of a lost segment.
+ghost use Rattle.std.specs.Prelude.{◌≡◌, ◌<◌, ◌≤◌, ℕ, length, slice_index, IfOk};
 ghost use Rattle.cs_schema.specs.declared.kinds.Code.{Code as CodeData};
 ghost use Rattle.cs_schema.specs.declared.kinds.Kind.{Kind as KindData};
 ghost use Rattle.cs_schema.specs.CatalogData.{projection, code_at, kind_at, HasSegment};
 ghost use Rattle.cs_schema.specs.Order.{row_limit};
-ghost use Rattle.cs_schema.specs.Rows.{cell};
-ghost use Rattle.cs_schema.specs.Values.{values, kind_of};
 ghost use Rattle.cs_codec.specs.ColumnText.{FitsCode};
 ghost use Rattle.cs_piece.specs.Pieces.{IsPieceOf};
 ghost use Rattle.cs_order.specs.Orders.{numbers_in};
-ghost use Rattle.cs_store.specs.declared.fault.Fault.{Fault as FaultData};
-ghost use Rattle.cs_rebuild.specs.Encoding.{pieces_of, values_at, cut_at, Rises, EncodeAnswerAt, ArePiecesOn};
-ghost use Rattle.cs_rebuild.specs.WorkLaws.{one_value};
+ghost use Rattle.cs_rebuild.specs.Encoding.{pieces_of, values_at, cut_at, Rises};
 
 use crate::columns::{cells_at, table_column};
 use crate::ordered_store::OrderedStore;
-use crate::rounds::Tasks;
-use crate::run::Run;
-use cs_board::{Gate, Round};
 use cs_piece::{Piece, encode_piece, join_pieces};
 use cs_schema::{Cells, Kind};
-use cs_store::Fault;
 use std::alloc::{AllocError, Global};
-use std::marker::Sync;
-use std::thread::Threads;
 
 /// How many pieces a column of so many rows has.
 pub fn pieces_in(rows: usize, cut: u32) -> u32
@@ -39,7 +29,7 @@ pub fn pieces_in(rows: usize, cut: u32) -> u32
 }
 
 /// The numbers of the k-th piece of `cut` numbers.
-fn cut_of(numbers: &[u32], cut: u32, k: u32) -> &[u32]
+pub fn cut_of(numbers: &[u32], cut: u32, k: u32) -> &[u32]
     requires { cut ≤ 1048576 }
     ensures { result.now ≡ cut_at cut numbers.now k }
 {
@@ -79,7 +69,7 @@ fn cells_at_once(kind: Kind) -> u32
 }
 
 /// Encodes the cells of a projection's column at some walked rows.
-fn encode_rows(
+pub fn encode_rows(
     alloc: Global,
     store: &OrderedStore<'_>,
     p: u16,
@@ -113,41 +103,15 @@ pub struct EncodeWork<'a> {
     pub p: u16,
     pub numbers: &'a [u32],
     pub cut: u32,
+    /// How many pieces a column has.
     pub per: u32,
-    pub pieces: u32,
     pub ghost exists: { p < length store.now.catalog.now.projections },
     pub ghost cut_range: { (1 ≤ cut) × (cut ≤ 1048576) },
     pub ghost per_is: { per ≡ pieces_of (length numbers.now) cut },
     pub ghost some: { 1 ≤ per },
-    pub ghost pieces_are: { pieces ≡ length (projection store.now.catalog.now p).columns * per },
     pub ghost below: { (k : ℕ) → k < length numbers.now → slice_index numbers.now k < length store.now.walked.rows },
     pub ghost few: { length numbers.now ≤ row_limit },
     pub ghost rises: { (j : ℕ) → j < length (projection store.now.catalog.now p).columns → code_at store.now.catalog.now p j ≡ CodeData.Differences → (kind_at store.now.catalog.now p j ≡ KindData.Int) × Rises (values_at store.now.catalog.now p store.now.walked.rows j numbers.now) },
-}
-
-impl Tasks for EncodeWork<'_> {
-    type Out = Piece;
-
-    ghost tasks = { λ work. work.pieces };
-
-    ghost fault_at = { λ work i fault. fault ≡ None };
-
-    ghost answers = { λ work i out. EncodeAnswerAt work.store.now.catalog.now work.p work.store.now.walked.rows work.numbers.now work.cut i out };
-
-    fn count(&self) -> u32 {
-        self.pieces
-    }
-
-    fn task(&self, i: u32) -> Result<Piece, Fault> {
-        let j = (i / self.per) as usize;
-        let numbers = cut_of(self.numbers, self.cut, i % self.per);
-        match encode_rows(self.alloc, self.store, self.p, j, numbers) {
-            Ok(piece) => Ok(piece),
-            Err(_) => Err(Fault::Memory),
-        }
-    }
-
-    ghost one_fault = { λ work i f g below a b. one_value None f g a b };
 }
 
 impl<'a> EncodeWork<'a> {
@@ -158,34 +122,16 @@ impl<'a> EncodeWork<'a> {
         ensures store { result.store.now ≡ store.now }
         ensures projection { result.p ≡ p }
         ensures numbers { result.numbers.now ≡ numbers_in store.now.orders p s }
-        ensures cut { result.cut ≡ cut }
     {
+        let _rules = store.catalog.projection_count();
         let numbers = store.orders.segment(p, s);
-        let per = pieces_in(numbers.len(), cut);
         EncodeWork {
             alloc,
             store,
             p,
             numbers,
             cut,
-            per,
-            pieces: store.catalog.width(p) as u32 * per,
+            per: pieces_in(numbers.len(), cut),
         }
     }
-}
-
-/// The columns of a lost segment, as the table has them, encoded in pieces by the run: column by column, each in pieces of
-/// the run's `cut` rows.
-pub fn encode_columns<R: Threads + Sync, G: Gate + Sync>(
-    run: &Run<'_, R, G>,
-    store: &OrderedStore<'_>,
-    p: u16,
-    s: u16,
-) -> Result<Vec<Piece>, Fault>
-    requires segment { HasSegment store.now.catalog.now p s }
-    ensures ok { IfOk result (λ pieces. ArePiecesOn store.now p s run.now.cut pieces.items) }
-    ensures err { IfErr result (λ fault. fault ≡ FaultData.Memory) }
-{
-    let work = EncodeWork::of(run.alloc, store, p, s, run.cut);
-    run.round(Round::Columns, &work)
 }

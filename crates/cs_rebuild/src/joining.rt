@@ -1,23 +1,23 @@
-//! Making the file of a lost segment: the pieces of its columns are joined and written, column by column, side by side.
+//! Making the file of a lost segment: its columns are encoded, joined and written one after the other, and the digest of the
+//! file takes each while the next is made.
 ghost use Rattle.std.specs.Prelude.{◌≡◌, ◌<◌, ◌≤◌, ◌+◌, ◌∷◌, ◌++◌, [], ℕ, length, IfOk, OnOk};
 ghost use Rattle.cs_schema.specs.CatalogData.{projection, code_at, kind_at};
 ghost use Rattle.cs_piece.specs.Pieces.{IsPieceOf};
-ghost use Rattle.cs_segment.specs.Parts.{text_before};
 ghost use Rattle.cs_segment.specs.SegmentFile.{IsBase, segment_text};
-ghost use Rattle.cs_rebuild.specs.Encoding.{values_at, base_at, AreCutColumns};
-ghost use Rattle.cs_rebuild.specs.Joining.{SomeAreLeft, AreLeftFrom, AreOfOneColumn, AreOfColumn, IsTextAt, AreTextsFrom};
+ghost use Rattle.cs_rebuild.specs.Encoding.{values_at, base_at};
+ghost use Rattle.cs_rebuild.specs.Joining.{ArePiecesOf, HoldsFirst, IsTextAt};
 
 use crate::encoding::EncodeWork;
+use crate::run::Run;
+use cs_board::Gate;
 use cs_piece::{Piece, join_pieces, write_piece};
 use cs_segment::GrowingFile;
 use std::alloc::AllocError;
+use std::marker::Sync;
 use std::thread::{Threads, join_mut};
 
 /// How many bytes the digest has to be behind for a thread to be worth its start.
 const WORTH_THREADS: usize = 65_536;
-
-/// From how many rows on the text of a column is worth a thread of its own.
-const LONG_COLUMN: usize = 16_384;
 
 /// Takes off what stands last.
 fn take_last<T>(rest: &mut Vec<T>) -> T
@@ -31,125 +31,64 @@ fn take_last<T>(rest: &mut Vec<T>) -> T
 }
 
 impl EncodeWork<'_> {
-    /// Takes the pieces of the next column off the end of those that are left. How many are left says which column is the
-    /// next.
-    fn take_column(&self, rest: &mut Vec<Piece>) -> Result<Vec<Piece>, AllocError>
-        requires { SomeAreLeft self.now rest.old.items }
-        ensures left { OnOk result ((j : ℕ) → AreLeftFrom self.now j rest.old.items → AreLeftFrom self.now (j + 1) rest.new.items) }
-        ensures column { IfOk result (λ column. (j : ℕ) → AreLeftFrom self.now j rest.old.items → AreOfColumn self.now j column.items) }
+    /// Joins the pieces of a column, from the first to the last.
+    fn join_column(&self, j: usize, pieces: Vec<Piece>) -> Result<Piece, AllocError>
+        requires column { j < length (projection self.now.store.now.catalog.now self.now.p).columns }
+        requires pieces { ArePiecesOf self.now j pieces.items }
+        ensures { IfOk result (λ piece. IsPieceOf piece (code_at self.now.store.now.catalog.now self.now.p j) (kind_at self.now.store.now.catalog.now self.now.p j) (values_at self.now.store.now.catalog.now self.now.p self.now.store.now.walked.rows j self.now.numbers.now)) }
     {
-        rest.split_off(rest.len() - self.per as usize)
-    }
-
-    /// Joins the pieces of a column, the last of which stands first, from the first to the last. They are let go.
-    fn join_column(&self, pieces: &mut Vec<Piece>) -> Result<Piece, AllocError>
-        requires { AreOfOneColumn self.now pieces.old.items }
-        ensures { IfOk result (λ piece. (j : ℕ) → AreOfColumn self.now j pieces.old.items → IsPieceOf piece (code_at self.now.store.now.catalog.now self.now.p j) (kind_at self.now.store.now.catalog.now self.now.p j) (values_at self.now.store.now.catalog.now self.now.p self.now.store.now.walked.rows j self.now.numbers.now)) }
-    {
-        let mut column = take_last(pieces);
+        let mut rest = pieces;
+        rest.reverse();
+        let mut column = take_last(&mut rest);
         // the others are as long, but for the last one: so none is copied again when the next is joined
         column.reserve(self.per - 1)?;
         for _ in 1..self.per {
-            let piece = take_last(pieces);
+            let piece = take_last(&mut rest);
             column = join_pieces(column, piece)?;
         }
         Ok(column)
     }
 
-    /// The text of a column, from its pieces, the last of which stands first. They are let go.
-    fn text(&self, pieces: &mut Vec<Piece>) -> Result<Vec<u8>, AllocError>
-        requires { AreOfOneColumn self.now pieces.old.items }
-        ensures { IfOk result (λ text. (j : ℕ) → AreOfColumn self.now j pieces.old.items → IsTextAt self.now j text.items) }
+    /// The text of a column. Its pieces are let go of.
+    fn text<R: Threads + Sync, G: Gate + Sync>(
+        &self,
+        run: &Run<'_, R, G>,
+        j: usize,
+    ) -> Result<Vec<u8>, AllocError>
+        requires column { j < length (projection self.now.store.now.catalog.now self.now.p).columns }
+        ensures { IfOk result (λ text. IsTextAt self.now j text.items) }
     {
-        let column = self.join_column(pieces)?;
+        let pieces = self.encode_column(run, j)?;
+        let column = self.join_column(j, pieces)?;
         write_piece(self.alloc, &column)
     }
 
-    /// The text of the next column, whose pieces are taken off the end of those that are left.
-    fn next_text(&self, rest: &mut Vec<Piece>) -> Result<Vec<u8>, AllocError>
-        requires { SomeAreLeft self.now rest.old.items }
-        ensures left { OnOk result ((j : ℕ) → AreLeftFrom self.now j rest.old.items → AreLeftFrom self.now (j + 1) rest.new.items) }
-        ensures text { IfOk result (λ text. (j : ℕ) → AreLeftFrom self.now j rest.old.items → IsTextAt self.now j text.items) }
-    {
-        let mut pieces = self.take_column(rest)?;
-        self.text(&mut pieces)
-    }
-
-    /// The texts of the columns from the `j`-th on, the last first, made one after the other.
-    fn texts_in_turn(&self, j: usize, rest: &mut Vec<Piece>) -> Result<Vec<Vec<u8>>, AllocError>
-        requires column { j ≤ length (projection self.now.store.now.catalog.now self.now.p).columns }
-        requires left { AreLeftFrom self.now j rest.old.items }
-        ensures { IfOk result (λ texts. AreTextsFrom self.now j texts.items) }
-    {
-        if j == self.store.catalog.width(self.p) {
-            return Ok(Vec::new(self.alloc));
-        }
-        let text = self.next_text(rest)?;
-        let mut texts = self.texts_in_turn(j + 1, rest)?;
-        texts.push(text)?;
-        Ok(texts)
-    }
-
-    /// The same, each in a thread of its own where it is long.
-    fn texts_from<R: Threads>(
+    /// The text of a column, made while the digest of a file that is far behind its text catches up.
+    fn text_beside<R: Threads + Sync, G: Gate + Sync>(
         &self,
-        rt: &R,
-        j: usize,
-        rest: &mut Vec<Piece>,
-    ) -> Result<Vec<Vec<u8>>, AllocError>
-        requires column { j ≤ length (projection self.now.store.now.catalog.now self.now.p).columns }
-        requires left { AreLeftFrom self.now j rest.old.items }
-        ensures { IfOk result (λ texts. AreTextsFrom self.now j texts.items) }
-    {
-        let next = j + 1;
-        if self.numbers.len() < LONG_COLUMN || self.store.catalog.width(self.p) <= next {
-            return self.texts_in_turn(j, rest);
-        }
-        let mut pieces = self.take_column(rest)?;
-        // of a closure over a struct of references `join` says nothing
-        let (text, others) = join_mut(
-            rt,
-            &mut || -> Result<Vec<u8>, AllocError>
-                requires { AreOfOneColumn self.now pieces.items }
-                ensures { IfOk result (λ text. (i : ℕ) → AreOfColumn self.entry.now i pieces.entry.items → IsTextAt self.entry.now i text.items) }
-            { self.text(&mut pieces) },
-            &mut || -> Result<Vec<Vec<u8>>, AllocError>
-                requires { (next ≤ length (projection self.now.store.now.catalog.now self.now.p).columns) × AreLeftFrom self.now next rest.now.items }
-                ensures { IfOk result (λ texts. AreTextsFrom self.entry.now next texts.items) }
-            { self.texts_from(rt, next, rest) },
-        );
-        let mut texts = others?;
-        texts.push(text?)?;
-        Ok(texts)
-    }
-
-    /// The same, while the digest of a file that is far behind its text catches up.
-    fn texts_beside<R: Threads>(
-        &self,
-        rt: &R,
+        run: &Run<'_, R, G>,
         file: &mut GrowingFile,
         j: usize,
-        rest: &mut Vec<Piece>,
-    ) -> Result<Vec<Vec<u8>>, AllocError>
-        requires column { j ≤ length (projection self.now.store.now.catalog.now self.now.p).columns }
-        requires left { AreLeftFrom self.now j rest.old.items }
+    ) -> Result<Vec<u8>, AllocError>
+        requires column { j < length (projection self.now.store.now.catalog.now self.now.p).columns }
         ensures file { file.new ≡ file.old }
-        ensures texts { IfOk result (λ texts. AreTextsFrom self.now j texts.items) }
+        ensures text { IfOk result (λ text. IsTextAt self.now j text.items) }
     {
         if file.behind() < WORTH_THREADS {
-            return self.texts_from(rt, j, rest);
+            return self.text(run, j);
         }
-        let (_, texts) = join_mut(
-            rt,
+        // of a closure over a struct of references `join` says nothing
+        let (_, text) = join_mut(
+            run.rt,
             &mut || -> ()
                 ensures { file.exit.now ≡ file.entry.now }
             { file.catch_up() },
-            &mut || -> Result<Vec<Vec<u8>>, AllocError>
-                requires { (j ≤ length (projection self.now.store.now.catalog.now self.now.p).columns) × AreLeftFrom self.now j rest.now.items }
-                ensures { IfOk result (λ texts. AreTextsFrom self.entry.now j texts.items) }
-            { self.texts_from(rt, j, rest) },
+            &mut || -> Result<Vec<u8>, AllocError>
+                requires { j < length (projection self.now.store.now.catalog.now self.now.p).columns }
+                ensures { IfOk result (λ text. IsTextAt self.entry.now j text.items) }
+            { self.text(run, j) },
         );
-        texts
+        text
     }
 
     /// Puts the text of the `j`-th column at the end of the file, behind those of the columns before it, and lets it go.
@@ -157,7 +96,7 @@ impl EncodeWork<'_> {
         requires column { j < length (projection self.now.store.now.catalog.now self.now.p).columns }
         requires base { IsBase self.now.store.now.catalog.now self.now.p (base_at self.now.store.now.catalog.now self.now.p self.now.store.now.walked.rows self.now.numbers.now) }
         requires text { IsTextAt self.now j text.items }
-        ensures { OnOk result ((s : ℕ) → file.old ≡ text_before self.now.store.now.catalog.now self.now.p s (base_at self.now.store.now.catalog.now self.now.p self.now.store.now.walked.rows self.now.numbers.now) j → file.new ≡ text_before self.now.store.now.catalog.now self.now.p s (base_at self.now.store.now.catalog.now self.now.p self.now.store.now.walked.rows self.now.numbers.now) (j + 1)) }
+        ensures { OnOk result ((s : ℕ) → HoldsFirst self.now s j file.old → HoldsFirst self.now s (j + 1) file.new) }
     {
         let catalog = self.store.catalog;
         let code = catalog.code(self.p, j);
@@ -165,31 +104,67 @@ impl EncodeWork<'_> {
         file.push(code, kind, &text)
     }
 
-    /// The file of the segment, from the pieces of all its columns. While the digest takes the first column, the texts of the
-    /// others are made, side by side. A text is let go of once it stands in the file.
-    pub fn file<R: Threads>(
+    /// Puts the columns before the `count`-th into a file that holds none. The digest takes each while the next is made.
+    fn grow<R: Threads + Sync, G: Gate + Sync>(
         &self,
-        rt: &R,
+        run: &Run<'_, R, G>,
+        file: &mut GrowingFile,
+        count: usize,
+    ) -> Result<(), AllocError>
+        requires count { count ≤ length (projection self.now.store.now.catalog.now self.now.p).columns }
+        requires base { IsBase self.now.store.now.catalog.now self.now.p (base_at self.now.store.now.catalog.now self.now.p self.now.store.now.walked.rows self.now.numbers.now) }
+        ensures { OnOk result ((s : ℕ) → HoldsFirst self.now s 0 file.old → HoldsFirst self.now s count file.new) }
+    {
+        for j in 0..count {
+            let text = self.text_beside(run, file, j)?;
+            self.push(file, j, text)?;
+        }
+        file.catch_up();
+        Ok(())
+    }
+
+    /// Puts all columns but the last into a file that holds none, and makes the text of the last beside: nothing is left to
+    /// hide that behind once the others stand.
+    fn grow_beside<R: Threads + Sync, G: Gate + Sync>(
+        &self,
+        run: &Run<'_, R, G>,
+        file: &mut GrowingFile,
+        last: usize,
+    ) -> (Result<Vec<u8>, AllocError>, Result<(), AllocError>)
+        requires last { last < length (projection self.now.store.now.catalog.now self.now.p).columns }
+        requires base { IsBase self.now.store.now.catalog.now self.now.p (base_at self.now.store.now.catalog.now self.now.p self.now.store.now.walked.rows self.now.numbers.now) }
+        ensures text { IfOk result.0 (λ text. IsTextAt self.now last text.items) }
+        ensures file { OnOk result.1 ((s : ℕ) → HoldsFirst self.now s 0 file.old → HoldsFirst self.now s last file.new) }
+    {
+        join_mut(
+            run.rt,
+            &mut || -> Result<Vec<u8>, AllocError>
+                requires { last < length (projection self.now.store.now.catalog.now self.now.p).columns }
+                ensures { IfOk result (λ text. IsTextAt self.entry.now last text.items) }
+            { self.text(run, last) },
+            &mut || -> Result<(), AllocError>
+                requires { (last ≤ length (projection self.now.store.now.catalog.now self.now.p).columns) × IsBase self.now.store.now.catalog.now self.now.p (base_at self.now.store.now.catalog.now self.now.p self.now.store.now.walked.rows self.now.numbers.now) }
+                ensures { OnOk result ((s : ℕ) → HoldsFirst self.entry.now s 0 file.entry.now → HoldsFirst self.entry.now s last file.exit.now) }
+            { self.grow(run, file, last) },
+        )
+    }
+
+    /// The file of the segment. A column is let go of once its text stands in the file.
+    pub fn file<R: Threads + Sync, G: Gate + Sync>(
+        &self,
+        run: &Run<'_, R, G>,
         s: u16,
-        pieces: Vec<Piece>,
     ) -> Result<Vec<u8>, AllocError>
-        requires pieces { AreCutColumns self.now.store.now.catalog.now self.now.p self.now.store.now.walked.rows self.now.numbers.now self.now.cut pieces.items }
         requires base { IsBase self.now.store.now.catalog.now self.now.p (base_at self.now.store.now.catalog.now self.now.p self.now.store.now.walked.rows self.now.numbers.now) }
         ensures { IfOk result (λ bytes. bytes.items ≡ segment_text self.now.store.now.catalog.now self.now.p s (base_at self.now.store.now.catalog.now self.now.p self.now.store.now.walked.rows self.now.numbers.now)) }
     {
         let catalog = self.store.catalog;
-        let width = catalog.width(self.p);
+        let last = catalog.width(self.p) - 1;
         let rows = self.numbers.len() as u32;
-        let mut rest = pieces;
-        rest.reverse();
         let mut file = GrowingFile::begin(self.alloc, catalog, self.p, s, rows)?;
-        let first = self.next_text(&mut rest)?;
-        self.push(&mut file, 0, first)?;
-        let mut texts = self.texts_beside(rt, &mut file, 1, &mut rest)?;
-        for j in 1..width {
-            let text = take_last(&mut texts);
-            self.push(&mut file, j, text)?;
-        }
+        let (text, grown) = self.grow_beside(run, &mut file, last);
+        grown?;
+        self.push(&mut file, last, text?)?;
         file.finish()
     }
 }

@@ -1,11 +1,13 @@
 //! Recovery and the check of a store.
-ghost use Rattle.std.specs.Prelude.{◌≡◌, ◌≤◌};
-ghost use Rattle.cs_store.specs.FileSet.{contents_of};
+ghost use Rattle.std.specs.Prelude.{◌≡◌, ◌≤◌, Some};
+ghost use Rattle.cs_store.specs.FileSet.{Files, contents_of};
 ghost use Rattle.cs_recovery.specs.Claims.{IsRebuildAnswer, IsCheckAnswer};
 ghost use Rattle.cs_recovery.specs.Laws.{RebuildClauses, CheckClauses};
+ghost use Rattle.cs_rebuild.specs.Held.{held_files};
 ghost use Rattle.cs_rebuild.specs.Steps.{safety_refusal as refusal_of};
 
 use crate::counting::count_rows;
+use crate::held::Held;
 use crate::rebuilding::rebuild_files;
 use crate::run::Run;
 use cs_board::{Gate, OpenGate};
@@ -55,6 +57,47 @@ pub fn rebuild_gated<R: Threads + Sync, G: Gate + Sync>(
     ensures answer { IsRebuildAnswer catalog.now (contents_of files.now) loss result }
     ensures clauses { RebuildClauses catalog.now (contents_of files.now) loss result }
 {
+    let run = Run {
+        rt,
+        alloc,
+        workers,
+        cut,
+        gate,
+    };
+    rebuild_held(&run, catalog, loss, Held::Lent(files), Held::Lent(files))
+}
+
+/// `rebuild_gated`, of files whose memory is free again as soon as they are read and their digests found right: so less is
+/// there at once.
+pub fn rebuild_owned<R: Threads + Sync, G: Gate + Sync>(
+    run: &Run<'_, R, G>,
+    catalog: &Catalog,
+    loss: Loss,
+    files: FileSet,
+) -> Result<FileSet, Fault>
+    ensures answer { IsRebuildAnswer catalog.now (contents_of files) loss result }
+    ensures clauses { RebuildClauses catalog.now (contents_of files) loss result }
+{
+    let _rules = catalog.projection_count();
+    let _sites = loss.count();
+    match Held::shared(run.alloc, files) {
+        Ok((files, shared)) => rebuild_held(run, catalog, loss, files, shared),
+        Err(_) => Err(Fault::Memory),
+    }
+}
+
+/// The same, of files that two hold.
+fn rebuild_held<R: Threads + Sync, G: Gate + Sync>(
+    run: &Run<'_, R, G>,
+    catalog: &Catalog,
+    loss: Loss,
+    files: Held<'_>,
+    shared: Held<'_>,
+) -> Result<FileSet, Fault>
+    requires held { (F : Files) × (held_files files ≡ Some F) × (held_files shared ≡ Some F) }
+    ensures answer { (F : Files) → held_files files.entry ≡ Some F → IsRebuildAnswer catalog.now (contents_of F) loss result }
+    ensures clauses { (F : Files) → held_files files.entry ≡ Some F → RebuildClauses catalog.now (contents_of F) loss result }
+{
     let _rules = catalog.projection_count();
     let _sites = loss.count();
     if !catalog.has_sites(loss) {
@@ -63,14 +106,7 @@ pub fn rebuild_gated<R: Threads + Sync, G: Gate + Sync>(
     if !safe(catalog, loss) {
         return Err(Fault::Unsafe(loss));
     }
-    let run = Run {
-        rt,
-        alloc,
-        workers,
-        cut,
-        gate,
-    };
-    rebuild_files(&run, catalog, loss, files)
+    rebuild_files(run, catalog, loss, files, shared)
 }
 
 /// The number of rows of a store that is sound, and safe for losses of at most `k` sites.
@@ -110,10 +146,6 @@ pub fn check_gated<R: Threads + Sync, G: Gate + Sync>(
     ensures answer { IsCheckAnswer catalog.now (contents_of files.now) k result }
     ensures clauses { CheckClauses catalog.now (contents_of files.now) k result }
 {
-    let _rules = catalog.projection_count();
-    if let Err(fault) = ksafe(catalog, k) {
-        return Err(safety_refusal(fault));
-    }
     let run = Run {
         rt,
         alloc,
@@ -121,7 +153,43 @@ pub fn check_gated<R: Threads + Sync, G: Gate + Sync>(
         cut,
         gate,
     };
-    count_rows(&run, catalog, Loss::none(), files)
+    check_held(&run, catalog, k, Held::Lent(files), Held::Lent(files))
+}
+
+/// `check_gated`, of files whose memory is free again as soon as they are read and their digests found right.
+pub fn check_owned<R: Threads + Sync, G: Gate + Sync>(
+    run: &Run<'_, R, G>,
+    catalog: &Catalog,
+    k: u8,
+    files: FileSet,
+) -> Result<u64, Fault>
+    ensures answer { IsCheckAnswer catalog.now (contents_of files) k result }
+    ensures clauses { CheckClauses catalog.now (contents_of files) k result }
+{
+    let _rules = catalog.projection_count();
+    match Held::shared(run.alloc, files) {
+        Ok((files, shared)) => check_held(run, catalog, k, files, shared),
+        Err(_) => Err(Fault::Memory),
+    }
+}
+
+/// The same, of files that two hold.
+fn check_held<R: Threads + Sync, G: Gate + Sync>(
+    run: &Run<'_, R, G>,
+    catalog: &Catalog,
+    k: u8,
+    files: Held<'_>,
+    shared: Held<'_>,
+) -> Result<u64, Fault>
+    requires held { (F : Files) × (held_files files ≡ Some F) × (held_files shared ≡ Some F) }
+    ensures answer { (F : Files) → held_files files.entry ≡ Some F → IsCheckAnswer catalog.now (contents_of F) k result }
+    ensures clauses { (F : Files) → held_files files.entry ≡ Some F → CheckClauses catalog.now (contents_of F) k result }
+{
+    let _rules = catalog.projection_count();
+    if let Err(fault) = ksafe(catalog, k) {
+        return Err(safety_refusal(fault));
+    }
+    count_rows(run, catalog, Loss::none(), files, shared)
 }
 
 /// How a catalog that is not safe is refused.

@@ -80,6 +80,19 @@ impl<'a, T: Tasks> Work for TasksWork<'a, T> {
     ghost one_fault = { λ work i f g below a b. T.one_fault work.tasks.now i f g below a.0 b.0 };
 }
 
+/// A gate that is told of a part of a round: so many pieces come before it.
+#[derive(Drop)]
+struct PartGate<'a, G> {
+    gate: &'a G,
+    before: u32,
+}
+
+impl<G: Gate> Gate for PartGate<'_, G> {
+    fn entered(&self, piece: u32) {
+        self.gate.entered(self.before.wrapping_add(piece));
+    }
+}
+
 impl<'a, R: Threads + Sync, G: Gate + Sync> Run<'a, R, G> {
     /// Opens a round and does its tasks: their answers in order, or the fault of the first task that has one. `Memory` may
     /// take the place of either.
@@ -87,9 +100,21 @@ impl<'a, R: Threads + Sync, G: Gate + Sync> Run<'a, R, G> {
         ensures ok { IfOk result (λ outs. IsAnswered (T.fault_at tasks.now) (T.answers tasks.now) (T.tasks tasks.now) outs.items) }
         ensures err { IfErr result (λ fault. MemoryOr fault (IsFirstFault (T.fault_at tasks.now) (T.tasks tasks.now) fault)) }
     {
-        let work = TasksWork { tasks };
         self.gate.opened(round, tasks.count());
-        match run(self.rt, self.alloc, self.workers, &work, self.gate) {
+        self.part(0, tasks)
+    }
+
+    /// The same, of tasks that are a part of a round that is open, with so many before them.
+    pub fn part<T: Tasks + Sync>(&self, before: u32, tasks: &T) -> Result<Vec<T::Out>, Fault>
+        ensures ok { IfOk result (λ outs. IsAnswered (T.fault_at tasks.now) (T.answers tasks.now) (T.tasks tasks.now) outs.items) }
+        ensures err { IfErr result (λ fault. MemoryOr fault (IsFirstFault (T.fault_at tasks.now) (T.tasks tasks.now) fault)) }
+    {
+        let work = TasksWork { tasks };
+        let gate = PartGate {
+            gate: self.gate,
+            before,
+        };
+        match run(self.rt, self.alloc, self.workers, &work, &gate) {
             Ok(outs) => Ok(outs),
             Err(RunFault::Memory) => Err(Fault::Memory),
             Err(RunFault::At(_, fault)) => Err(fault),

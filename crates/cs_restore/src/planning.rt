@@ -9,7 +9,7 @@ ghost use Rattle.cs_restore.specs.Restoring.{AreSurvivorsRead, PlansFor, ReadsBa
 
 use crate::comparing::compare;
 use crate::step::Step;
-use cs_rebuild::{Gate, Run, check_gated, rebuild_gated};
+use cs_rebuild::{Gate, Run, check_owned, rebuild_gated};
 use cs_schema::{Catalog, FileName, Loss};
 use cs_shelf::{Shelf, load_held};
 use cs_store::{Fault, FileSet, Readable};
@@ -98,10 +98,9 @@ pub fn check_held<S: Shelf, R: Threads + Sync, G: Gate + Sync>(
     ensures unchanged { ChangesNothing S.holds S.may_leave S.kept S.moment S.left_since shelf.old shelf.new }
     ensures counted { S.fault_count shelf.old ≤ S.fault_count shelf.new }
 {
-    let (workers, cut) = (run.workers, run.cut);
     let read = match load_held(run.alloc, catalog, Loss::none(), shelf) {
         Ok(read) => read,
         Err(fault) => return Err(fault),
     };
-    check_gated(run.rt, run.alloc, catalog, &read, 0, workers, cut, run.gate)
+    check_owned(run, catalog, 0, read)
 }

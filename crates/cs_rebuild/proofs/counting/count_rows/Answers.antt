@@ -1,17 +1,29 @@
-use Rattle.std.proofs.Common.{false}
-use Rattle.cs_store.specs.FileSet.{contents_of}
+use Rattle.std.proofs.Common.{◌≡◌, ◌∙◌, ap, sym, subst, false, Some}
+use Rattle.std.proofs.lemmas.Option.{same_Some}
+use Rattle.cs_store.specs.FileSet.{Files, contents_of}
+use Rattle.cs_rebuild.specs.Answers.{IsRowCount}
+use Rattle.cs_rebuild.specs.Held.{held_files}
 use Rattle.cs_rebuild.specs.Reading.{as_read}
 use Rattle.cs_rebuild.proofs.Sealing.{read_as_sealed}
 use Rattle.cs_rebuild.proofs.Verdicts.{count_under}
 use Rattle.cs_rebuild.proofs.counting.count_rows.Goals as goal
 
 pub returns-then-sealed : goal.returns-then-sealed
-returns-then-sealed g c =
-    let F = contents_of c.args.files.now in
-    count_under c.args.catalog.now (as_read false F) F c.args.loss (read_as_sealed c.args.catalog.now F c.args.loss (c.count_beside-sealed.ensures.sealed c.if-sealed.true)) c.count_beside-sealed.result.1 c.count_beside-sealed.ensures.answer
+returns-then-sealed g c F held =
+    let both = c.requires.held in
+    let shared = both.2 ∙ ap Some (same_Some both.0 F (sym both.1 ∙ held)) in
+    count_under c.args.catalog.now (as_read false (contents_of F)) (contents_of F) c.args.loss
+    (read_as_sealed c.args.catalog.now (contents_of F) c.args.loss (c.count_beside-sealed.ensures.sealed c.if-sealed.true F held))
+    c.count_beside-sealed.result.1 (c.count_beside-sealed.ensures.answer F shared)
+
+pub files-requires : goal.files-requires
+files-requires g c = (c.requires.held.0, ap held_files (c.count_beside-sealed.ensures.kept c.if-sealed.false) ∙ c.requires.held.1)
 
 pub count_read-requires-clause-read : goal.count_read-requires-clause-read
-count_read-requires-clause-read g c κs within = (contents_of c.args.files.now, (c.read_store-read.ensures.ok, c.read_store-read.ensures.err))
+count_read-requires-clause-read g c κs within = (contents_of c.files.result.now, (c.read_store-read.ensures.ok, c.read_store-read.ensures.err))
 
 pub returns : goal.returns
-returns g c = c.count_read.ensures (contents_of c.args.files.now) (c.read_store-read.ensures.ok, c.read_store-read.ensures.err)
+returns g c F held =
+    let same : c.files.result.now ≡ F = same_Some c.files.result.now F (sym c.files.ensures ∙ ap held_files (c.count_beside-sealed.ensures.kept c.if-sealed.false) ∙ held) in
+    subst (λ (G : Files). IsRowCount c.args.catalog.now (contents_of G) c.args.loss c.count_read.result) same
+    (c.count_read.ensures (contents_of c.files.result.now) (c.read_store-read.ensures.ok, c.read_store-read.ensures.err))

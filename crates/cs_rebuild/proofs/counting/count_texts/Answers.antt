@@ -1,10 +1,12 @@
-use Rattle.std.proofs.Common.{false}
-use Rattle.cs_store.specs.FileSet.{contents_of}
+use Rattle.std.proofs.Common.{◌≡◌, ◌∙◌, sym, subst, false}
+use Rattle.std.proofs.lemmas.Option.{same_Some}
+use Rattle.cs_store.specs.FileSet.{Files, contents_of}
+use Rattle.cs_rebuild.specs.Answers.{IsRowCount}
 use Rattle.cs_rebuild.specs.Reading.{as_read}
 use Rattle.cs_rebuild.proofs.counting.count_texts.Goals as goal
 
-pub count_read-requires-clause-read : goal.count_read-requires-clause-read
-count_read-requires-clause-read g c κs within = (as_read false (contents_of c.args.files.now), (c.read_texts-read.ensures.ok, c.read_texts-read.ensures.err))
-
 pub returns : goal.returns
-returns g c = c.count_read.ensures (as_read false (contents_of c.args.files.now)) (c.read_texts-read.ensures.ok, c.read_texts-read.ensures.err)
+returns g c F held =
+    let same : c.files.result.now ≡ F = same_Some c.files.result.now F (sym c.files.ensures ∙ held) in
+    subst (λ (G : Files). IsRowCount c.args.catalog.now (as_read false (contents_of G)) c.args.loss c.count_read.result) same
+    (c.count_read.ensures (as_read false (contents_of c.files.result.now)) (c.read_texts-read.ensures.ok, c.read_texts-read.ensures.err))

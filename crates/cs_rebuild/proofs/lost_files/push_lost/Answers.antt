@@ -1,17 +1,14 @@
 use Rattle.std.proofs.Common.{sym, ◌∙◌}
 use Rattle.cs_rebuild.specs.declared.lost_files.LostFile.{LostFile}
-use Rattle.cs_rebuild.specs.LostFiles.{IsLostSegment, IsToWrite}
+use Rattle.cs_rebuild.specs.LostFiles.{IsLostSegment}
 use Rattle.cs_rebuild.proofs.ListedFiles.{each_pushed}
 use Rattle.cs_rebuild.proofs.lost_files.push_lost.Goals as goal
 
 pub returns-clause-each : goal.returns-clause-each
-returns-clause-each g c =
+returns-clause-each c =
     let x = c.args.store.now in
-    let cut = c.args.run.now.cut in
     let p = c.args.p in
     let s = c.args.s in
-    let base : IsLostSegment x.catalog.now x.loss p s = record { segment = c.requires.segment; is_lost = sym c.lost.ensures ∙ c.if-not-lost.false } in
-    let segment : IsToWrite x cut (LostFile.Segment p s c.in-Ok.pieces) = record { from = (base, c.in-Ok.ensures.ok) } in
-    let delta : IsToWrite x cut (LostFile.Delta p s) = record { from = base } in
-    let one = each_pushed x cut c.args.files.now.items c.push.new.self.items (LostFile.Segment p s c.in-Ok.pieces) c.in_ok-push.ensures.items c.requires.each segment in
-    each_pushed x cut c.push.new.self.items c.push-2.new.self.items (LostFile.Delta p s) c.in_ok-push-2.ensures.items one delta
+    let lost : IsLostSegment x.catalog.now x.loss p s = record { segment = c.requires.segment; is_lost = sym c.lost.ensures ∙ c.if-not-lost.false } in
+    let one = each_pushed x c.args.files.now.items c.push.new.self.items (LostFile.Segment p s) c.in_ok-push.ensures.items c.requires.each lost in
+    each_pushed x c.push.new.self.items c.push-2.new.self.items (LostFile.Delta p s) c.in_ok-push-2.ensures.items one lost

@@ -4,7 +4,7 @@ use Rattle.cs_rebuild.proofs.ListedFiles.{one_pushed}
 use Rattle.cs_rebuild.proofs.lost_files.push_projection.Goals as goal
 
 pub loop-s-preserved : goal.loop-s-preserved
-loop-s-preserved g c =
+loop-s-preserved c =
     let x = c.args.store.now in
     record {
       each = c.in_ok-push_lost.ensures.each;

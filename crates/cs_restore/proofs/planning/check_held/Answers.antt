@@ -3,4 +3,4 @@ use Rattle.cs_restore.proofs.planning.check_held.Goals as goal
 
 pub returns-clause-accepted : goal.returns-clause-accepted
 returns-clause-accepted g c =
-    reads_back c.args.catalog.now (g.S.Shelf.holds c.load_held.new.shelf) c.none.result c.in-Ok.read c.none.ensures c.in-Ok.ensures.found c.check_gated.result c.check_gated.ensures.answer
+    reads_back c.args.catalog.now (g.S.Shelf.holds c.load_held.new.shelf) c.none.result c.in-Ok.read c.none.ensures c.in-Ok.ensures.found c.check_owned.result c.check_owned.ensures.answer

@@ -14,5 +14,5 @@ pub invariant_of-result-clause-rises : goal.invariant_of-result-clause-rises
 invariant_of-result-clause-rises c j l e =
     let x = c.args.store.now in
     let C = x.catalog.now in
-    let r = rises C c.width.ensures.rules x.walked x.orders x.table x.fits c.args.p c.args.s c.requires.segment x.each j l e in
+    let r = rises C c.projection_count-rules.ensures.rules x.walked x.orders x.table x.fits c.args.p c.args.s c.requires.segment x.each j l e in
     (r.0, subst (λ ns. Rises (values_at C c.args.p x.walked.rows j ns)) (sym {b = numbers_in x.orders c.args.p c.args.s} c.segment-numbers.ensures) r.1)
