@@ -26,6 +26,13 @@ pub trait Column<C: Cell>: Drop {
     fn reserve(&mut self, more: usize, bytes: usize) -> Result<(), AllocError>
         ensures { cells self.new ≡ cells self.old };
 
+    /// How many bytes the cells take about, as they are written.
+    fn size(&self) -> usize;
+
+    /// How many bytes the cells at some places take about, as they are written.
+    fn size_at(&self, places: &[u32]) -> usize
+        requires { (k : ℕ) → k < length places.now → slice_index places.now k < length (cells self.now) };
+
     /// A copy of the cell at a place.
     fn cell(&self, at: usize) -> C
         requires { at < length (cells self.now) }
@@ -100,6 +107,14 @@ impl<C: Cell> Column<C> for Vec<C> {
         self.reserve(more)
     }
 
+    fn size(&self) -> usize {
+        self.as_slice().len().saturating_mul(8)
+    }
+
+    fn size_at(&self, places: &[u32]) -> usize {
+        places.len().saturating_mul(8)
+    }
+
     #[inline]
     fn cell(&self, at: usize) -> C {
         self.as_slice()[at].copy()
@@ -170,6 +185,15 @@ impl Column<Word> for Texts {
 
     fn reserve(&mut self, more: usize, bytes: usize) -> Result<(), AllocError> {
         self.reserve(more, bytes)
+    }
+
+    fn size(&self) -> usize {
+        // before each text stands a byte that tells its length
+        self.size().saturating_add(self.len())
+    }
+
+    fn size_at(&self, places: &[u32]) -> usize {
+        self.size_at(places).saturating_add(places.len())
     }
 
     #[inline]

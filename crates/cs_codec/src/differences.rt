@@ -1,15 +1,14 @@
 //! Columns of ascending integers as differences.
-ghost use Rattle.std.specs.Prelude.{◌≡◌, ℕ, ℤ, ◌+◌, ◌-◌, ◌*◌, ◌^◌, ◌≤◌, ◌<◌, ◌≤ℤ◌, ◌↔◌, IsTrue, List, ◌++◌, length, drop, IfOk, OnOk, IfSome, IfNone, negsuc, pos};
-ghost use Rattle.cs_codec.specs.Encodings.{IsShort};
-ghost use Rattle.cs_codec.specs.Cells.{IsInt};
-ghost use Rattle.cs_codec.specs.Texts.{groups, short, differences_text};
-ghost use Rattle.cs_codec.specs.Differences.{item, NeverFallsShort, GroupsStandAt, NoGroupsStandAt, ValueStandsAt, NoValueStandsAt};
+ghost use Rattle.std.specs.Prelude.{◌≡◌, ◌↔◌, IsTrue, List, ◌++◌, IfOk, OnOk, IfSome, IfNone};
+ghost use Rattle.cs_codec.specs.Texts.{differences_text};
+ghost use Rattle.cs_codec.specs.Differences.{NeverFallsShort, ValueStandsAt, NoValueStandsAt};
 ghost use Rattle.cs_codec.specs.DifferenceLaws.{differences_one_list};
 ghost use Rattle.cs_schema.specs.declared.kinds.Code.{Code};
 ghost use Rattle.cs_codec.specs.TextMaps.{differences_of_code};
 
 use crate::cell::{Cell, read_int};
 use crate::encoding::{CodecFault, ColumnEncoding};
+use crate::groups::{read_groups, write_short};
 use crate::numbers::{read_number, write_number};
 use cs_schema::Code;
 use std::alloc::{AllocError, Global};
@@ -180,45 +179,6 @@ fn add_some_gaps(gaps: &mut Vec<u64>, others: &[u64]) -> Result<(), AllocError>
     ensures { OnOk result (gaps.new.items ≡ gaps.old.items ++ others.now) }
 {
     gaps.extend_from_slice(others)
-}
-
-/// Writes a number in groups of seven bits, the low group first.
-fn write_short(out: &mut Vec<u8>, n: u64) -> Result<(), AllocError>
-    ensures { OnOk result (out.new.items ≡ out.old.items ++ short n) }
-{
-    let mut rest = n;
-    while rest >= 128 {
-        out.push((rest % 128 + 128) as u8)?;
-        rest /= 128;
-    }
-    out.push(rest as u8)?;
-    Ok(())
-}
-
-/// The number that stands at `at` in at most `more` + 1 groups, and its end.
-fn read_groups(bytes: &[u8], at: usize, more: u32) -> Option<(u64, usize)>
-    ensures found { IfSome result (λ found. GroupsStandAt more bytes.now at found.0 found.1) }
-    ensures none { IfNone result (NoGroupsStandAt more bytes.now at) }
-{
-    if at >= bytes.len() {
-        return None;
-    }
-    let byte = bytes[at];
-    if byte < 128 {
-        return Some((byte as u64, at + 1));
-    }
-    if more == 0 {
-        return None;
-    }
-    let low = (byte - 128) as u64;
-    let (high, end) = read_groups(bytes, at + 1, more - 1)?;
-    if high == 0 {
-        return None;
-    }
-    if high > (u64::MAX - low) / 128 {
-        return None;
-    }
-    Some((low + 128 * high, end))
 }
 
 /// The value that stands at `at` as that of a position, behind another value.

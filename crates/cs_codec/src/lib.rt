@@ -11,6 +11,7 @@ pub mod column;
 pub mod differences;
 pub mod encoding;
 mod few_cells;
+mod groups;
 mod lists;
 pub mod numbers;
 pub mod plain;

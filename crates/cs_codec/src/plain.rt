@@ -34,9 +34,9 @@ impl PlainPart {
             .reserve(self.bytes.len().saturating_mul(parts as usize))
     }
 
-    /// The part's bytes.
+    /// The text of the list that the part stands for: its bytes, which aren't copied.
     #[inline]
-    fn into_bytes(self) -> Result<Vec<u8>, AllocError>
+    pub fn into_text(self) -> Result<Vec<u8>, AllocError>
         ensures { IfOk result (λ out. out.items ≡ kept_bytes self.lone self.bytes.items) }
     {
         let mut bytes = self.bytes;
@@ -72,7 +72,7 @@ pub fn encode_at<C: Cell, L: Column<C>>(
     requires few { length places.now ≤ 1048576 }
     ensures { IfOk result (λ part. IsPlainPart C.bytes part (cells_at (L.cells column.now) places.now)) }
 {
-    let mut bytes = Vec::with_capacity(alloc, places.len().saturating_mul(8))?;
+    let mut bytes = Vec::with_capacity(alloc, column.size_at(places))?;
     for place in places {
         column.write(*place as usize, &mut bytes)?;
     }
@@ -121,7 +121,7 @@ impl<C: Cell, L: Column<C>> ColumnEncoding<C, L> for Plain {
 
     fn join(left: PlainPart, right: PlainPart) -> Result<PlainPart, AllocError> {
         let count = left.count + right.count;
-        let mut bytes = left.into_bytes()?;
+        let mut bytes = left.into_text()?;
         right.write_to(&mut bytes)?;
         Ok(PlainPart {
             bytes,

@@ -147,7 +147,8 @@ fn write_runs<C: Cell, L: Column<C>>(
     requires runs { AreColumnsOfRuns C.eq (L.cells values.now) counts.now }
     ensures { IfOk result (λ out. out.items ≡ runs_text C.bytes C.eq (expand (zip_runs (L.cells values.now) counts.now))) }
 {
-    let mut out = Vec::with_capacity(alloc, counts.len().saturating_mul(16))?;
+    let numbers = counts.len().saturating_mul(8);
+    let mut out = Vec::with_capacity(alloc, values.size().saturating_add(numbers))?;
     let mut position = 1;
     for (at, count) in counts.iter().enumerate() {
         values.write(at, &mut out)?;

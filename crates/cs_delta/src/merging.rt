@@ -96,7 +96,9 @@ pub fn merge_column(
     ensures kind { IfOk result (λ cells. kind_of cells ≡ kind_of base.now) }
 {
     let mut out = empty_in(alloc, spent, base);
-    out.reserve(rows)?;
+    // items may bring longer texts than they take, so with some room to spare
+    let size = base.text_size();
+    out.reserve(rows, size.saturating_add(size / 8))?;
     let mut done = 0;
     for i in 0..layer.len() {
         done = apply_to_column(&mut out, base, &layer.item(i), j, done)?;

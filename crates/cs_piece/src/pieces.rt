@@ -1,5 +1,6 @@
 //! Pieces: parts of columns, whose code and kind are known as the program runs.
-ghost use Rattle.std.specs.Prelude.{IfOk, List};
+ghost use Rattle.std.specs.Prelude.{◌<◌, ℕ, IfOk, List, length, slice_index};
+ghost use Rattle.cs_codec.specs.Columns.{cells_at};
 ghost use Rattle.cs_schema.specs.declared.cells.Value.{Value};
 ghost use Rattle.cs_schema.specs.declared.kinds.Code.{Code};
 ghost use Rattle.cs_schema.specs.declared.kinds.Kind.{Kind};
@@ -10,7 +11,7 @@ ghost use Rattle.cs_piece.specs.Pieces.{IsPieceOf, PiecesFit, TellsFit, IsJoined
 use cs_codec::ColumnEncoding;
 use cs_codec::bitmaps::{Bitmaps, BitmapsPart};
 use cs_codec::differences::{Differences, DifferencesPart};
-use cs_codec::plain::{Plain, PlainPart};
+use cs_codec::plain::{Plain, PlainPart, encode_at};
 use cs_codec::runs::{Runs, RunsPart};
 use cs_schema::{Cells, Code, Texts, Word};
 use std::alloc::{AllocError, Global};
@@ -143,6 +144,33 @@ pub fn encode_piece(alloc: Global, code: Code, cells: &Cells) -> Result<Piece, A
     })
 }
 
+/// The piece that stands for the cells at some places of a column, in the order of the places. Plain cells are written
+/// straight from the column. Cells under another code are copied first, since it compares neighbours.
+pub fn encode_places(
+    alloc: Global,
+    code: Code,
+    column: &Cells,
+    places: &[u32],
+) -> Result<Piece, AllocError>
+    requires within { (k : ℕ) → k < length places.now → slice_index places.now k < length (values column.now) }
+    requires fits { CanEncode code (kind_of column.now) (cells_at (values column.now) places.now) }
+    ensures { IfOk result (λ piece. IsPieceOf piece code (kind_of column.now) (cells_at (values column.now) places.now)) }
+{
+    match (code, column) {
+        (Code::Plain, Cells::Ints(ints)) => {
+            Ok(Piece::PlainInts(encode_at::<i64, Vec<i64>>(alloc, ints, places)?))
+        }
+        (Code::Plain, Cells::Texts(texts)) => {
+            Ok(Piece::PlainTexts(encode_at::<Word, Texts>(alloc, texts, places)?))
+        }
+        _ => {
+            let mut cells = Cells::new(alloc, column.kind());
+            cells.push_at(column, places)?;
+            encode_piece(alloc, code, &cells)
+        }
+    }
+}
+
 /// The piece that stands for the cells of both, one after the other. A refusal gives up both.
 pub fn join_pieces(left: Piece, right: Piece) -> Result<Piece, AllocError>
     requires { PiecesFit left right }
@@ -191,5 +219,17 @@ pub fn write_piece(alloc: Global, piece: &Piece) -> Result<Vec<u8>, AllocError>
         Piece::PlainInts(part) => <Plain as ColumnEncoding<i64, Vec<i64>>>::write(alloc, part),
         Piece::PlainTexts(part) => <Plain as ColumnEncoding<Word, Texts>>::write(alloc, part),
         Piece::NoTexts => Ok(Vec::new(alloc)),
+    }
+}
+
+/// The text of the column that a piece stands for, which is given up: the text of plain cells isn't copied.
+pub fn piece_text(alloc: Global, piece: Piece) -> Result<Vec<u8>, AllocError>
+    ensures text { IfOk result (λ out. IsTextOf piece out.items) }
+    ensures short { IfOk result (λ out. IsShortTextOf piece out.items) }
+{
+    match piece {
+        Piece::PlainInts(part) => part.into_text(),
+        Piece::PlainTexts(part) => part.into_text(),
+        other => write_piece(alloc, &other),
     }
 }

@@ -14,10 +14,12 @@ use Rattle.cs_schema.specs.Order.{row_limit}
 use Rattle.cs_schema.specs.Rows.{Row, cell}
 use Rattle.cs_schema.proofs.Lists.{slice_get_map}
 use Rattle.cs_codec.specs.ColumnText.{FitsCode, int_of}
+use Rattle.cs_codec.specs.Columns.{cells_at}
 use Rattle.cs_piece.specs.Columns.{CanEncode}
 use Rattle.cs_order.specs.Orders.{row_at}
 use Rattle.cs_recovery.proofs.Afresh.{fits_code}
 use Rattle.cs_rebuild.specs.Encoding.{pieces_of, values_at, cut_at, Rises}
+use Rattle.cs_rebuild.proofs.PlacedCells.{each_there}
 
 -- ---- cells of a walked column
 
@@ -37,6 +39,15 @@ cells_are rows n (r ∷ rs) below =
     ∙ ap (λ l. cell (row_at rows r) n ∷ l) (cells_are rows n rs (λ k l. below (suc k) (omega arith)))
 
 -- ---- parts of a list
+
+-- the values of a projection's column stand in the table's column at the places of the rows
+pub placed_values : (C : CatalogData) (p j : ℕ) (rows : List Row) (numbers : List ℕ) (n : ℕ) (v : List Value) → n ≡ slice_index (projection C p).columns j → v ≡ map (λ (row : Row). cell row n) rows
+    → ((k : ℕ) → k < length numbers → slice_index numbers k < length rows) → cells_at v numbers ≡ values_at C p rows j numbers
+placed_values C p j rows numbers n v number held below =
+    let long : length v ≡ length rows = ap length held ∙ length-map rows (λ (row : Row). cell row n) in
+    each_there v numbers (Value.Int (pos 0)) (λ k l. let b = below k l in omega (arith, b, long))
+    ∙ ap (λ l. map (cell l) numbers) held ∙ cells_are rows n numbers below
+    ∙ ap (λ m. map (λ r. cell (row_at rows r) m) numbers) number
 
 pub rises_take : (n : ℕ) (v : List Value) → Rises v → Rises (take n v)
 rises_take n v rises i l =
@@ -108,6 +119,10 @@ module _ (C : CatalogData) (p : ℕ) (rows : List Row) (j : ℕ) (numbers : List
   one_more cut k =
       let e : k * cut + cut ≡ (k + 1) * cut = grind arith in
       sym (ap (λ n. map value_of (take n numbers)) (sym e) ∙ ap (map value_of) (take-add (k * cut) cut numbers) ∙ map-append value_of (take (k * cut) numbers) (take cut (drop (k * cut) numbers)))
+
+  -- before the first piece
+  pub none_of : (cut : ℕ) → values_at C p rows j (take (0 * cut) numbers) ≡ []
+  none_of cut = let a : 0 * cut ≡ 0 = grind arith in ap (λ n. map value_of (take n numbers)) a
 
   -- the first piece
   pub first_cut : (cut : ℕ) → values_at C p rows j (cut_at cut numbers 0) ≡ values_at C p rows j (take (1 * cut) numbers)

@@ -1,25 +1,29 @@
 -- The file of a lost segment, as its columns are joined and written, and put into it one after the other.
-use Rattle.std.proofs.Common.{◌≡◌, ℕ, ◌+◌, ◌*◌, ◌<◌, ◌≤◌, List, [], ◌∷◌, ◌++◌, map, length, length-append, sym, ap, subst, ◌∙◌, arith, Result, Ok, Err}
+use Rattle.std.proofs.Common.{◌≡◌, ℕ, ◌+◌, ◌<◌, ◌≤◌, List, [], ◌∷◌, ◌++◌, map, length, sym, ap, subst, ◌∙◌, arith, Result, Ok, Err}
 use Rattle.std.specs.Prelude.{IfOk, OnOk, vec_len}
 use Rattle.std.specs.List.{ReversedBelow}
 use Rattle.std.specs.Global.{Vec}
-use Rattle.std.proofs.lemmas.List.{length-map}
+use Rattle.std.proofs.lemmas.List.{append-nil, length-map}
+use Rattle.std.proofs.lemmas.List.Concat.{flat_map-append}
 use Rattle.std.proofs.lemmas.List.FromFn.{length-map-range_with_len, get_or-map-range_with_len}
 use Rattle.cs_schema.specs.declared.kinds.Code.{Code}
 use Rattle.cs_schema.specs.declared.kinds.Kind.{Kind}
 use Rattle.cs_schema.specs.declared.cells.Value.{Value}
 use Rattle.cs_schema.specs.CatalogData.{CatalogData, projection, code_at, kind_at}
 use Rattle.cs_schema.specs.Rows.{Row, cell, project}
-use Rattle.cs_codec.specs.ColumnText.{column_text, FitsColumn}
+use Rattle.cs_codec.specs.ColumnText.{cell_bytes, column_text, FitsColumn}
+use Rattle.cs_codec.proofs.PlainLemmas.{plain_text-append}
 use Rattle.cs_order.specs.Orders.{row_at}
 use Rattle.cs_piece.specs.declared.pieces.Piece.{Piece}
 use Rattle.cs_piece.specs.Pieces.{IsPieceOf, IsTextOf, IsShortTextOf}
+use Rattle.cs_piece.proofs.ShortTexts.{short_text}
 use Rattle.cs_segment.specs.Bodies.{body_part}
+use Rattle.cs_segment.specs.Growing.{joined}
 use Rattle.cs_segment.specs.Parts.{text_before}
 use Rattle.cs_segment.specs.SegmentFile.{Base, IsBase, base_column, sealed, segment_text}
 use Rattle.cs_segment.proofs.PieceColumns.{text_more, text_whole}
 use Rattle.cs_rebuild.specs.Encoding.{base_at, values_at}
-use Rattle.cs_rebuild.specs.declared.encoding.EncodeWork.{EncodeWork}
+use Rattle.cs_rebuild.specs.declared.encoding.LostSegment.{LostSegment}
 use Rattle.cs_rebuild.specs.declared.ordered_store.OrderedStore.{OrderedStore}
 use Rattle.cs_rebuild.specs.Joining.{ArePiecesOf, IsColumnText, IsPieceAt}
 use Rattle.cs_rebuild.proofs.Rests.{AreLeft, all_left}
@@ -69,14 +73,39 @@ pub file_whole : {V E : Type 0} (items : V → List ℕ) (C : CatalogData) (p s 
 file_whole items C p s j b (Ok out) body h l e k = k ∙ ap sealed (text_whole C p s b j body h l e)
 file_whole items C p s j b (Err x) body h l e k = tt
 
--- what was written of a piece is the text of the column that the piece stands for
-pub text_written : {V E : Type 0} (items : V → List ℕ) (r : Result V E) (piece : Piece) (code : Code) (kind : Kind) (v : List Value)
-    → IfOk r (λ out. IsTextOf piece (items out)) → IfOk r (λ out. IsShortTextOf piece (items out)) → IsPieceOf piece code kind v → IfOk r (λ out. IsColumnText code kind v (items out))
-text_written items (Ok out) piece code kind v text short is = record { is = text code kind v is; short = short code kind v is }
-text_written items (Err e) piece code kind v text short is = tt
+-- ---- plain cells, whose texts follow one another
+
+plain_joined : (x y : List Value) → column_text Code.Plain (x ++ y) ≡ column_text Code.Plain x ++ column_text Code.Plain y
+plain_joined = plain_text-append cell_bytes
+
+joined_push : (texts : List (Vec ℕ)) (text : Vec ℕ) → joined (texts ++ text ∷ []) ≡ joined texts ++ text.items
+joined_push texts text = flat_map-append (λ (piece : Vec ℕ). piece.items) texts (text ∷ []) ∙ ap (λ last. joined texts ++ last) (append-nil text.items)
+
+-- before the first piece
+pub plain_begun : (texts : List (Vec ℕ)) (v : List Value) → texts ≡ [] → v ≡ [] → joined texts ≡ column_text Code.Plain v
+plain_begun texts v e k = ap joined e ∙ sym (ap (column_text Code.Plain) k)
+
+-- one piece more
+pub plain_grown : (before after : List (Vec ℕ)) (text : Vec ℕ) (piece : Piece) (kind : Kind) (v w : List Value)
+    → after ≡ before ++ text ∷ [] → IsTextOf piece text.items → IsPieceOf piece Code.Plain kind w → joined before ≡ column_text Code.Plain v → joined after ≡ column_text Code.Plain (v ++ w)
+plain_grown before after text piece kind v w e written is held =
+    ap joined e ∙ joined_push before text ∙ ap (λ x. x ++ text.items) held ∙ ap (λ x. column_text Code.Plain v ++ x) (written Code.Plain kind w is) ∙ sym (plain_joined v w)
+
+-- the texts of all pieces are the text of the column
+pub plain_whole : (code : Code) (kind : Kind) (v : List Value) (text : List ℕ) → code ≡ Code.Plain → text ≡ column_text Code.Plain v → IsColumnText code kind v text
+plain_whole code kind v text plain held =
+    let is : text ≡ column_text code v = held ∙ ap (λ x. column_text x v) (sym plain) in
+    record { is = is; short = λ fits. short_text code kind v text fits is }
+
+-- the text of a piece alone is the text of the column that the piece stands for
+pub text_alone : (none texts : List (Vec ℕ)) (text : Vec ℕ) (piece : Piece) (code : Code) (kind : Kind) (v : List Value)
+    → none ≡ [] → texts ≡ none ++ text ∷ [] → IsTextOf piece text.items → IsShortTextOf piece text.items → IsPieceOf piece code kind v → IsColumnText code kind v (joined texts)
+text_alone none texts text piece code kind v empty pushed written short is =
+    let alone : joined texts ≡ text.items = ap joined (pushed ∙ ap (λ front. front ++ text ∷ []) empty) ∙ append-nil text.items in
+    subst (IsColumnText code kind v) (sym alone) (record { is = written code kind v is; short = short code kind v is })
 
 -- the pieces of a column, from their end
-pub pieces_left : (work : EncodeWork) (j : ℕ) (pieces rest : Vec Piece) → ArePiecesOf work j pieces.items → vec_len rest ≡ vec_len pieces → ReversedBelow pieces.items rest.items (vec_len pieces) → (length rest.items ≡ work.per) × AreLeft (IsPieceAt work j) work.per rest.items
+pub pieces_left : (work : LostSegment) (j : ℕ) (pieces rest : Vec Piece) → ArePiecesOf work j pieces.items → vec_len rest ≡ vec_len pieces → ReversedBelow pieces.items rest.items (vec_len pieces) → (length rest.items ≡ work.per) × AreLeft (IsPieceAt work j) work.per rest.items
 pieces_left work j pieces rest are long back =
     let count : vec_len pieces ≡ length pieces.items = pieces.ok.0 in
     let same : length rest.items ≡ length pieces.items = sym rest.ok.0 ∙ long ∙ count in

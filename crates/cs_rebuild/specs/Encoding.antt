@@ -1,15 +1,11 @@
 -- The pieces into which the columns of a lost segment are cut.
-use Rattle.std.specs.Prelude.{◌≡◌, ℕ, ◌+◌, ◌-◌, ◌*◌, ◌/◌, ◌%◌, ◌<◌, ◌≤◌, List, map, length, max, take, drop, slice_index, slice_get, Some, ◌≤ℤ◌}
+use Rattle.std.specs.Prelude.{ℕ, ◌+◌, ◌-◌, ◌*◌, ◌/◌, ◌<◌, List, map, length, max, take, drop, slice_index, ◌≤ℤ◌}
 use Rattle.cs_codec.specs.ColumnText.{int_of}
 use Rattle.cs_schema.specs.declared.cells.Value.{Value}
-use Rattle.cs_schema.specs.CatalogData.{CatalogData, projection, code_at, kind_at}
+use Rattle.cs_schema.specs.CatalogData.{CatalogData, projection}
 use Rattle.cs_schema.specs.Rows.{Row, cell, project}
-use Rattle.cs_order.specs.Orders.{row_at, numbers_in}
-use Rattle.cs_piece.specs.declared.pieces.Piece.{Piece}
-use Rattle.cs_piece.specs.Pieces.{IsPieceOf}
-use Rattle.cs_board.specs.Pieces.{AnswersInOrder}
+use Rattle.cs_order.specs.Orders.{row_at}
 use Rattle.cs_segment.specs.SegmentFile.{Base, base_of}
-use Rattle.cs_rebuild.specs.declared.ordered_store.OrderedStore.{OrderedStore}
 
 -- how many pieces a column of n rows has: one where it has no rows
 abbrev pub pieces_of : ℕ → ℕ → ℕ

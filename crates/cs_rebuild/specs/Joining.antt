@@ -10,14 +10,14 @@ use Rattle.cs_piece.specs.Pieces.{IsPieceOf}
 use Rattle.cs_board.specs.Pieces.{AnswersInOrder}
 use Rattle.cs_segment.specs.Parts.{text_before}
 use Rattle.cs_rebuild.specs.Encoding.{base_at, cut_at, values_at}
-use Rattle.cs_rebuild.specs.declared.encoding.EncodeWork.{EncodeWork}
+use Rattle.cs_rebuild.specs.declared.encoding.LostSegment.{LostSegment}
 
 -- it is the k-th piece of the column of this number
-abbrev pub IsPieceAt : EncodeWork → ℕ → ℕ → Piece → Type 0
+abbrev pub IsPieceAt : LostSegment → ℕ → ℕ → Piece → Type 0
 IsPieceAt work j k out = IsPieceOf out (code_at work.store.now.catalog.now work.p j) (kind_at work.store.now.catalog.now work.p j) (values_at work.store.now.catalog.now work.p work.store.now.walked.rows j (cut_at work.cut work.numbers.now k))
 
 -- they are the pieces of the column of this number, in order
-pub record ArePiecesOf (work : EncodeWork) (j : ℕ) (pieces : List Piece) : Type 0 where
+pub record ArePiecesOf (work : LostSegment) (j : ℕ) (pieces : List Piece) : Type 0 where
   pub count : length pieces ≡ work.per
   pub each : AnswersInOrder (IsPieceAt work j) pieces
 
@@ -27,9 +27,9 @@ pub record IsColumnText (code : Code) (kind : Kind) (v : List Value) (text : Lis
   pub short : FitsColumn code kind v → length text < 2 ^ 32
 
 -- it is the text of the column of this number
-abbrev pub IsTextAt : EncodeWork → ℕ → List ℕ → Type 0
+abbrev pub IsTextAt : LostSegment → ℕ → List ℕ → Type 0
 IsTextAt work j text = IsColumnText (code_at work.store.now.catalog.now work.p j) (kind_at work.store.now.catalog.now work.p j) (values_at work.store.now.catalog.now work.p work.store.now.walked.rows j work.numbers.now) text
 
 -- the file holds so many columns, the first ones, and nothing behind them
-abbrev pub HoldsFirst : EncodeWork → ℕ → ℕ → List ℕ → Type 0
+abbrev pub HoldsFirst : LostSegment → ℕ → ℕ → List ℕ → Type 0
 HoldsFirst work s count file = file ≡ text_before work.store.now.catalog.now work.p s (base_at work.store.now.catalog.now work.p work.store.now.walked.rows work.numbers.now) count

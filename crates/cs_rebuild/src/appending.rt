@@ -26,6 +26,18 @@ fn rows_in(all: &[Walked]) -> usize {
     rows
 }
 
+/// How many bytes the texts have together that all pieces have in a column.
+fn text_size(all: &[Walked], catalog: &Catalog, c: usize) -> usize
+    requires column { c < length catalog.now.columns }
+    requires kinds { All (HasTableKinds catalog.now) all.now }
+{
+    let mut size: usize = 0;
+    for piece in all {
+        size = size.saturating_add(piece.column(c).text_size());
+    }
+    size
+}
+
 /// The cells that all pieces have in a column, one piece after the other.
 fn join_column(
     alloc: Global,
@@ -38,7 +50,7 @@ fn join_column(
     ensures { IfOk result (IsColumnOf catalog.now (flat_map (λ piece. piece.rows) all.now) c) }
 {
     let mut joined = Cells::new(alloc, catalog.columns[c].kind);
-    joined.reserve(rows_in(all))?;
+    joined.reserve(rows_in(all), text_size(all, catalog, c))?;
     for piece in all {
         joined.extend(piece.column(c), 0, piece.rows())?;
     }

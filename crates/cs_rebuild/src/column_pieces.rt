@@ -4,7 +4,7 @@ ghost use Rattle.cs_schema.specs.CatalogData.{projection};
 ghost use Rattle.cs_rebuild.specs.Joining.{ArePiecesOf, IsPieceAt};
 ghost use Rattle.cs_rebuild.specs.WorkLaws.{one_value};
 
-use crate::encoding::{EncodeWork, cut_of, encode_rows};
+use crate::encoding::{LostSegment, cut_of, encode_rows};
 use crate::rounds::Tasks;
 use crate::run::Run;
 use cs_board::Gate;
@@ -17,7 +17,7 @@ use std::thread::Threads;
 /// The encoding of one of a segment's columns.
 #[derive(Drop)]
 struct ColumnWork<'a> {
-    segment: &'a EncodeWork<'a>,
+    segment: &'a LostSegment<'a>,
     j: usize,
     ghost column: { j < length (projection segment.now.store.now.catalog.now segment.now.p).columns },
 }
@@ -36,7 +36,7 @@ impl Tasks for ColumnWork<'_> {
     }
 
     fn task(&self, k: u32) -> Result<Piece, Fault> {
-        let EncodeWork {
+        let LostSegment {
             alloc,
             store,
             p,
@@ -53,7 +53,7 @@ impl Tasks for ColumnWork<'_> {
     ghost one_fault = { λ work k f g below a b. one_value None f g a b };
 }
 
-impl EncodeWork<'_> {
+impl LostSegment<'_> {
     /// The pieces of a column, encoded by the run: those of the columns before it come before them in the round.
     pub fn encode_column<R: Threads + Sync, G: Gate + Sync>(
         &self,

@@ -9,10 +9,10 @@ ghost use Rattle.cs_piece.specs.Pieces.{IsPieceOf};
 ghost use Rattle.cs_order.specs.Orders.{numbers_in};
 ghost use Rattle.cs_rebuild.specs.Encoding.{pieces_of, values_at, cut_at, Rises};
 
-use crate::columns::{cells_at, table_column};
+use crate::columns::table_column;
 use crate::ordered_store::OrderedStore;
-use cs_piece::{Piece, encode_piece, join_pieces};
-use cs_schema::{Cells, Kind};
+use cs_piece::{Piece, encode_places, join_pieces};
+use cs_schema::{Code, Kind};
 use std::alloc::{AllocError, Global};
 
 /// How many pieces a column of so many rows has.
@@ -38,8 +38,8 @@ pub fn cut_of(numbers: &[u32], cut: u32, k: u32) -> &[u32]
     &numbers[from..to]
 }
 
-/// Encodes copies of the cells of a projection's column at some walked rows.
-fn encode_copies(
+/// Encodes the cells of a projection's column at some walked rows, all at once.
+fn encode_cells(
     alloc: Global,
     store: &OrderedStore<'_>,
     p: u16,
@@ -54,17 +54,17 @@ fn encode_copies(
     ensures { IfOk result (λ piece. IsPieceOf piece (code_at store.now.catalog.now p j) (kind_at store.now.catalog.now p j) (values_at store.now.catalog.now p store.now.walked.rows j numbers.now)) }
 {
     let column = store.walked.column(table_column(store.catalog, p, j));
-    let cells = cells_at(alloc, column, numbers)?;
-    encode_piece(alloc, store.catalog.code(p, j), &cells)
+    encode_places(alloc, store.catalog.code(p, j), column, numbers)
 }
 
-/// How many cells are copied at a time to be encoded. Texts are long: so few of them stay in a processor's nearest caches.
-fn cells_at_once(kind: Kind) -> u32
+/// How many cells are encoded at a time. Plain cells aren't copied before, and copies of ints are short; of texts few are
+/// copied, which stay in a processor's nearest caches.
+fn cells_at_once(code: Code, kind: Kind) -> u32
     ensures { (1 ≤ result) × (result ≤ 1048576) }
 {
-    match kind {
-        Kind::Int => 1_048_576,
-        Kind::Text => 256,
+    match (code, kind) {
+        (Code::Plain, _) | (_, Kind::Int) => 1_048_576,
+        (_, Kind::Text) => 256,
     }
 }
 
@@ -83,21 +83,21 @@ pub fn encode_rows(
     requires rises { code_at store.now.catalog.now p j ≡ CodeData.Differences → (kind_at store.now.catalog.now p j ≡ KindData.Int) × Rises (values_at store.now.catalog.now p store.now.walked.rows j numbers.now) }
     ensures { IfOk result (λ piece. IsPieceOf piece (code_at store.now.catalog.now p j) (kind_at store.now.catalog.now p j) (values_at store.now.catalog.now p store.now.walked.rows j numbers.now)) }
 {
-    let few = cells_at_once(store.catalog.column_kind(p, j));
+    let few = cells_at_once(store.catalog.code(p, j), store.catalog.column_kind(p, j));
     let parts = pieces_in(numbers.len(), few);
-    let mut column = encode_copies(alloc, store, p, j, cut_of(numbers, few, 0))?;
+    let mut column = encode_cells(alloc, store, p, j, cut_of(numbers, few, 0))?;
     // the others are about as long
     column.reserve(parts - 1)?;
     for k in 1..parts {
-        let piece = encode_copies(alloc, store, p, j, cut_of(numbers, few, k))?;
+        let piece = encode_cells(alloc, store, p, j, cut_of(numbers, few, k))?;
         column = join_pieces(column, piece)?;
     }
     Ok(column)
 }
 
-/// The encoding of the columns of one segment, in pieces of `cut` rows.
+/// A lost segment, whose columns are encoded anew in pieces of `cut` rows.
 #[derive(Drop)]
-pub struct EncodeWork<'a> {
+pub struct LostSegment<'a> {
     pub alloc: Global,
     pub store: &'a OrderedStore<'a>,
     pub p: u16,
@@ -114,8 +114,8 @@ pub struct EncodeWork<'a> {
     pub ghost rises: { (j : ℕ) → j < length (projection store.now.catalog.now p).columns → code_at store.now.catalog.now p j ≡ CodeData.Differences → (kind_at store.now.catalog.now p j ≡ KindData.Int) × Rises (values_at store.now.catalog.now p store.now.walked.rows j numbers.now) },
 }
 
-impl<'a> EncodeWork<'a> {
-    /// The encoding of the columns of a segment.
+impl<'a> LostSegment<'a> {
+    /// A segment that is lost.
     pub fn of(alloc: Global, store: &'a OrderedStore<'a>, p: u16, s: u16, cut: u32) -> Self
         requires segment { HasSegment store.now.catalog.now p s }
         requires cut { (1 ≤ cut) × (cut ≤ 1048576) }
@@ -125,7 +125,7 @@ impl<'a> EncodeWork<'a> {
     {
         let _rules = store.catalog.projection_count();
         let numbers = store.orders.segment(p, s);
-        EncodeWork {
+        LostSegment {
             alloc,
             store,
             p,

@@ -1,5 +1,5 @@
 //! A store's files while two read them at once, which may be let go of before an answer stands.
-ghost use Rattle.std.specs.Prelude.{◌≡◌, Some, IfOk};
+ghost use Rattle.std.specs.Prelude.{◌≡◌, Some, None, IfOk};
 ghost use Rattle.cs_store.specs.FileSet.{Files};
 ghost use Rattle.cs_rebuild.specs.Held.{held_files};
 
@@ -42,7 +42,9 @@ impl<'a> Held<'a> {
     }
 
     /// Lets go of the files.
-    pub fn release(&mut self) {
+    pub fn release(&mut self)
+        ensures { held_files self.new ≡ None }
+    {
         *self = Held::Released;
     }
 }

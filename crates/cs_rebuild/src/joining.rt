@@ -1,16 +1,20 @@
 //! Making the file of a lost segment: its columns are encoded, joined and written one after the other, and the digest of the
 //! file takes each while the next is made.
 ghost use Rattle.std.specs.Prelude.{◌≡◌, ◌<◌, ◌≤◌, ◌+◌, ◌∷◌, ◌++◌, [], ℕ, length, IfOk, OnOk};
+ghost use Rattle.cs_schema.specs.declared.kinds.Code.{Code as CodeData};
 ghost use Rattle.cs_schema.specs.CatalogData.{projection, code_at, kind_at};
 ghost use Rattle.cs_piece.specs.Pieces.{IsPieceOf};
+ghost use Rattle.cs_segment.specs.Growing.{joined};
 ghost use Rattle.cs_segment.specs.SegmentFile.{IsBase, segment_text};
 ghost use Rattle.cs_rebuild.specs.Encoding.{values_at, base_at};
 ghost use Rattle.cs_rebuild.specs.Joining.{ArePiecesOf, HoldsFirst, IsTextAt};
 
-use crate::encoding::EncodeWork;
+use crate::columns::table_column;
+use crate::encoding::LostSegment;
 use crate::run::Run;
 use cs_board::Gate;
-use cs_piece::{Piece, join_pieces, write_piece};
+use cs_piece::{Piece, join_pieces, piece_text};
+use cs_schema::{Cells, Code};
 use cs_segment::GrowingFile;
 use std::alloc::AllocError;
 use std::marker::Sync;
@@ -18,6 +22,18 @@ use std::thread::{Threads, join_mut};
 
 /// How many bytes the digest has to be behind for a thread to be worth its start.
 const WORTH_THREADS: usize = 65_536;
+
+/// About how many bytes the text of so many rows of a column has at most.
+fn text_room(column: &Cells, code: Code, rows: usize) -> usize {
+    let cell = match column {
+        Cells::Ints(_) => 8,
+        // a byte that tells a text's length, and the mean of the lengths, rounded up
+        Cells::Texts(texts) => (texts.size() / texts.len().max(1)).saturating_add(2),
+    };
+    // a run may be of one cell, and has its position and its length
+    let run = if code == Code::Runs { 8 } else { 0 };
+    rows.saturating_mul(cell.saturating_add(run))
+}
 
 /// Takes off what stands last.
 fn take_last<T>(rest: &mut Vec<T>) -> T
@@ -30,7 +46,19 @@ fn take_last<T>(rest: &mut Vec<T>) -> T
     }
 }
 
-impl EncodeWork<'_> {
+impl LostSegment<'_> {
+    /// About how many bytes the texts of all columns have at most. Room that stays empty takes none of the machine's memory.
+    fn room(&self) -> usize {
+        let catalog = self.store.catalog;
+        let mut room: usize = 0;
+        for j in 0..catalog.width(self.p) {
+            let column = self.store.walked.column(table_column(catalog, self.p, j));
+            let more = text_room(column, catalog.code(self.p, j), self.numbers.len());
+            room = room.saturating_add(more);
+        }
+        room
+    }
+
     /// Joins the pieces of a column, from the first to the last.
     fn join_column(&self, j: usize, pieces: Vec<Piece>) -> Result<Piece, AllocError>
         requires column { j < length (projection self.now.store.now.catalog.now self.now.p).columns }
@@ -49,18 +77,49 @@ impl EncodeWork<'_> {
         Ok(column)
     }
 
-    /// The text of a column. Its pieces are let go of.
+    /// The texts of the pieces of a column of plain cells, none of which is copied.
+    fn plain_text(&self, j: usize, pieces: Vec<Piece>) -> Result<Vec<Vec<u8>>, AllocError>
+        requires column { j < length (projection self.now.store.now.catalog.now self.now.p).columns }
+        requires plain { code_at self.now.store.now.catalog.now self.now.p j ≡ CodeData.Plain }
+        requires pieces { ArePiecesOf self.now j pieces.items }
+        ensures { IfOk result (λ text. IsTextAt self.now j (joined text.items)) }
+    {
+        let mut rest = pieces;
+        rest.reverse();
+        let mut text = Vec::new(self.alloc);
+        for _ in 0..self.per {
+            let piece = take_last(&mut rest);
+            text.push(piece_text(self.alloc, piece)?)?;
+        }
+        Ok(text)
+    }
+
+    /// The text of a column, whose pieces are joined.
+    fn whole_text(&self, j: usize, pieces: Vec<Piece>) -> Result<Vec<Vec<u8>>, AllocError>
+        requires column { j < length (projection self.now.store.now.catalog.now self.now.p).columns }
+        requires pieces { ArePiecesOf self.now j pieces.items }
+        ensures { IfOk result (λ text. IsTextAt self.now j (joined text.items)) }
+    {
+        let column = self.join_column(j, pieces)?;
+        let mut text = Vec::new(self.alloc);
+        text.push(piece_text(self.alloc, column)?)?;
+        Ok(text)
+    }
+
+    /// The text of a column, in parts that follow one another.
     fn text<R: Threads + Sync, G: Gate + Sync>(
         &self,
         run: &Run<'_, R, G>,
         j: usize,
-    ) -> Result<Vec<u8>, AllocError>
+    ) -> Result<Vec<Vec<u8>>, AllocError>
         requires column { j < length (projection self.now.store.now.catalog.now self.now.p).columns }
-        ensures { IfOk result (λ text. IsTextAt self.now j text.items) }
+        ensures { IfOk result (λ text. IsTextAt self.now j (joined text.items)) }
     {
         let pieces = self.encode_column(run, j)?;
-        let column = self.join_column(j, pieces)?;
-        write_piece(self.alloc, &column)
+        if self.store.catalog.code(self.p, j) == Code::Plain {
+            return self.plain_text(j, pieces);
+        }
+        self.whole_text(j, pieces)
     }
 
     /// The text of a column, made while the digest of a file that is far behind its text catches up.
@@ -69,10 +128,10 @@ impl EncodeWork<'_> {
         run: &Run<'_, R, G>,
         file: &mut GrowingFile,
         j: usize,
-    ) -> Result<Vec<u8>, AllocError>
+    ) -> Result<Vec<Vec<u8>>, AllocError>
         requires column { j < length (projection self.now.store.now.catalog.now self.now.p).columns }
         ensures file { file.new ≡ file.old }
-        ensures text { IfOk result (λ text. IsTextAt self.now j text.items) }
+        ensures text { IfOk result (λ text. IsTextAt self.now j (joined text.items)) }
     {
         if file.behind() < WORTH_THREADS {
             return self.text(run, j);
@@ -83,25 +142,25 @@ impl EncodeWork<'_> {
             &mut || -> ()
                 ensures { file.exit.now ≡ file.entry.now }
             { file.catch_up() },
-            &mut || -> Result<Vec<u8>, AllocError>
+            &mut || -> Result<Vec<Vec<u8>>, AllocError>
                 requires { j < length (projection self.now.store.now.catalog.now self.now.p).columns }
-                ensures { IfOk result (λ text. IsTextAt self.entry.now j text.items) }
+                ensures { IfOk result (λ text. IsTextAt self.entry.now j (joined text.items)) }
             { self.text(run, j) },
         );
         text
     }
 
     /// Puts the text of the `j`-th column at the end of the file, behind those of the columns before it, and lets it go.
-    fn push(&self, file: &mut GrowingFile, j: usize, text: Vec<u8>) -> Result<(), AllocError>
+    fn push(&self, file: &mut GrowingFile, j: usize, text: Vec<Vec<u8>>) -> Result<(), AllocError>
         requires column { j < length (projection self.now.store.now.catalog.now self.now.p).columns }
         requires base { IsBase self.now.store.now.catalog.now self.now.p (base_at self.now.store.now.catalog.now self.now.p self.now.store.now.walked.rows self.now.numbers.now) }
-        requires text { IsTextAt self.now j text.items }
+        requires text { IsTextAt self.now j (joined text.items) }
         ensures { OnOk result ((s : ℕ) → HoldsFirst self.now s j file.old → HoldsFirst self.now s (j + 1) file.new) }
     {
         let catalog = self.store.catalog;
         let code = catalog.code(self.p, j);
         let kind = catalog.column_kind(self.p, j);
-        file.push(code, kind, &text)
+        file.push_pieces(code, kind, text)
     }
 
     /// Puts the columns before the `count`-th into a file that holds none. The digest takes each while the next is made.
@@ -130,17 +189,17 @@ impl EncodeWork<'_> {
         run: &Run<'_, R, G>,
         file: &mut GrowingFile,
         last: usize,
-    ) -> (Result<Vec<u8>, AllocError>, Result<(), AllocError>)
+    ) -> (Result<Vec<Vec<u8>>, AllocError>, Result<(), AllocError>)
         requires last { last < length (projection self.now.store.now.catalog.now self.now.p).columns }
         requires base { IsBase self.now.store.now.catalog.now self.now.p (base_at self.now.store.now.catalog.now self.now.p self.now.store.now.walked.rows self.now.numbers.now) }
-        ensures text { IfOk result.0 (λ text. IsTextAt self.now last text.items) }
+        ensures text { IfOk result.0 (λ text. IsTextAt self.now last (joined text.items)) }
         ensures file { OnOk result.1 ((s : ℕ) → HoldsFirst self.now s 0 file.old → HoldsFirst self.now s last file.new) }
     {
         join_mut(
             run.rt,
-            &mut || -> Result<Vec<u8>, AllocError>
+            &mut || -> Result<Vec<Vec<u8>>, AllocError>
                 requires { last < length (projection self.now.store.now.catalog.now self.now.p).columns }
-                ensures { IfOk result (λ text. IsTextAt self.entry.now last text.items) }
+                ensures { IfOk result (λ text. IsTextAt self.entry.now last (joined text.items)) }
             { self.text(run, last) },
             &mut || -> Result<(), AllocError>
                 requires { (last ≤ length (projection self.now.store.now.catalog.now self.now.p).columns) × IsBase self.now.store.now.catalog.now self.now.p (base_at self.now.store.now.catalog.now self.now.p self.now.store.now.walked.rows self.now.numbers.now) }
@@ -162,6 +221,8 @@ impl EncodeWork<'_> {
         let last = catalog.width(self.p) - 1;
         let rows = self.numbers.len() as u32;
         let mut file = GrowingFile::begin(self.alloc, catalog, self.p, s, rows)?;
+        // else what stands there is copied each time that the file grows
+        file.reserve(self.room())?;
         let (text, grown) = self.grow_beside(run, &mut file, last);
         grown?;
         self.push(&mut file, last, text?)?;

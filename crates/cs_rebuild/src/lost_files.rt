@@ -8,7 +8,7 @@ ghost use Rattle.cs_delta.specs.DeltaFile.{delta_text, no_changes};
 ghost use Rattle.cs_rebuild.specs.OnStore.{table_on, written_on};
 ghost use Rattle.cs_rebuild.specs.LostFiles.{IsToWrite, IsFileOf, name_of, base_names, names_in, lost_names};
 
-use crate::encoding::EncodeWork;
+use crate::encoding::LostSegment;
 use crate::ordered_store::OrderedStore;
 use crate::run::Run;
 use cs_board::{Gate, Round};
@@ -88,10 +88,10 @@ fn segment_bytes<R: Threads + Sync, G: Gate + Sync>(
     ensures { IfOk result (λ bytes. bytes.items ≡ segment_text store.now.catalog.now p s (base_of store.now.catalog.now p (map (project store.now.catalog.now p) (rows_of store.now.catalog.now (table_on store.now) p s)))) }
 {
     let _rules = store.catalog.projection_count();
-    let work = EncodeWork::of(run.alloc, store, p, s, run.cut);
-    let pieces = (store.catalog.width(p) as u32).wrapping_mul(work.per);
+    let segment = LostSegment::of(run.alloc, store, p, s, run.cut);
+    let pieces = (store.catalog.width(p) as u32).wrapping_mul(segment.per);
     run.gate.opened(Round::Columns, pieces);
-    work.file(run, s)
+    segment.file(run, s)
 }
 
 /// The file of a lost segment's delta: it has no changes.

@@ -151,7 +151,7 @@ pub fn read_store<'a, R: Threads + Sync, G: Gate + Sync>(
     read_segments(run, catalog, loss, files, true)
 }
 
-/// The same, as if the digest of each segment file were that of its text: `has_digests` tells whether they are, beside this.
+/// The same, as if the digest of each segment file were that of its text: `are_sealed` tells whether they are, beside this.
 pub fn read_texts<'a, R: Threads + Sync, G: Gate + Sync>(
     run: &Run<'_, R, G>,
     catalog: &'a Catalog,

@@ -105,7 +105,7 @@ impl<'a, R: Threads + Sync, G: Gate + Sync> Run<'a, R, G> {
     }
 
     /// The same, of tasks that are a part of a round that is open, with so many before them.
-    pub fn part<T: Tasks + Sync>(&self, before: u32, tasks: &T) -> Result<Vec<T::Out>, Fault>
+    pub(crate) fn part<T: Tasks + Sync>(&self, before: u32, tasks: &T) -> Result<Vec<T::Out>, Fault>
         ensures ok { IfOk result (λ outs. IsAnswered (T.fault_at tasks.now) (T.answers tasks.now) (T.tasks tasks.now) outs.items) }
         ensures err { IfErr result (λ fault. MemoryOr fault (IsFirstFault (T.fault_at tasks.now) (T.tasks tasks.now) fault)) }
     {

@@ -149,7 +149,7 @@ impl PlanWalk<'_, '_> {
     }
 }
 
-/// An empty column for each column of the table, each with room for so many cells.
+/// An empty column for each column of the table, each with room for so many cells, of texts for eight bytes each.
 pub(crate) fn new_columns(
     alloc: Global,
     catalog: &Catalog,
@@ -162,7 +162,7 @@ pub(crate) fn new_columns(
     let mut columns: Vec<Cells> = Vec::new(alloc);
     for c in 0..column_count(catalog) {
         let mut cells = Cells::new(alloc, kind(catalog, c));
-        cells.reserve(room)?;
+        cells.reserve(room, room.saturating_mul(8))?;
         columns.push(cells)?;
     }
     Ok(columns)

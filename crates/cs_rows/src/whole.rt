@@ -32,6 +32,25 @@ impl<'a> PlanWalk<'_, 'a> {
         true
     }
 
+    /// How many bytes the texts have together that the anchor's rows have in a column of the table.
+    fn text_size(&self, c: usize) -> usize
+        requires column { c < length self.now.survivors.now.catalog.columns }
+        requires read { slice_index self.now.plan.now.source c ≡ self.now.plan.now.anchor }
+    {
+        let anchor = anchor(self.plan);
+        let survivors = self.survivors;
+        let j = place_in(columns_of(survivors, anchor as usize), c);
+        let mut size: usize = 0;
+        for s in 0..segments(survivors, anchor) {
+            let segment = s as usize;
+            match survivors.image(anchor as usize, segment) {
+                Some(image) => size = size.saturating_add(image.column(j).text_size()),
+                None => {}
+            }
+        }
+        size
+    }
+
     /// Copies the cells that the anchor's rows have in a column of the table, image by image.
     fn copy_column(&self, alloc: Global, c: usize) -> Result<Cells, AllocError>
         requires column { c < length self.now.survivors.now.catalog.columns }
@@ -43,7 +62,7 @@ impl<'a> PlanWalk<'_, 'a> {
         let survivors = self.survivors;
         let j = place_in(columns_of(survivors, anchor as usize), c);
         let mut cells = Cells::new(alloc, self.kind(c));
-        cells.reserve(self.anchor_rows())?;
+        cells.reserve(self.anchor_rows(), self.text_size(c))?;
         for s in 0..segments(survivors, anchor) {
             match survivors.image(anchor as usize, s as usize) {
                 Some(image) => cells.extend(image.column(j), 0, image.rows() as usize)?,

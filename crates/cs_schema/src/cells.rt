@@ -263,14 +263,22 @@ impl Cells {
         Ok(())
     }
 
-    /// Makes room for so many more cells, of texts for eight bytes each.
-    pub fn reserve(&mut self, more: usize) -> Result<(), AllocError>
+    /// How many bytes the texts have together. Ints have none.
+    pub fn text_size(&self) -> usize {
+        match self {
+            Cells::Ints(_) => 0,
+            Cells::Texts(texts) => texts.size(),
+        }
+    }
+
+    /// Makes room for so many more cells, whose texts have so many bytes together.
+    pub fn reserve(&mut self, more: usize, bytes: usize) -> Result<(), AllocError>
         ensures kind { kind_of self.new ≡ kind_of self.old }
         ensures cells { values self.new ≡ values self.old }
     {
         match self {
             Cells::Ints(ints) => ints.reserve(more),
-            Cells::Texts(texts) => texts.reserve(more, more.saturating_mul(8)),
+            Cells::Texts(texts) => texts.reserve(more, bytes),
         }
     }
 

@@ -12,6 +12,17 @@ pub(crate) struct Ends {
     wide: Vec<u64>,
 }
 
+/// How ends are counted from another place of a block.
+#[derive(Clone, Copy)]
+pub(crate) struct Shift {
+    /// Where they were counted from.
+    pub(crate) less: usize,
+    /// Where they are counted from.
+    pub(crate) more: usize,
+    /// None of them is above it then.
+    pub(crate) top: usize,
+}
+
 impl Model for Ends {
     ghost use Rattle.std.specs.Prelude.{List, ℕ, ◌++◌};
 
@@ -67,40 +78,37 @@ impl Ends {
         Ok(())
     }
 
-    /// Adds other ends, from one place up to another, which were counted from one place in the block and are then
-    /// counted from another; none is then above `top`. A refusal changes nothing.
+    /// Adds other ends, from one place up to another, and shifts them. A refusal changes nothing.
     pub(crate) fn extend_moved(
         &mut self,
         other: &Ends,
         from: usize,
         to: usize,
-        less: usize,
-        more: usize,
-        top: usize,
+        shift: Shift,
     ) -> Result<(), AllocError>
         requires order { from ≤ to }
         requires within { to ≤ length other.now }
-        requires low { (k : ℕ) → k < to - from → less ≤ slice_index (take (to - from) (drop from other.now)) k }
-        requires high { (k : ℕ) → k < to - from → slice_index (take (to - from) (drop from other.now)) k + more ≤ top + less }
-        ensures ok { OnOk result (self.new ≡ self.old ++ map (λ e. e - less + more) (take (to - from) (drop from other.now))) }
+        requires low { (k : ℕ) → k < to - from → shift.less ≤ slice_index (take (to - from) (drop from other.now)) k }
+        requires high { (k : ℕ) → k < to - from → slice_index (take (to - from) (drop from other.now)) k + shift.more ≤ shift.top + shift.less }
+        ensures ok { OnOk result (self.new ≡ self.old ++ map (λ e. e - shift.less + shift.more) (take (to - from) (drop from other.now))) }
         ensures err { OnErr result (self.new ≡ self.old) }
     {
         let most = u32::MAX as usize;
         if to <= other.narrow.len()
             && self.wide.is_empty()
-            && less <= most
-            && more <= most
-            && top <= most
+            && shift.less <= most
+            && shift.more <= most
+            && shift.top <= most
         {
             return extend_narrow(
                 &mut self.narrow,
                 part(&other.narrow, from, to),
-                less as u32,
-                more as u32,
+                shift.less as u32,
+                shift.more as u32,
             );
         }
         let count = self.len();
-        let added = push_moved(self, other, from, to, less, more, top);
+        let added = push_moved(self, other, from, to, shift);
         if added.is_err() {
             self.truncate(count);
         }
@@ -137,26 +145,24 @@ pub(crate) fn part<T>(items: &[T], from: usize, to: usize) -> &[T]
     &items[from..to]
 }
 
-/// Adds moved ends one by one. After a refusal some of them stand there.
+/// Adds shifted ends one by one. After a refusal some of them stand there.
 fn push_moved(
     ends: &mut Ends,
     other: &Ends,
     from: usize,
     to: usize,
-    less: usize,
-    more: usize,
-    top: usize,
+    shift: Shift,
 ) -> Result<(), AllocError>
     requires order { from ≤ to }
     requires within { to ≤ length other.now }
-    requires low { (k : ℕ) → k < to - from → less ≤ slice_index (take (to - from) (drop from other.now)) k }
-    requires high { (k : ℕ) → k < to - from → slice_index (take (to - from) (drop from other.now)) k + more ≤ top + less }
-    ensures all { OnOk result (ends.new ≡ ends.old ++ map (λ e. e - less + more) (take (to - from) (drop from other.now))) }
+    requires low { (k : ℕ) → k < to - from → shift.less ≤ slice_index (take (to - from) (drop from other.now)) k }
+    requires high { (k : ℕ) → k < to - from → slice_index (take (to - from) (drop from other.now)) k + shift.more ≤ shift.top + shift.less }
+    ensures all { OnOk result (ends.new ≡ ends.old ++ map (λ e. e - shift.less + shift.more) (take (to - from) (drop from other.now))) }
     ensures kept { take (length ends.old) ends.new ≡ ends.old }
 {
     ends.reserve(to - from)?;
     for at in from..to {
-        ends.push(other.get(at) - less + more)?;
+        ends.push(other.get(at) - shift.less + shift.more)?;
     }
     Ok(())
 }

@@ -1,12 +1,13 @@
 //! Texts as one block: the bytes of all of them, and where each ends.
 ghost use Rattle.std.specs.Prelude.{◌≡◌, ◌==◌, ◌-◌, ◌<◌, ◌≤◌, [], ◌∷◌, ◌++◌, ℕ, length, take, drop, slice_get, slice_index, Some, IsUtf8, OnOk, OnErr, IsTrue, ◌↔◌};
+ghost use Rattle.std.specs.List.{concat};
 ghost use Rattle.std.specs.Option.{option_cmp};
 ghost use Rattle.std.specs.Ordering.{nat_cmp};
 ghost use Rattle.std.specs.Cmp.Lexicographic.{slice_cmp};
 ghost use Rattle.cs_schema.specs.Blocks.{start_at, texts_at};
 
 use crate::Word;
-use crate::ends::{Ends, part};
+use crate::ends::{Ends, Shift, part};
 use std::alloc::{AllocError, Global};
 use std::cmp::Ordering;
 use std::marker::Model;
@@ -48,6 +49,13 @@ impl Texts {
         ensures { result ≡ length self.now }
     {
         self.ends.len()
+    }
+
+    /// How many bytes the texts have together.
+    pub fn size(&self) -> usize
+        ensures { result ≡ length (concat self.now) }
+    {
+        self.bytes.len()
     }
 
     /// Whether there are none.
@@ -144,10 +152,14 @@ impl Texts {
         let count = self.bytes.len();
         let more = part(&other.bytes, start, end);
         self.bytes.extend_from_slice(more)?;
-        let top = count + more.len();
+        let shift = Shift {
+            less: start,
+            more: count,
+            top: count + more.len(),
+        };
         if self
             .ends
-            .extend_moved(&other.ends, from, to, start, count, top)
+            .extend_moved(&other.ends, from, to, shift)
             .is_err()
         {
             self.bytes.truncate(count);
@@ -204,7 +216,7 @@ impl Texts {
 
     /// How many bytes the texts at some places have together, where that is a number of 64 bits. It reads no text, so that
     /// the reads don't wait for one another.
-    fn size_at(&self, places: &[u32]) -> usize
+    pub fn size_at(&self, places: &[u32]) -> usize
         requires { (k : ℕ) → k < length places.now → slice_index places.now k < length self.now }
     {
         let mut size: usize = 0;

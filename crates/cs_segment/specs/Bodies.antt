@@ -15,9 +15,13 @@ use Rattle.cs_segment.specs.SegmentFile.{code_number, kind_number, sealed}
 use Rattle.cs_segment.specs.SegmentData.{kinds_at}
 use Rattle.cs_segment.specs.Parts.{BeginsWithHead, AreParts}
 
--- a column's part: its code and kind, and the length of its body before the body
+-- what stands before a column's body: its code and kind, and how many bytes the body has
+abbrev pub part_front : Code → Kind → ℕ → List ℕ
+part_front code kind count = code_number code ∷ kind_number kind ∷ be32 count
+
+-- a column's part: what stands before its body, and the body
 abbrev pub body_part : Code → Kind → List ℕ → List ℕ
-body_part code kind body = code_number code ∷ kind_number kind ∷ be32 (length body) ++ body
+body_part code kind body = part_front code kind (length body) ++ body
 
 -- the bytes begin with the part of a column of this body
 pub record BeginsWithBody (code : Code) (kind : Kind) (bytes body rest : List ℕ) : Type 0 where

@@ -3,7 +3,8 @@ ghost use Rattle.std.specs.Prelude.{◌≡◌, ◌++◌, ◌<◌, ◌≤◌, ◌
 ghost use Rattle.cs_schema.specs.CatalogData.{projection};
 ghost use Rattle.cs_segment.specs.SegmentFile.{sealed};
 ghost use Rattle.cs_segment.specs.Parts.{head_text};
-ghost use Rattle.cs_segment.specs.Bodies.{body_part};
+ghost use Rattle.cs_segment.specs.Bodies.{body_part, part_front};
+ghost use Rattle.cs_segment.specs.Growing.{joined};
 
 use crate::seal::DIGEST;
 use crate::segment::{code_number, kind_number};
@@ -54,6 +55,18 @@ fn head_of(
     Ok(out)
 }
 
+/// How many bytes the pieces of a text have together.
+fn length_of(text: &[Vec<u8>]) -> usize
+    requires { length (joined text.now) < 2 ^ 32 }
+    ensures { result ≡ length (joined text.now) }
+{
+    let mut length = 0;
+    for piece in text {
+        length += piece.len();
+    }
+    length
+}
+
 impl GrowingFile {
     /// The file of a segment of so many rows, up to its first column.
     pub fn begin(
@@ -73,18 +86,55 @@ impl GrowingFile {
         })
     }
 
+    /// Makes room for so many more bytes: while they last, nothing that stands there is copied to grow.
+    pub fn reserve(&mut self, bytes: usize) -> Result<(), AllocError>
+        ensures { self.new ≡ self.old }
+    {
+        self.text.reserve(bytes)
+    }
+
+    /// Puts what stands before the text of a column: its code, its kind, and how many bytes the text has.
+    fn open_part(&mut self, code: Code, kind: Kind, length: usize) -> Result<(), AllocError>
+        requires { length < 2 ^ 32 }
+        ensures { OnOk result (self.new ≡ self.old ++ part_front code kind length) }
+    {
+        // so that the digest behind the last part finds room too
+        self.text.reserve(length.saturating_add(6 + DIGEST))?;
+        self.text.push(code_number(code))?;
+        self.text.push(kind_number(kind))?;
+        self.text.extend_from_slice(&(length as u32).to_be_bytes())
+    }
+
+    /// Puts bytes at the end.
+    fn extend(&mut self, bytes: &[u8]) -> Result<(), AllocError>
+        ensures { OnOk result (self.new ≡ self.old ++ bytes.now) }
+    {
+        self.text.extend_from_slice(bytes)
+    }
+
     /// Puts the part of a column, of which this is the text, at the end. A refusal may leave the beginning of the part there.
     pub fn push(&mut self, code: Code, kind: Kind, text: &[u8]) -> Result<(), AllocError>
         requires { length text.now < 2 ^ 32 }
         ensures { OnOk result (self.new ≡ self.old ++ body_part code kind text.now) }
     {
-        // so that the digest behind the last part finds room too
-        self.text.reserve(text.len().saturating_add(6 + DIGEST))?;
-        self.text.push(code_number(code))?;
-        self.text.push(kind_number(kind))?;
-        self.text
-            .extend_from_slice(&(text.len() as u32).to_be_bytes())?;
-        self.text.extend_from_slice(text)?;
+        self.open_part(code, kind, text.len())?;
+        self.extend(text)
+    }
+
+    /// The same of a text that stands in pieces, one after the other. Each is let go of once it is put.
+    pub fn push_pieces(
+        &mut self,
+        code: Code,
+        kind: Kind,
+        text: Vec<Vec<u8>>,
+    ) -> Result<(), AllocError>
+        requires { length (joined text.items) < 2 ^ 32 }
+        ensures { OnOk result (self.new ≡ self.old ++ body_part code kind (joined text.items)) }
+    {
+        self.open_part(code, kind, length_of(text.as_slice()))?;
+        for piece in text {
+            self.extend(&piece)?;
+        }
         Ok(())
     }
 

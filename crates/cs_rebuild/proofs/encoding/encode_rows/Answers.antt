@@ -7,8 +7,8 @@ use Rattle.cs_rebuild.specs.Encoding.{values_at, cut_at}
 use Rattle.cs_rebuild.proofs.Encodings.{cut_fits, front_fits, first_cut, one_more, all_cuts}
 use Rattle.cs_rebuild.proofs.encoding.encode_rows.Goals as goal
 
-pub encode_copies-requires-clause-order : goal.encode_copies-requires-clause-order
-encode_copies-requires-clause-order c =
+pub encode_cells-requires-clause-order : goal.encode_cells-requires-clause-order
+encode_cells-requires-clause-order c =
     let g = c.args.store.now in
     let C = g.catalog.now in
     subst (λ l. FitsCode (code_at C c.args.p c.args.j) (kind_at C c.args.p c.args.j) (values_at C c.args.p g.walked.rows c.args.j l)) (sym c.cut_of.ensures)
@@ -26,8 +26,8 @@ loop-k-init c =
     (c.reserve.ensures (code_at C p j) (kind_at C p j) (values_at C p rows j (cut_at few c.args.numbers.now 0))
     (subst (λ l. IsPieceOf c.in_ok-column.column (code_at C p j) (kind_at C p j) (values_at C p rows j l)) c.cut_of.ensures c.in_ok-column.ensures))
 
-pub encode_copies-requires-in-loop-k-clause-order : goal.encode_copies-requires-in-loop-k-clause-order
-encode_copies-requires-in-loop-k-clause-order c =
+pub encode_cells-requires-in-loop-k-clause-order : goal.encode_cells-requires-in-loop-k-clause-order
+encode_cells-requires-in-loop-k-clause-order c =
     let g = c.args.store.now in
     let C = g.catalog.now in
     subst (λ l. FitsCode (code_at C c.args.p c.args.j) (kind_at C c.args.p c.args.j) (values_at C c.args.p g.walked.rows c.args.j l)) (sym c.cut_of-in-loop-k.ensures)

@@ -11,7 +11,7 @@ use Rattle.cs_rebuild.proofs.lost_files.segment_bytes.Goals as goal
 pub file-requires : goal.file-requires
 file-requires g c =
     let x = c.args.store.now in
-    let made = c.of-work.ensures in (
+    let made = c.of-segment.ensures in (
       search (sendable, crosses) depth 40,
       (
         search (sendable, crosses) depth 40,
@@ -23,7 +23,7 @@ file-requires g c =
 pub returns : goal.returns
 returns g c =
     let x = c.args.store.now in
-    let made = c.of-work.ensures in
+    let made = c.of-segment.ensures in
     let base = base_here x.catalog.now c.projection_count-rules.ensures.rules x.walked x.orders x.table x.fits c.args.p c.args.s c.requires.segment x.each in
     IfOk-then c.file.result _ _ c.file.ensures (λ bytes h.
     on_segment (λ x p ns. bytes.items ≡ segment_text x.catalog.now p c.args.s (base_at x.catalog.now p x.walked.rows ns)) made.store made.projection made.numbers h ∙ ap (segment_text x.catalog.now c.args.p c.args.s) base)

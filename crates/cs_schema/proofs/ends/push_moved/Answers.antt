@@ -22,7 +22,7 @@ overflow_add-get c =
     let here = in_part c.args.other.now c.args.from c.args.to c.loop-at.at (omega arith) (omega arith) in
     let low = c.requires.low (c.loop-at.at - c.args.from) (omega arith) in
     let high = c.requires.high (c.loop-at.at - c.args.from) (omega arith) in
-    omega (arith, c.ranges.top.fits)
+    omega arith
 
 -- one more end
 step : (initial ends new es : List ℕ) (from at less more e : ℕ) → from ≤ at → at < length es
@@ -45,5 +45,5 @@ step initial ends new es from at less more e h k before read added =
 
 pub loop-at-preserved : goal.loop-at-preserved
 loop-at-preserved c =
-    step c.reserve.new.self c.loop-at.ends c.push.new.self c.args.other.now c.args.from c.loop-at.at c.args.less c.args.more c.get.result
+    step c.reserve.new.self c.loop-at.ends c.push.new.self c.args.other.now c.args.from c.loop-at.at c.args.shift.less c.args.shift.more c.get.result
     (omega arith) (omega arith) c.loop-at.invariant c.get.ensures c.in_ok-push.ensures.ok
