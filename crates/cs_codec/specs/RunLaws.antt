@@ -108,6 +108,9 @@ RunsHold-runs_of eq is_cell [] h = tt
 RunsHold-runs_of eq is_cell (x ∷ xs) h = RunsHold-before eq is_cell x (runs_of eq xs) h.0 (RunsHold-runs_of eq is_cell xs h.1)
 
 -- ---- one list of runs has one text
+same_run : {C : Type 0} (r s : Run C) → r.value ≡ s.value → r.count ≡ s.count → r ≡ s
+same_run {C} r s v n = ap (λ (x : C). record { value = x; count = r.count }) v ∙ ap (λ (k : ℕ). record { value = s.value; count = k }) n
+
 -- what begins with two runs
 pub run_begins_one : {C : Type 0} (bytes : C → List ℕ) (is_cell : C → Type 0) (one : BeginsOne bytes is_cell) (r s : Run C) (p q : ℕ) (x y : List ℕ) → is_cell r.value → is_cell s.value → p < 2 ^ 32 → q < 2 ^ 32 → r.count < 2 ^ 32 → s.count < 2 ^ 32 → (bytes r.value ++ number p ++ number r.count) ++ x ≡ (bytes s.value ++ number q ++ number s.count) ++ y → (r ≡ s) × (p ≡ q) × (x ≡ y)
 run_begins_one {C} bytes is_cell one r s p q x y hr hs lp lq lr ls e =
@@ -115,8 +118,7 @@ run_begins_one {C} bytes is_cell one r s p q x y hr hs lp lq lr ls e =
     let values = one r.value s.value (number p ++ (number r.count ++ x)) (number q ++ (number s.count ++ y)) hr hs (sym (regroup r p x) ∙ e ∙ regroup s q y) in
     let positions = number_begins_one p q (number r.count ++ x) (number s.count ++ y) lp lq values.1 in
     let counts = number_begins_one r.count s.count x y lr ls positions.1 in
-    let same : r ≡ s = ap (λ (v : C). record { value = v; count = r.count }) values.0 ∙ ap (λ (n : ℕ). record { value = s.value; count = n }) counts.0 in
-    (same, positions.0, counts.1)
+    (same_run r s values.0 counts.0, positions.0, counts.1)
 
 pub length-expand-cons : {C : Type 0} (r : Run C) (rs : List (Run C)) → length (expand (r ∷ rs)) ≡ r.count + length (expand rs)
 length-expand-cons r rs = length-append (replicate r.count r.value) (expand rs) ∙ ap (λ (n : ℕ). n + length (expand rs)) (length-replicate r.count r.value)

@@ -169,8 +169,8 @@ pub(crate) fn candidate<C: Cell, L: Column<C>>(
         IsOnlyCandidate C.bytes C.is_cell C.eq C.cmp bytes.now rows (L.cells column))) }
     ensures none { IfOk result (λ found. IfNone found (NoBitmaps C.bytes C.is_cell C.eq C.cmp bytes.now rows)) }
 {
-    let mut values = L::new(alloc);
     let mut numbers = zeros(alloc, rows)?;
+    let mut values = L::new(alloc);
     let mut lengths = Vec::new(alloc);
     let mut count = 0;
     let mut at = 0;
@@ -199,9 +199,5 @@ pub(crate) fn candidate<C: Cell, L: Column<C>>(
 fn zeros(alloc: Global, rows: u32) -> Result<Vec<u32>, AllocError>
     ensures { IfOk result (λ numbers. numbers.items ≡ replicate rows 0) }
 {
-    let mut numbers = Vec::with_capacity(alloc, rows as usize)?;
-    for _ in 0..rows {
-        numbers.push(0)?;
-    }
-    Ok(numbers)
+    vec![in alloc; 0; rows as usize]
 }

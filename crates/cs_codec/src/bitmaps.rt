@@ -221,6 +221,15 @@ fn text_of<C: Cell>(alloc: Global, bitmaps: &BTreeMap<C, Bitmap>) -> Result<Vec<
     Ok(out)
 }
 
+/// The text of the bitmaps of the cells of a column.
+fn text_of_all<C: Cell, L: Column<C>>(alloc: Global, column: &L) -> Result<Vec<u8>, AllocError>
+    requires { IsShort (L.cells column.now) }
+    ensures { IfOk result (λ out. out.items ≡ bitmaps_text C.bytes C.eq C.cmp (L.cells column.now)) }
+{
+    let bitmaps = bitmaps_of_all(alloc, column)?;
+    text_of(alloc, &bitmaps)
+}
+
 /// Columns as bitmaps: of each distinct value, ascending, the lengths of the runs of positions without and with it.
 pub struct Bitmaps;
 
@@ -264,7 +273,7 @@ impl<C: Cell, L: Column<C>> ColumnEncoding<C, L> for Bitmaps {
 
     fn write(alloc: Global, part: &BitmapsPart<C>) -> Result<Vec<u8>, AllocError> {
         match &part.kept {
-            Kept::Cells(few) => text_of(alloc, &bitmaps_of_all(alloc, &few.cells)?),
+            Kept::Cells(few) => text_of_all(alloc, &few.cells),
             Kept::Bitmaps(bitmaps) => text_of(alloc, bitmaps),
         }
     }
@@ -276,8 +285,7 @@ impl<C: Cell, L: Column<C>> ColumnEncoding<C, L> for Bitmaps {
         let Some(column) = candidate::<C, L>(alloc, bytes, rows)? else {
             return Err(CodecFault::NotAText);
         };
-        let bitmaps = bitmaps_of_all::<C, L>(alloc, &column)?;
-        let text = text_of(alloc, &bitmaps)?;
+        let text = text_of_all::<C, L>(alloc, &column)?;
         if text.as_slice() != bytes {
             return Err(CodecFault::NotAText);
         }

@@ -95,18 +95,29 @@ impl<C: Cell, L: Column<C>> RunsPart<C, L> {
         Ok((values, counts))
     }
 
+    /// Adds the cells of the part after those of some runs.
+    #[inline]
+    fn append_to(self, values: &mut L, counts: &mut Vec<u32>) -> Result<(), AllocError>
+        requires short { length (expand (zip_runs (L.cells values.old) counts.old.items)) + length self ≤ 1048576 }
+        requires runs { AreColumnsOfRuns C.eq (L.cells values.old) counts.old.items }
+        ensures cells { OnOk result (expand (zip_runs (L.cells values.new) counts.new.items) ≡ expand (zip_runs (L.cells values.old) counts.old.items) ++ self) }
+        ensures runs { OnOk result (AreColumnsOfRuns C.eq (L.cells values.new) counts.new.items) }
+    {
+        let others = self.values;
+        let other_counts = self.counts;
+        if let Some(bits) = self.lone {
+            return push_cell(values, counts, &C::from_bits(bits));
+        }
+        append_runs(values, counts, others, other_counts)
+    }
+
     fn followed_by(self, other: Self) -> Result<Self, AllocError>
         requires { IsShort (self ++ other) }
         ensures { IfOk result (λ part. part ≡ self ++ other) }
     {
         let count = self.count + other.count;
         let (mut values, mut counts) = self.into_runs()?;
-        let others = other.values;
-        let other_counts = other.counts;
-        match other.lone {
-            Some(bits) => push_cell(&mut values, &mut counts, &C::from_bits(bits))?,
-            None => append_runs(&mut values, &mut counts, others, other_counts)?,
-        }
+        other.append_to(&mut values, &mut counts)?;
         Ok(RunsPart {
             values,
             counts,

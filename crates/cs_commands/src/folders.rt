@@ -6,6 +6,7 @@ use cs_board::OpenGate;
 use cs_folders::{FileLimits, OutputFolder, StoreFolder};
 use cs_store::StoreFault;
 use std::alloc::Global;
+use std::marker::Sync;
 use std::rt::Files;
 
 /// The folders of the system, with the number of faults that were met in finding and making them.
@@ -29,7 +30,7 @@ impl<R> Folders<R> {
     }
 }
 
-impl<R: Files + Copy> Places for Folders<R> {
+impl<R: Files + Copy + Sync> Places for Folders<R> {
     type Store = StoreFolder<R>;
 
     type Output = OutputFolder<R>;

@@ -4,17 +4,19 @@ ghost use Rattle.cs_store.specs.Fault.{CountsFault};
 ghost use Rattle.cs_store.specs.declared.fault.StoreFault.{StoreFault};
 
 use cs_board::Gate;
-use cs_store::{Sink, Source, StoreFault};
+use cs_reading::SharedSource;
+use cs_store::{Source, StoreFault};
+use cs_writing::BatchSink;
 use std::marker::Sync;
 
 /// Stores and outputs by path. Places in memory can say by their ghost members what they found and made; those over
 /// folders say nothing.
 pub trait Places {
-    /// A store's files.
-    type Store: Source + Drop;
+    /// A store's files, which are read side by side.
+    type Store: Source + SharedSource + Drop;
 
-    /// What takes the files of a recovery.
-    type Output: Sink + Drop;
+    /// What takes the files of a recovery, which are written side by side where it can.
+    type Output: BatchSink + Drop;
 
     /// What is told of the pieces of a command's work.
     type Watch: Gate + Sync;

@@ -2,15 +2,18 @@
 ghost use Rattle.std.specs.Prelude.{◌≡◌, ◌≢◌, ◌≤◌, ◌⊎◌, IfOk, OnErr, length};
 ghost use Rattle.cs_commands.specs.Commands.{LooksUp, LoadsStore, ChecksStore, RecoversStore, StopsRecovery, Stops, Performs};
 ghost use Rattle.cs_commands.specs.declared.program.Answer.{Answer};
+ghost use Rattle.cs_reading.specs.Standing.{standing};
 
 use crate::places::Places;
 use crate::request::{Recovery, Request, WordsFault, parse};
 use crate::sample;
 use crate::stop::{DEVICE, DONE, Stop, report};
 use cs_catalog::read_catalog;
+use cs_reading::load_side_by_side;
 use cs_rebuild::{Run, check_owned, rebuild, rebuild_owned};
 use cs_schema::{Catalog, Loss};
-use cs_store::{FileSet, StoreFault, load, save};
+use cs_store::{FileSet, StoreFault};
+use cs_writing::save_batch;
 use std::alloc::Global;
 use std::fmt;
 use std::io::Write;
@@ -63,12 +66,12 @@ pub fn run<R: Threads + Sync, P: Places, W: Write, E: Write>(
     err: &mut E,
 ) -> u8
     ensures status { result ≤ 4 }
-    ensures done { result ≡ DONE → (answer : Answer) × Performs P.finds P.Store.gives P.makes
+    ensures done { result ≡ DONE → (answer : Answer) × Performs P.finds (standing P.Store.answers) P.makes
         P.Output.takes P.Output.marks (length words.now) places.old places.new answer }
     // where all was done, the answer could not be printed
     ensures stopped { result ≢ DONE
-        → Stops P.finds P.Store.gives P.makes P.misses P.denies places.old places.new
-        ⊎ ((answer : Answer) × Performs P.finds P.Store.gives P.makes P.Output.takes P.Output.marks
+        → Stops P.finds (standing P.Store.answers) P.makes P.misses P.denies places.old places.new
+        ⊎ ((answer : Answer) × Performs P.finds (standing P.Store.answers) P.makes P.Output.takes P.Output.marks
         (length words.now) places.old places.new answer) }
 {
     match perform(rt, alloc, words, places) {
@@ -87,9 +90,9 @@ fn perform<R: Threads + Sync, P: Places>(
     words: &[String],
     places: &mut P,
 ) -> Result<Answer, Stop>
-    ensures ok { IfOk result (Performs P.finds P.Store.gives P.makes P.Output.takes P.Output.marks
+    ensures ok { IfOk result (Performs P.finds (standing P.Store.answers) P.makes P.Output.takes P.Output.marks
         (length words.now) places.old places.new) }
-    ensures err { OnErr result (Stops P.finds P.Store.gives P.makes P.misses P.denies places.old places.new) }
+    ensures err { OnErr result (Stops P.finds (standing P.Store.answers) P.makes P.misses P.denies places.old places.new) }
 {
     if words.is_empty() {
         return rebuild_sample(rt, alloc).map(Answer::Sample);
@@ -124,11 +127,11 @@ fn check_store<R: Threads + Sync, P: Places>(
     path: &str,
     k: u8,
 ) -> Result<u64, Stop>
-    ensures ok { IfOk result (λ rows. ChecksStore P.finds P.Store.gives
+    ensures ok { IfOk result (λ rows. ChecksStore P.finds (standing P.Store.answers)
         places.old path.now k rows places.new) }
     ensures err { OnErr result (LooksUp P.finds P.misses places.old path.now places.new) }
 {
-    let (catalog, files) = match load_store(alloc, places, path, Loss::none()) {
+    let (catalog, files) = match load_store(rt, alloc, places, path, Loss::none()) {
         Ok(loaded) => loaded,
         Err(stop) => return Err(stop),
     };
@@ -153,9 +156,9 @@ fn recover_store<R: Threads + Sync, P: Places>(
     places: &mut P,
     recovery: Recovery<'_>,
 ) -> Result<usize, Stop>
-    ensures ok { IfOk result (λ count. RecoversStore P.finds P.Store.gives P.makes P.Output.takes P.Output.marks
+    ensures ok { IfOk result (λ count. RecoversStore P.finds (standing P.Store.answers) P.makes P.Output.takes P.Output.marks
         places.old recovery.entry.store.now recovery.entry.loss recovery.entry.output.now count places.new) }
-    ensures err { OnErr result (StopsRecovery P.finds P.Store.gives P.makes P.misses P.denies
+    ensures err { OnErr result (StopsRecovery P.finds (standing P.Store.answers) P.makes P.misses P.denies
         places.old recovery.entry.store.now recovery.entry.loss recovery.entry.output.now places.new) }
 {
     let Recovery {
@@ -165,7 +168,7 @@ fn recover_store<R: Threads + Sync, P: Places>(
         output,
         loss,
     } = recovery;
-    let (catalog, files) = match load_store(alloc, places, store, loss) {
+    let (catalog, files) = match load_store(rt, alloc, places, store, loss) {
         Ok(loaded) => loaded,
         Err(stop) => return Err(stop),
     };
@@ -180,29 +183,30 @@ fn recover_store<R: Threads + Sync, P: Places>(
         Ok(rebuilt) => rebuilt,
         Err(fault) => return Err(Stop::Store(fault)),
     };
-    let mut sink = match places.output(output) {
+    let sink = match places.output(output) {
         Ok(sink) => sink,
         Err(StoreFault::Memory) => return Err(Stop::Memory),
         Err(StoreFault::Device) => return Err(Stop::MakeOutput),
     };
-    match save(&rebuilt, &mut sink) {
+    match save_batch(rt, alloc, &rebuilt, sink) {
         Ok(()) => Ok(rebuilt.len()),
         Err(fault) => Err(Stop::Store(fault)),
     }
 }
 
 /// The catalog of the store at this path, and the files that survive the loss.
-fn load_store<P: Places>(
+fn load_store<R: Threads + Sync, P: Places>(
+    rt: &R,
     alloc: Global,
     places: &mut P,
     path: &str,
     loss: Loss,
 ) -> Result<(Catalog, FileSet), Stop>
-    ensures ok { IfOk result (λ loaded. LoadsStore P.finds P.Store.gives
+    ensures ok { IfOk result (λ loaded. LoadsStore P.finds (standing P.Store.answers)
         places.old path.now loss loaded.0 loaded.1 places.new) }
     ensures err { OnErr result (LooksUp P.finds P.misses places.old path.now places.new) }
 {
-    let (bytes, mut store) = match places.store(path) {
+    let (bytes, store) = match places.store(path) {
         Ok(found) => found,
         Err(StoreFault::Memory) => return Err(Stop::Memory),
         Err(StoreFault::Device) => return Err(Stop::ReadCatalog),
@@ -211,7 +215,7 @@ fn load_store<P: Places>(
         Ok(catalog) => catalog,
         Err(fault) => return Err(Stop::Catalog(fault)),
     };
-    match load(alloc, &catalog, loss, &mut store) {
+    match load_side_by_side(rt, alloc, &catalog, loss, &store) {
         Ok(files) => Ok((catalog, files)),
         Err(fault) => Err(Stop::Store(fault)),
     }

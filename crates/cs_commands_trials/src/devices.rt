@@ -12,13 +12,20 @@ use std::process::Abort;
 use std::test::Fail;
 use std::thread::Threads;
 
-const READS: [&str; 6] = [
-    "fault: read p0.s0.seg\n",
-    "fault: read p0.s0.del\n",
-    "fault: read p0.s0.q1.jix\n",
-    "fault: read p1.s0.seg\n",
-    "fault: read p1.s0.del\n",
-    "fault: read p1.s0.q0.jix\n",
+/// The files that survive, and what is told where the read of one fails.
+const READS: [(FileName, &str); 6] = [
+    (FileName::Seg { p: 0, s: 0 }, "fault: read p0.s0.seg\n"),
+    (FileName::Del { p: 0, s: 0 }, "fault: read p0.s0.del\n"),
+    (
+        FileName::Jix { p: 0, s: 0, q: 1 },
+        "fault: read p0.s0.q1.jix\n",
+    ),
+    (FileName::Seg { p: 1, s: 0 }, "fault: read p1.s0.seg\n"),
+    (FileName::Del { p: 1, s: 0 }, "fault: read p1.s0.del\n"),
+    (
+        FileName::Jix { p: 1, s: 0, q: 0 },
+        "fault: read p1.s0.q0.jix\n",
+    ),
 ];
 
 const WRITES: [&str; 5] = [
@@ -37,64 +44,67 @@ const JOINED_WRITES: [&str; 3] = [
 
 const NO_MEMORY: &str = "fault: want of memory\n";
 
-/// Which calls fail.
-#[derive(Clone, Copy)]
-enum Calls {
-    Reads,
-    Writes,
-}
-
-/// Tries a line where a call fails.
-fn expect_failure(
+/// Tries a line where the read of a file fails.
+fn expect_unread(
     rt: &(impl Threads + Sync + AllocGlobal + Abort),
     stored: &Stored,
-    calls: Calls,
-    failure: Failure,
+    failure: (FileName, StoreFault),
     trial: &Trial,
 ) -> Result<(), Fail> {
     let mut places = places_of(rt.alloc(), stored)?;
-    match calls {
-        Calls::Reads => places.read_failure = Some(failure),
-        Calls::Writes => places.write_failure = Some(failure),
-    }
+    places.read_failure = Some(failure);
     expect(rt, &mut places, trial)
-}
-
-/// Tries a line where each call in turn fails, of the device and for want of memory. The texts are those of the device.
-fn expect_failures(
-    rt: &(impl Threads + Sync + AllocGlobal + Abort),
-    stored: &Stored,
-    calls: Calls,
-    line: &'static str,
-    texts: &[&'static str],
-) -> Result<(), Fail> {
-    for (after, text) in (0u64..).zip(texts.iter()) {
-        let (asked, files) = match calls {
-            Calls::Reads => ("S", 0),
-            Calls::Writes => ("S > O", after as usize),
-        };
-        let fault = StoreFault::Device;
-        let told = (line, 4, "", *text, asked, files);
-        expect_failure(rt, stored, calls, Failure { after, fault }, &told)?;
-        let fault = StoreFault::Memory;
-        let told = (line, 3, "", NO_MEMORY, asked, files);
-        expect_failure(rt, stored, calls, Failure { after, fault }, &told)?;
-    }
-    Ok(())
 }
 
 #[test]
 fn names_each_read_that_fails(rt: HostRuntime) -> Result<(), Fail> {
     let line = "recover --workers 2 --cut 1 S O 3";
-    expect_failures(&rt, &joined(&rt)?, Calls::Reads, line, &READS)
+    let stored = joined(&rt)?;
+    for (name, text) in READS.iter() {
+        let told = (line, 4, "", *text, "S", 0);
+        expect_unread(&rt, &stored, (*name, StoreFault::Device), &told)?;
+        let told = (line, 3, "", NO_MEMORY, "S", 0);
+        expect_unread(&rt, &stored, (*name, StoreFault::Memory), &told)?;
+    }
+    Ok(())
+}
+
+/// Tries a line where a call that writes fails.
+fn expect_unwritten(
+    rt: &(impl Threads + Sync + AllocGlobal + Abort),
+    stored: &Stored,
+    failure: Failure,
+    trial: &Trial,
+) -> Result<(), Fail> {
+    let mut places = places_of(rt.alloc(), stored)?;
+    places.write_failure = Some(failure);
+    expect(rt, &mut places, trial)
+}
+
+/// Tries a line where each call that writes fails in turn, of the device and for want of memory. The texts are those of the device.
+fn expect_unwritten_each(
+    rt: &(impl Threads + Sync + AllocGlobal + Abort),
+    stored: &Stored,
+    line: &'static str,
+    texts: &[&'static str],
+) -> Result<(), Fail> {
+    for (after, text) in (0u64..).zip(texts.iter()) {
+        let fault = StoreFault::Device;
+        let told = (line, 4, "", *text, "S > O", after as usize);
+        expect_unwritten(rt, stored, Failure { after, fault }, &told)?;
+        let fault = StoreFault::Memory;
+        let told = (line, 3, "", NO_MEMORY, "S > O", after as usize);
+        expect_unwritten(rt, stored, Failure { after, fault }, &told)?;
+    }
+    Ok(())
 }
 
 #[test]
 fn names_each_write_that_fails(rt: HostRuntime) -> Result<(), Fail> {
     let line = "recover S O 2 3";
-    expect_failures(&rt, &three_projections(&rt)?, Calls::Writes, line, &WRITES)?;
+    expect_unwritten_each(&rt, &three_projections(&rt)?, line, &WRITES)?;
     let line = "recover S O 3";
-    expect_failures(&rt, &joined(&rt)?, Calls::Writes, line, &JOINED_WRITES)
+    expect_unwritten_each(&rt, &joined(&rt)?, line, &JOINED_WRITES)
 }
 
 #[test]

@@ -1,7 +1,7 @@
 //! The program, over folders of the system that are made where the tests run.
 use crate::expecting::{answer_of, expect_answer};
 use crate::stores::{Stored, sample_store};
-use cs_commands::Folders;
+use cs_commands::{Folders, Places};
 use std::fs;
 use std::fs::{File, OpenFile};
 use std::marker::Sync;
@@ -33,15 +33,15 @@ const LINES: [Line; 6] = [
     ),
 ];
 
-/// Runs lines over the system's folders, and asks for their statuses and texts.
-fn expect_over<R: Threads + Sync + AllocGlobal + Abort + Files + Copy>(
-    rt: R,
+/// Runs lines over places, and asks for their statuses and texts.
+fn expect_over<P: Places>(
+    rt: &(impl Threads + Sync + AllocGlobal + Abort),
+    places: &mut P,
     lines: &[Line],
 ) -> Result<(), Fail> {
     for (line, status, out, err) in lines {
-        let mut places = Folders::new(rt.alloc(), rt);
-        let answer = answer_of(&rt, line, &mut places)?;
-        expect_answer(&rt, line, &answer, *status, out, err);
+        let answer = answer_of(rt, line, places)?;
+        expect_answer(rt, line, &answer, *status, out, err);
     }
     Ok(())
 }
@@ -89,13 +89,14 @@ fn runs_over_folders(rt: HostRuntime) -> Result<(), Fail> {
     let _ = fs::remove_dir_all(&rt, "tried");
     fs::create_dir(&rt, "tried")?;
     put_store(&rt, "tried/S", &sample_store(rt.alloc())?)?;
-    expect_over(rt, &LINES)?;
+    let mut places = Folders::new(rt.alloc(), rt);
+    expect_over(&rt, &mut places, &LINES)?;
     let mark = fs::read_to_string(&rt, "tried/O/DONE")?;
     assert_eq!(rt; mark.as_str(), "files=2\n");
     put_too_long(&rt, "tried/S/p1.s0.seg")?;
-    expect_over(rt, &TOO_LONG)?;
+    expect_over(&rt, &mut places, &TOO_LONG)?;
     put_folder(&rt, "tried/S/p0.s0.del")?;
-    expect_over(rt, &NO_FILE)?;
+    expect_over(&rt, &mut places, &NO_FILE)?;
     fs::remove_dir_all(&rt, "tried")?;
     Ok(())
 }

@@ -12,6 +12,8 @@ mod folders;
 #[cfg(test)]
 mod places;
 #[cfg(test)]
+mod store;
+#[cfg(test)]
 mod stores;
 #[cfg(test)]
 mod streams;

@@ -1,12 +1,14 @@
 //! Places in memory, for one store and one output.
 ghost use Rattle.std.specs.Prelude.{◌≡◌, ⊤};
 
+use crate::store::MemoryStore;
 use crate::stores::{Stored, put_all};
 use crate::watch::Watch;
 use cs_commands::Places;
 use cs_schema::FileName;
-use cs_store::memory::{Failure, MemorySink, MemorySource};
+use cs_store::memory::{Failure, MemorySink};
 use cs_store::{FileSet, Sink, StoreFault};
+use cs_writing::{BatchSink, NoWriter};
 use std::alloc::{AllocError, Global};
 use std::cell::RefCell;
 use std::rc::Rc;
@@ -29,7 +31,8 @@ pub struct MemoryPlaces {
     /// The path at which the store was asked for, and then that of the output.
     pub asked: String,
     pub watch: Watch,
-    pub read_failure: Option<Failure>,
+    /// The file whose read fails, and why.
+    pub read_failure: Option<(FileName, StoreFault)>,
     pub write_failure: Option<Failure>,
     pub taken: Rc<RefCell<Taken>>,
     pub is_made: bool,
@@ -97,7 +100,7 @@ pub fn are_whole(files: &FileSet, all: &FileSet) -> bool {
 }
 
 impl Places for MemoryPlaces {
-    type Store = MemorySource;
+    type Store = MemoryStore;
 
     type Output = SharedOutput;
 
@@ -113,7 +116,7 @@ impl Places for MemoryPlaces {
 
     ghost fault_count = { λ s. s.faults };
 
-    fn store(&mut self, path: &str) -> Result<(Vec<u8>, MemorySource), StoreFault> {
+    fn store(&mut self, path: &str) -> Result<(Vec<u8>, MemoryStore), StoreFault> {
         if self.asked.push_str(path).is_err() {
             return Err(StoreFault::Memory);
         }
@@ -127,7 +130,7 @@ impl Places for MemoryPlaces {
         let files = copy_files(self.alloc, &self.files).map_err(|_| StoreFault::Memory)?;
         Ok((
             bytes,
-            MemorySource::new(self.alloc, files, self.read_failure),
+            MemoryStore::new(self.alloc, files, self.read_failure),
         ))
     }
 
@@ -193,5 +196,22 @@ impl Sink for SharedOutput {
 
     fn faults(&self) -> u64 {
         self.sink.faults()
+    }
+}
+
+impl BatchSink for SharedOutput {
+    type Writer = NoWriter;
+
+    fn writer(&self) -> Option<&NoWriter> {
+        None
+    }
+
+    fn put_written(
+        &mut self,
+        name: FileName,
+        bytes: &[u8],
+        _written: Result<(), StoreFault>,
+    ) -> Result<(), StoreFault> {
+        self.put(name, bytes)
     }
 }

@@ -35,7 +35,7 @@ pub struct FolderShelf<R> {
 impl<R: Files + Copy + Drop> FolderShelf<R> {
     /// The store at this path, whose files have at most so many bytes. It is only looked at: nothing is read or made.
     pub fn new(alloc: Global, rt: R, path: &str, limits: FileLimits) -> Result<Self, StoreFault> {
-        let source = StoreFolder::new(alloc, rt, path, limits)?;
+        let source = StoreFolder::new(alloc, rt, path, limits).map_err(no_memory)?;
         let path = String::from_str(alloc, path).map_err(no_memory)?;
         Ok(Self {
             alloc,

@@ -37,7 +37,9 @@ fn catalog_length<R: Files + Drop>(
     rt: R,
     path: &str,
 ) -> Result<Option<u64>, StoreFault> {
-    let mut store = StoreFolder::new(alloc, rt, path, FileLimits::Fixed)?;
+    let Ok(mut store) = StoreFolder::new(alloc, rt, path, FileLimits::Fixed) else {
+        return Err(StoreFault::Memory);
+    };
     match store.catalog() {
         Ok(Some(bytes)) => Ok(Some(bytes.len() as u64)),
         Ok(None) => Ok(None),

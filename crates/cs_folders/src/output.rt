@@ -1,13 +1,15 @@
-//! An output in one folder that is made for it.
+//! An output in one folder that is made for it, into which many threads can write at once.
 ghost use Rattle.std.specs.Prelude.{◌≡◌, ◌≤◌, ⊤, IsErrOf};
 ghost use Rattle.cs_store.specs.Fault.{CountsFault};
 
 use crate::paths::{file_in, no_memory, path_in};
 use cs_schema::FileName;
 use cs_store::{Sink, StoreFault};
+use cs_writing::{BatchSink, FileWriter};
 use std::alloc::Global;
 use std::fs::OpenFile;
 use std::io::Write;
+use std::marker::Sync;
 use std::rt::Files;
 use std::{fs, io};
 
@@ -41,17 +43,20 @@ impl<R: Files + Drop> OutputFolder<R> {
 
 impl<R: Files> OutputFolder<R> {
     /// Counts a fault of the device, or takes the answer.
-    fn told(&mut self, answer: io::Result<()>) -> Result<(), StoreFault>
+    fn told(&mut self, answer: Result<(), StoreFault>) -> Result<(), StoreFault>
         ensures device { IsErrOf result StoreFault.Device → CountsFault self.old.faults self.new.faults }
         ensures counted { self.old.faults ≤ self.new.faults }
     {
-        match answer {
-            Ok(()) => Ok(()),
-            Err(_) => {
-                self.faults = self.faults.saturating_add(1);
-                Err(StoreFault::Device)
-            }
+        if let Err(StoreFault::Device) = answer {
+            self.faults = self.faults.saturating_add(1);
         }
+        answer
+    }
+
+    /// Writes the whole file, and brings it to the disk.
+    fn write_file_of(&self, name: FileName, bytes: &[u8]) -> Result<(), StoreFault> {
+        let path = file_in(self.alloc, self.path.as_str(), name).map_err(no_memory)?;
+        write_file(&self.rt, path.as_str(), bytes).map_err(failed)
     }
 
     /// Writes the mark, when the names of all files are on the disk, and then brings its own name there and
@@ -74,8 +79,7 @@ impl<R: Files> Sink for OutputFolder<R> {
     ghost fault_count = { λ s. s.faults };
 
     fn put(&mut self, name: FileName, bytes: &[u8]) -> Result<(), StoreFault> {
-        let path = file_in(self.alloc, self.path.as_str(), name).map_err(no_memory)?;
-        let written = write_file(&self.rt, path.as_str(), bytes);
+        let written = self.write_file_of(name, bytes);
         self.told(written)
     }
 
@@ -84,12 +88,40 @@ impl<R: Files> Sink for OutputFolder<R> {
         let parent = path_in(self.alloc, self.path.as_str(), "..").map_err(no_memory)?;
         let text = format!(in self.alloc; "files={files}\n").map_err(no_memory)?;
         let written = self.write_mark(path.as_str(), parent.as_str(), text.as_str());
-        self.told(written)
+        self.told(written.map_err(failed))
     }
 
     fn faults(&self) -> u64 {
         self.faults
     }
+}
+
+impl<R: Files + Sync> FileWriter for OutputFolder<R> {
+    fn write(&self, name: FileName, bytes: &[u8]) -> Result<(), StoreFault> {
+        self.write_file_of(name, bytes)
+    }
+}
+
+impl<R: Files + Sync> BatchSink for OutputFolder<R> {
+    type Writer = OutputFolder<R>;
+
+    fn writer(&self) -> Option<&OutputFolder<R>> {
+        Some(self)
+    }
+
+    fn put_written(
+        &mut self,
+        _name: FileName,
+        _bytes: &[u8],
+        written: Result<(), StoreFault>,
+    ) -> Result<(), StoreFault> {
+        self.told(written)
+    }
+}
+
+/// The fault of a device that failed.
+fn failed(_error: io::Error) -> StoreFault {
+    StoreFault::Device
 }
 
 /// Writes the whole file, in the place of one that is there, and brings it to the disk.

@@ -1,13 +1,15 @@
-//! A store in one folder.
+//! A store in one folder, which many threads can read at once.
 ghost use Rattle.std.specs.Prelude.{◌≡◌, ◌<◌, ◌≤◌, ◌^◌, ⊤, IfOk, IfSome, IsErrOf, vec_len};
 ghost use Rattle.cs_store.specs.Fault.{CountsFault};
 
 use crate::limits::{CATALOG_LIMIT, FileLimits};
 use crate::paths::{file_in, no_memory, path_in};
 use crate::reading::read_file;
+use cs_reading::SharedSource;
 use cs_schema::FileName;
 use cs_store::{Source, StoreFault};
-use std::alloc::Global;
+use std::alloc::{AllocError, Global};
+use std::marker::Sync;
 use std::rt::Files;
 
 /// A store in one folder, with the number of faults that were met up to its last read.
@@ -22,15 +24,14 @@ pub struct StoreFolder<R> {
 
 impl<R> StoreFolder<R> {
     /// The store at this path, whose files have at most so many bytes; no fault was met. Nothing is read.
-    pub fn new(alloc: Global, rt: R, path: &str, limits: FileLimits) -> Result<Self, StoreFault>
+    pub fn new(alloc: Global, rt: R, path: &str, limits: FileLimits) -> Result<Self, AllocError>
     where
         R: Drop,
     {
-        let path = String::from_str(alloc, path).map_err(no_memory)?;
         Ok(Self {
             alloc,
             rt,
-            path,
+            path: String::from_str(alloc, path)?,
             limits,
             faults: 0,
         })
@@ -76,5 +77,21 @@ impl<R: Files> Source for StoreFolder<R> {
 
     fn faults(&self) -> u64 {
         self.faults
+    }
+}
+
+impl<R: Files + Sync> SharedSource for StoreFolder<R> {
+    ghost answers = { λ s name file. ⊤ };
+
+    ghost fails = { λ s name fault. ⊤ };
+
+    fn read_shared(&self, name: FileName) -> Result<Option<Vec<u8>>, StoreFault> {
+        let path = file_in(self.alloc, self.path.as_str(), name).map_err(no_memory)?;
+        read_file(
+            self.alloc,
+            &self.rt,
+            path.as_str(),
+            self.limits.limit_of(name),
+        )
     }
 }

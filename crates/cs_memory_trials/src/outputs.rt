@@ -6,6 +6,7 @@ use crate::standing::{Standing, copy_files};
 use cs_schema::FileName;
 use cs_store::memory::MemorySink;
 use cs_store::{FileSet, Sink, StoreFault};
+use cs_writing::{BatchSink, NoWriter};
 use std::alloc::{AllocError, Global};
 use std::cell::RefCell;
 use std::rc::Rc;
@@ -101,5 +102,22 @@ impl Sink for MemoryOutput {
 
     fn faults(&self) -> u64 {
         self.sink.faults
+    }
+}
+
+impl BatchSink for MemoryOutput {
+    type Writer = NoWriter;
+
+    fn writer(&self) -> Option<&NoWriter> {
+        None
+    }
+
+    fn put_written(
+        &mut self,
+        name: FileName,
+        bytes: &[u8],
+        _written: Result<(), StoreFault>,
+    ) -> Result<(), StoreFault> {
+        self.put(name, bytes)
     }
 }

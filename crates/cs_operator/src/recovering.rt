@@ -12,7 +12,8 @@ use cs_progress::{Progress, Stage};
 use cs_reading::load_side_by_side;
 use cs_rebuild::rebuild_owned;
 use cs_schema::{Catalog, Loss};
-use cs_store::{FileSet, StoreFault, save};
+use cs_store::{FileSet, StoreFault};
+use cs_writing::save_batch;
 use std::alloc::Global;
 use std::marker::Sync;
 use std::thread::Threads;
@@ -33,7 +34,7 @@ pub fn recover<R: Threads + Sync, G: Progress + Sync, P: Places>(
         Err(stop) => return Err(stop),
     };
     host.gate.reached(Stage::Writing);
-    match write_output(host.alloc, places, &catalog, &rebuilt, request.output) {
+    match write_output(host, places, &catalog, &rebuilt, request.output) {
         Ok(()) => Ok(Recovered {
             catalog,
             lost: request.loss,
@@ -70,8 +71,8 @@ fn rebuild_store<R: Threads + Sync, G: Progress + Sync, P: Places>(
 }
 
 /// Makes the output, puts the files there and marks it.
-fn write_output<P: Places>(
-    alloc: Global,
+fn write_output<R: Threads + Sync, G: Progress + Sync, P: Places>(
+    host: &Host<'_, R, G>,
     places: &mut P,
     catalog: &Catalog,
     files: &FileSet,
@@ -80,13 +81,13 @@ fn write_output<P: Places>(
     ensures ok { OnOk result (WritesOutput P.makes P.Output.takes P.Output.marks places.old path.now files.now places.new) }
     ensures err { OnErr result (AsksForOutput P.makes P.denies places.old path.now places.new) }
 {
-    let mut sink = match places.output(path) {
+    let sink = match places.output(path) {
         Ok(sink) => sink,
-        Err(fault) => return Err(unmade(alloc, fault, path)),
+        Err(fault) => return Err(unmade(host.alloc, fault, path)),
     };
-    match save(files, &mut sink) {
+    match save_batch(host.rt, host.alloc, files, sink) {
         Ok(()) => Ok(()),
-        Err(fault) => Err(stop_of(alloc, catalog, Loss::none(), &fault)),
+        Err(fault) => Err(stop_of(host.alloc, catalog, Loss::none(), &fault)),
     }
 }
 

@@ -7,7 +7,6 @@ use crate::listings::Listings;
 use crate::places::Places;
 use crate::rebuilt::rebuilt_names;
 use crate::shelves::{GivenBack, Shelves};
-use crate::store_files::StoreFiles;
 use crate::tables::Tables;
 use cs_folder_shelf::FolderShelf;
 use cs_folders::{
@@ -76,7 +75,7 @@ impl<R: Files + Copy> Folders<R> {
 }
 
 impl<R: Files + Copy + Sync> Places for Folders<R> {
-    type Store = StoreFiles<R>;
+    type Store = StoreFolder<R>;
 
     type Output = OutputFolder<R>;
 
@@ -97,7 +96,7 @@ impl<R: Files + Copy + Sync> Places for Folders<R> {
     fn catalog(&mut self, path: &str) -> Result<Vec<u8>, StoreFault> {
         let read = match StoreFolder::new(self.alloc, self.rt, path, FileLimits::Fixed) {
             Ok(mut folder) => folder.catalog(),
-            Err(fault) => Err(fault),
+            Err(_) => Err(StoreFault::Memory),
         };
         self.found(read)
     }
@@ -107,8 +106,8 @@ impl<R: Files + Copy + Sync> Places for Folders<R> {
         self.found(read)
     }
 
-    fn files(&self, path: &str, catalog: &Catalog) -> Result<StoreFiles<R>, AllocError> {
-        StoreFiles::new(self.alloc, self.rt, path, catalog)
+    fn files(&self, path: &str, catalog: &Catalog) -> Result<StoreFolder<R>, AllocError> {
+        StoreFolder::new(self.alloc, self.rt, path, FileLimits::of(catalog))
     }
 
     fn output(&mut self, path: &str) -> Result<OutputFolder<R>, StoreFault> {

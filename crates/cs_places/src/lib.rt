@@ -12,7 +12,6 @@ mod places;
 mod rebuilt;
 mod shelves;
 mod stop;
-mod store_files;
 mod tables;
 
 pub use cs_folders::Way;
@@ -23,5 +22,4 @@ pub use listings::Listings;
 pub use places::Places;
 pub use shelves::{GivenBack, Shelves};
 pub use stop::{DEVICE, DONE, MEMORY, REFUSED, Stop, USAGE, refused, report, stop_of};
-pub use store_files::StoreFiles;
 pub use tables::Tables;

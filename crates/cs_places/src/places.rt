@@ -6,7 +6,8 @@ ghost use Rattle.cs_store.specs.declared.fault.StoreFault.{StoreFault};
 
 use cs_reading::SharedSource;
 use cs_schema::Catalog;
-use cs_store::{Sink, StoreFault};
+use cs_store::StoreFault;
+use cs_writing::BatchSink;
 use std::alloc::AllocError;
 
 /// Stores, outputs and pictures by path. Places in memory can say by their ghost members what they found and made; those
@@ -15,8 +16,8 @@ pub trait Places {
     /// A store's files.
     type Store: SharedSource + Drop;
 
-    /// What takes the files of a recovery.
-    type Output: Sink + Drop;
+    /// What takes the files of a recovery, which are written side by side where it can.
+    type Output: BatchSink + Drop;
 
     /// A catalog that was read: the state before, the path, the bytes, and the state after.
     ghost reads: { Self → List ℕ → List ℕ → Self → Type 0 };

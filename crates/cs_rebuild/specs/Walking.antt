@@ -1,5 +1,5 @@
 -- What the walks of pieces of rows find, by the rule of whole projections and by rows.
-use Rattle.std.specs.Prelude.{◌≡◌, ℕ, ◌<◌, ◌*◌, List, map, length, take, drop, slice_index_or, Option, None, All, IfSome}
+use Rattle.std.specs.Prelude.{◌≡◌, ℕ, ◌<◌, ◌*◌, List, map, length, take, drop, slice_index_or, Option, None, IfSome}
 use Rattle.std.specs.Option.{option_map, unwrap_or}
 use Rattle.std.specs.List.{find, filter_map}
 use Rattle.cs_store.specs.declared.fault.Fault.{Fault}
@@ -21,10 +21,6 @@ piece_of cut xs i = take cut (drop (i * cut) xs)
 -- the kinds of the table's columns
 abbrev pub HasTableKinds : CatalogData → WalkedData → Type 0
 HasTableKinds C w = w.kinds ≡ map (λ c. c.kind) C.columns
-
--- a cell in each row for each of the table's columns
-abbrev pub HasTableWidth : CatalogData → WalkedData → Type 0
-HasTableWidth C w = All (λ row. length row ≡ length C.columns) w.rows
 
 -- the cells that rows have in a column of the table
 abbrev pub IsColumnOf : CatalogData → List Row → ℕ → Cells → Type 0

@@ -7,55 +7,17 @@ ghost use Rattle.cs_schema.specs.CatalogRules.{IsCatalog};
 ghost use Rattle.cs_rows.specs.Columns.{ColumnsFit};
 ghost use Rattle.cs_rows.specs.RowSteps.{AreRows};
 ghost use Rattle.cs_rows.specs.TableView.{over};
-ghost use Rattle.cs_rebuild.specs.Walking.{AreLent, HasTableKinds, HasTableWidth, IsColumnOf};
+ghost use Rattle.cs_rows.specs.WalkedView.{IsWide};
+ghost use Rattle.cs_rebuild.specs.Walking.{AreLent, HasTableKinds, IsColumnOf};
 
 use crate::lending::column_count;
+use cs_rows::joining::{join_column, rows_in};
 use cs_rows::{Lent, Table, Walked};
 use cs_schema::{Catalog, Cells};
 use rayon::prelude::*;
 use std::alloc::{AllocError, Global};
 use std::marker::Sync;
 use std::thread::Threads;
-
-/// How many rows the pieces have together.
-fn rows_in(all: &[Walked]) -> usize {
-    let mut rows: usize = 0;
-    for piece in all {
-        rows = rows.saturating_add(piece.rows());
-    }
-    rows
-}
-
-/// How many bytes the texts have together that all pieces have in a column.
-fn text_size(all: &[Walked], catalog: &Catalog, c: usize) -> usize
-    requires column { c < length catalog.now.columns }
-    requires kinds { All (HasTableKinds catalog.now) all.now }
-{
-    let mut size: usize = 0;
-    for piece in all {
-        size = size.saturating_add(piece.column(c).text_size());
-    }
-    size
-}
-
-/// The cells that all pieces have in a column, one piece after the other.
-fn join_column(
-    alloc: Global,
-    catalog: &Catalog,
-    all: &[Walked],
-    c: usize,
-) -> Result<Cells, AllocError>
-    requires column { c < length catalog.now.columns }
-    requires kinds { All (HasTableKinds catalog.now) all.now }
-    ensures { IfOk result (IsColumnOf catalog.now (flat_map (λ piece. piece.rows) all.now) c) }
-{
-    let mut joined = Cells::new(alloc, catalog.columns[c].kind);
-    joined.reserve(rows_in(all), text_size(all, catalog, c))?;
-    for piece in all {
-        joined.extend(piece.column(c), 0, piece.rows())?;
-    }
-    Ok(joined)
-}
 
 /// The cells that all pieces have in a column, or none where the column is lent.
 fn join_unless_lent(
@@ -88,8 +50,11 @@ fn join_columns<R: Threads + Sync>(
     requires lent { AreLent catalog.now (flat_map (λ piece. piece.rows) all.now) lent.now }
     ensures fit { IfOk result (λ columns. ColumnsFit catalog.now (over columns.items lent.now)) }
     ensures rows { IfOk result (λ columns. AreRows catalog.now (flat_map (λ piece. piece.rows) all.now) (over columns.items lent.now)) }
+    ensures wide { All IsWide all.now }
     ensures rules { IsCatalog catalog.now }
 {
+    // tells how wide the rows are
+    let _rows = rows_in(all);
     (0..column_count(catalog))
         .into_par_iter()
         // a column is worth a thread
@@ -105,26 +70,6 @@ fn join_columns<R: Threads + Sync>(
         .collect::<Result<Vec<Cells>, AllocError>>(rt, alloc)?
 }
 
-/// The rows of all pieces, one after the other. A piece that stands alone is given back as it is.
-pub fn append_all<R: Threads + Sync>(
-    rt: &R,
-    alloc: Global,
-    catalog: &Catalog,
-    all: Vec<Walked>,
-) -> Result<Walked, AllocError>
-    requires kinds { All (HasTableKinds catalog.now) all.items }
-    requires width { All (HasTableWidth catalog.now) all.items }
-    ensures kinds { IfOk result (HasTableKinds catalog.now) }
-    ensures rows { IfOk result (λ walked. walked.rows ≡ flat_map (λ piece. piece.rows) all.items) }
-{
-    let mut all = all;
-    if all.len() == 1 {
-        return Ok(all.swap_remove(0));
-    }
-    let columns = join_columns(rt, alloc, catalog, &all, &Lent::nothing(alloc))?;
-    Ok(Walked::from_columns(columns))
-}
-
 /// The table of the rows of all pieces, one after the other. Columns that are lent are not joined.
 pub fn join_table<'a, R: Threads + Sync>(
     rt: &R,
@@ -134,7 +79,6 @@ pub fn join_table<'a, R: Threads + Sync>(
     lent: Lent<'a>,
 ) -> Result<Table<'a>, AllocError>
     requires kinds { All (HasTableKinds catalog.now) all.items }
-    requires width { All (HasTableWidth catalog.now) all.items }
     requires lent { AreLent catalog.now (flat_map (λ piece. piece.rows) all.items) lent }
     ensures kinds { IfOk result (HasTableKinds catalog.now) }
     ensures rows { IfOk result (λ table. table.rows ≡ flat_map (λ piece. piece.rows) all.items) }

@@ -163,6 +163,25 @@ impl LostSegment<'_> {
         file.push_pieces(code, kind, text)
     }
 
+    /// The same of the last column, while the digest takes it: nothing is left to make beside.
+    fn push_last<R: Threads + Sync, G: Gate + Sync>(
+        &self,
+        run: &Run<'_, R, G>,
+        file: &mut GrowingFile,
+        last: usize,
+        text: Vec<Vec<u8>>,
+    ) -> Result<(), AllocError>
+        requires column { last < length (projection self.now.store.now.catalog.now self.now.p).columns }
+        requires base { IsBase self.now.store.now.catalog.now self.now.p (base_at self.now.store.now.catalog.now self.now.p self.now.store.now.walked.rows self.now.numbers.now) }
+        requires text { IsTextAt self.now last (joined text.items) }
+        ensures { OnOk result ((s : ℕ) → HoldsFirst self.now s last file.old → HoldsFirst self.now s (last + 1) file.new) }
+    {
+        let catalog = self.store.catalog;
+        let code = catalog.code(self.p, last);
+        let kind = catalog.column_kind(self.p, last);
+        file.push_last(run.rt, code, kind, text)
+    }
+
     /// Puts the columns before the `count`-th into a file that holds none. The digest takes each while the next is made.
     fn grow<R: Threads + Sync, G: Gate + Sync>(
         &self,
@@ -225,7 +244,7 @@ impl LostSegment<'_> {
         file.reserve(self.room())?;
         let (text, grown) = self.grow_beside(run, &mut file, last);
         grown?;
-        self.push(&mut file, last, text?)?;
+        self.push_last(run, &mut file, last, text?)?;
         file.finish()
     }
 }

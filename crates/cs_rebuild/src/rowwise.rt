@@ -8,7 +8,6 @@ ghost use Rattle.cs_rows.specs.WalkByRows.{surviving_rows, walked_by_rows};
 ghost use Rattle.cs_rebuild.specs.Walking.{HasTableKinds, RowsFaultAt, RowsAnswerAt};
 ghost use Rattle.cs_rebuild.specs.WorkLaws.{one_value};
 
-use crate::appending::append_all;
 use crate::rounds::Tasks;
 use crate::run::Run;
 use crate::walking::count_pieces;
@@ -16,7 +15,7 @@ use cs_board::{Gate, Round};
 use cs_rows::by_rows::walk_rows;
 use cs_rows::counts::surviving_row_count;
 use cs_rows::range::WalkFault;
-use cs_rows::{Survivors, Table, Walked};
+use cs_rows::{Survivors, Table, Walked, join_once};
 use cs_schema::{Catalog, Loss};
 use cs_store::Fault;
 use std::alloc::Global;
@@ -92,15 +91,11 @@ pub fn walk_rowwise<'a, R: Threads + Sync, G: Gate + Sync>(
         cut: run.cut,
         pieces,
     };
-    let mut walked = match run.round(Round::Walk, &work) {
-        Ok(all) => match append_all(run.rt, run.alloc, catalog, all) {
-            Ok(walked) => walked,
-            Err(_) => return Err(Fault::Memory),
+    match run.round(Round::Walk, &work) {
+        Ok(all) => match join_once(run.rt, run.alloc, catalog, all.as_slice()) {
+            Ok(walked) => Ok(Table::of_walk(run.alloc, walked)),
+            Err(_) => Err(Fault::Memory),
         },
-        Err(fault) => return Err(fault),
-    };
-    match walked.once(run.rt, catalog) {
-        Ok(()) => Ok(Table::of_walk(run.alloc, walked)),
-        Err(_) => Err(Fault::Memory),
+        Err(fault) => Err(fault),
     }
 }

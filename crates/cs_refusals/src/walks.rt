@@ -12,7 +12,7 @@ use cs_delta::{Image, merge, read_delta};
 use cs_rows::by_rows::walk_rows;
 use cs_rows::counts::surviving_row_count;
 use cs_rows::range::WalkFault;
-use cs_rows::{Survivors, Walked};
+use cs_rows::{Survivors, Walked, join_once};
 use cs_schema::samples::THREE_PROJECTIONS;
 use cs_schema::{Catalog, FileName, Value};
 use cs_segment::segment::read_segment;
@@ -187,23 +187,33 @@ pub fn walk(alloc: Global, before: u64) -> Result<Report> {
     Ok(report.unless_changed(same))
 }
 
-/// Leaves out the later rows of each key.
+/// Joins the rows of two parts of the walk without the later rows of each key. The parts are then as they were.
 pub fn once(rt: &(impl AllocGlobal + Threads + Sync), before: u64) -> Result<Report> {
     let alloc = rt.alloc();
     let catalog = three_projections(alloc)?;
     let rows = Rows::of(alloc, &catalog)?;
-    let Ok(mut walked) = rows.walk(alloc, 0, ALL) else {
+    let (Ok(walked), Ok(rest)) = (rows.walk(alloc, 0, 3), rows.walk(alloc, 3, ALL)) else {
         return Err(anyhow!("the rows are not walked"));
     };
+    let pieces = [walked, rest];
     let granted = allocate(alloc, before);
     if granted < before {
         return Ok(Report::Before(granted));
     }
-    let (answer, left): (Answer, &[[i64; 2]]) = match walked.once(rt, rows.catalog()) {
-        Ok(()) => (Answer::Complete, &ONCE),
-        Err(_) => (Answer::Memory, &WALKED),
+    let answer = match join_once(rt, alloc, rows.catalog(), &pieces) {
+        Ok(joined) => {
+            if shows(&joined, rows.catalog(), &ONCE) {
+                Answer::Complete
+            } else {
+                Answer::Wrong
+            }
+        }
+        Err(_) => Answer::Memory,
     };
-    Ok(Report::made(alloc, answer).unless_changed(shows(&walked, rows.catalog(), left)))
+    let report = Report::made(alloc, answer);
+    let same = shows(&pieces[0], rows.catalog(), &WALKED[..3])
+        && shows(&pieces[1], rows.catalog(), &WALKED[3..]);
+    Ok(report.unless_changed(same))
 }
 
 /// Joins the rows of two parts of the walk.

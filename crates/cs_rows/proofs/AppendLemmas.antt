@@ -13,12 +13,7 @@ use Rattle.cs_rows.proofs.RangeLemmas.{range_plus, map_append}
 use Rattle.cs_schema.specs.declared.cells.Cells.{Cells}
 use Rattle.cs_schema.specs.declared.cells.Value.{Value}
 use Rattle.cs_schema.specs.Values.{values, kind_of}
-use Rattle.cs_schema.specs.Rows.{Row, cell}
-use Rattle.std.proofs.Common.{Bool}
-use Rattle.std.proofs.lemmas.List.{length-map}
-use Rattle.std.proofs.lemmas.List.FromFn.{fill_by_all, get_or-map-range_with_len, length-map-range_with_len}
-use Rattle.cs_rows.specs.Repeats.{unmarked}
-use Rattle.cs_rows.proofs.KeptCells.{unmarked_map}
+use Rattle.cs_schema.specs.Rows.{cell}
 use Rattle.cs_rows.specs.WalkedView.{row_of, rows_of, count_of, walked_data, AreColumns}
 
 get_or_any : {X : Type 0} (xs : List X) (i : ℕ) (d e : X) → i < length xs → get_or xs i d ≡ get_or xs i e
@@ -143,38 +138,3 @@ module _ (old new : List Cells) (n : ℕ) (some : 0 < length old) (length_new : 
       ap (rows_of new) counts ∙ map_range_same (row_of new) (row_of old) 0 0 (count_of old) (λ k h. map_same (λ (x : Cells). cell (values x) (0 + k)) (λ (x : Cells). cell (values x) (0 + k)) new old length_new (λ c d l. ap (λ (v : List Value). cell v (0 + k)) (same c d (omega arith)))) in
       let ks : map kind_of new ≡ map kind_of old = kinds_same new old length_new kinds in
       λ i. record { kinds = ks i; rows = rows i }
-
--- ---- rows that are kept in place
-
-module _ (old new : List Cells) (marks : List Bool) (some : 0 < length old) (length_new : length new ≡ length old) (are : AreColumns old) (cells : (c : ℕ) (d : Cells) → c < length old → values (get_or new c d) ≡ unmarked marks (values (get_or old c d))) where
-  kept_numbers : List ℕ
-  kept_numbers = unmarked marks (range_with_len 0 (count_of old))
-
-  kept_cells : (c : ℕ) (d : Cells) → c < length old → values (get_or new c d) ≡ map (cell (values (get_or old c d))) kept_numbers
-  unfolding kept_numbers
-  kept_cells c d h =
-      let vs : List Value = values (get_or old c d) in
-      cells c d h
-      ∙ ap (unmarked marks) (fill_by_all (cell vs) vs (count_of old) (Value.Int (pos 0)) (all_long old are c d h) (λ k b. refl))
-      ∙ unmarked_map (cell vs) marks (range_with_len 0 (count_of old))
-
-  long_kept : (c : ℕ) (d : Cells) → c < length new → length (values (get_or new c d)) ≡ length kept_numbers
-  long_kept c d h = ap length (kept_cells c d (omega arith)) ∙ length-map kept_numbers (cell (values (get_or old c d)))
-
-  pub kept_columns : AreColumns new
-  kept_columns = columns_are new (length kept_numbers) (omega arith) long_kept
-
-  kept_row : (k : ℕ) → k < length kept_numbers → row_of new k ≡ row_of old (get_or kept_numbers k 0)
-  kept_row k h = map_same (λ (x : Cells). cell (values x) k) (λ (x : Cells). cell (values x) (get_or kept_numbers k 0)) new old length_new
-      (λ c d l.
-      ap (λ (v : List Value). cell v k) (kept_cells c d (omega arith)) ∙ get_or-map (cell (values (get_or old c d))) kept_numbers k 0 (Value.Int (pos 0)) h)
-
-  pub kept_rows : rows_of new (count_of new) ≡ unmarked marks (rows_of old (count_of old))
-  unfolding kept_numbers
-  kept_rows =
-      let m : ℕ = length kept_numbers in
-      let g : ℕ → Row = λ k. row_of old (get_or kept_numbers k 0) in
-      ap (rows_of new) (count_is new m (omega arith) long_kept)
-      ∙ fill_by_all g (rows_of new m) m [] (length-map-range_with_len (row_of new) 0 m) (λ k b. get_or-map-range_with_len (row_of new) 0 m k k [] b (omega arith) ∙ kept_row k b)
-      ∙ sym (fill_by_all g (map (row_of old) kept_numbers) m [] (length-map kept_numbers (row_of old)) (λ k b. get_or-map (row_of old) kept_numbers k 0 [] b))
-      ∙ sym (unmarked_map (row_of old) marks (range_with_len 0 (count_of old)))

@@ -1,6 +1,8 @@
 -- Elements that are kept in place, by marks.
-use Rattle.std.proofs.Common.{◌≡◌, ℕ, ◌+◌, ◌<◌, List, [], ◌∷◌, ◌++◌, length, map, take, get_or, refl, sym, ap, ◌∙◌, arith, Bool, true, false, cond}
+use Rattle.std.proofs.Common.{◌≡◌, ℕ, ◌+◌, ◌<◌, ◌≤◌, List, [], ◌∷◌, ◌++◌, length, map, take, drop, get_or, refl, sym, ap, ◌∙◌, arith, Bool, true, false, cond}
+use Rattle.std.specs.Prelude.{All}
 use Rattle.std.proofs.lemmas.List.{take_more, length-take-le}
+use Rattle.std.proofs.lemmas.List.Elements.{All-nil, All-cons, All-head, All-tail}
 use Rattle.cs_rows.specs.Repeats.{unmarked}
 
 -- one element more
@@ -29,3 +31,34 @@ pub unmarked_more : {X : Type 0} (gs : List Bool) (xs : List X) (i : ℕ) (d : X
 unmarked_more gs xs i d same within =
     let l : length (take i gs) ≡ length (take i xs) = length-take-le i gs (omega arith) ∙ sym (length-take-le i xs (omega arith)) in
     (λ j. unmarked (take_more gs i false within j) (take_more xs i d (omega arith) j)) ∙ unmarked_push (take i gs) (take i xs) (get_or gs i false) (get_or xs i d) l
+
+-- nothing is left of nothing
+pub unmarked_none : {X : Type 0} (gs : List Bool) → unmarked {X = X} gs [] ≡ []
+unmarked_none [] = refl
+unmarked_none (g ∷ gs) = refl
+
+-- the elements of two lists, the first with as many marks as it has elements
+pub unmarked_split : {X : Type 0} (gs : List Bool) (xs ys : List X) → length xs ≤ length gs → unmarked gs (xs ++ ys) ≡ unmarked (take (length xs) gs) xs ++ unmarked (drop (length xs) gs) ys
+unmarked_split gs [] ys h = refl
+unmarked_split [] (x ∷ xs) ys h = absurd (omega arith)
+unmarked_split {X} (g ∷ gs) (x ∷ xs) ys h = go g (unmarked_split gs xs ys (omega arith))
+  where
+    front : List X
+    front = unmarked (take (length xs) gs) xs
+
+    back : List X
+    back = unmarked (drop (length xs) gs) ys
+
+    go : (c : Bool) → unmarked gs (xs ++ ys) ≡ front ++ back → cond c (unmarked gs (xs ++ ys)) (x ∷ unmarked gs (xs ++ ys)) ≡ cond c front (x ∷ front) ++ back
+    go true e = e
+    go false e = ap (λ l. x ∷ l) e
+
+-- what holds of each element
+pub unmarked_all : {X : Type 0} (P : X → Type 0) (gs : List Bool) (xs : List X) → All P xs → All P (unmarked gs xs)
+unmarked_all P [] xs h = All-nil P
+unmarked_all P (g ∷ gs) [] h = All-nil P
+unmarked_all {X} P (g ∷ gs) (x ∷ xs) h = go g (unmarked_all P gs xs (All-tail P x xs h))
+  where
+    go : (c : Bool) → All P (unmarked gs xs) → All P (cond c (unmarked gs xs) (x ∷ unmarked gs xs))
+    go true rest = rest
+    go false rest = All-cons P x (unmarked gs xs) (All-head P x xs h) rest

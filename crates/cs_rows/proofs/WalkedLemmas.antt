@@ -1,20 +1,27 @@
 -- Columns read as rows.
 use Rattle.std.proofs.Common.{◌≡◌, ℕ, ◌<◌, List, [], ◌∷◌, length, map, get_or, refl, sym, ap, ◌∙◌, arith}
-use Rattle.std.specs.Prelude.{slice_index_or, pos}
-use Rattle.std.specs.List.{slice_get, range_with_len}
+use Rattle.std.specs.Prelude.{pos}
 use Rattle.std.proofs.lemmas.List.{length-map, get_or-map}
 use Rattle.std.proofs.lemmas.Option.{slice_get-get_or}
 use Rattle.std.proofs.lemmas.List.FromFn.{fill_by_all, get_or-map-range_with_len, length-map-range_with_len}
 use Rattle.cs_schema.specs.declared.cells.Cells.{Cells}
 use Rattle.cs_schema.specs.declared.cells.Value.{Value}
-use Rattle.cs_schema.specs.Values.{values}
+use Rattle.cs_schema.specs.Values.{values, kind_of}
 use Rattle.cs_schema.specs.Rows.{cell, Row}
 use Rattle.cs_schema.specs.Lists.{IsIn}
 use Rattle.cs_schema.proofs.Lists.{in_at}
-use Rattle.cs_rows.specs.WalkedView.{row_of, rows_of, count_of, AreColumns}
+use Rattle.cs_rows.specs.WalkedView.{row_of, rows_of, count_of, walked_data, AreColumns, IsWide}
 
 pub length_rows : (columns : List Cells) (count : ℕ) → length (rows_of columns count) ≡ count
 length_rows columns count = length-map-range_with_len (row_of columns) 0 count
+
+-- each row has a cell in each column
+pub rows_wide : (columns : List Cells) → IsWide (walked_data columns)
+rows_wide columns k d h =
+    let n : ℕ = count_of columns in
+    let l : length (rows_of columns n) ≡ n = length_rows columns n in
+    ap length (get_or-map-range_with_len (row_of columns) 0 n k k d (omega (arith, l, h)) (omega arith))
+    ∙ length-map columns (λ (x : Cells). cell (values x) k) ∙ sym (length-map columns kind_of)
 
 -- a column of the rows is the column
 pub column_of_rows : (columns : List Cells) (c : ℕ) (cells : Cells) → c < length columns → cells ≡ get_or columns c cells → AreColumns columns → values cells ≡ map (λ (row : Row). cell row c) (rows_of columns (count_of columns))

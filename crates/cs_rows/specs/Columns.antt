@@ -4,6 +4,7 @@ use Rattle.std.specs.List.{find, position_or_len, range_with_len}
 use Rattle.cs_schema.specs.declared.cells.Cells.{Cells}
 use Rattle.cs_schema.specs.Values.{values, kind_of}
 use Rattle.cs_schema.specs.CatalogData.{CatalogData, column, projection}
+use Rattle.cs_schema.specs.Rows.{Row, cell}
 use Rattle.cs_safety.specs.PlanData.{PlanData}
 use Rattle.cs_rows.specs.Walk.{Contents, At, is_astray, stand, walked_cell}
 use Rattle.cs_safety.specs.PlanData.{is_planned}
@@ -39,6 +40,11 @@ Pushed C S P rows before after n = (c : ℕ) (d : Cells) → c < n → (kind_of 
 pub record ColumnsFit (C : CatalogData) (columns : List Cells) : Type 0 where
   pub count : length columns ≡ length C.columns
   pub kinds : (c : ℕ) (d : Cells) → c < length C.columns → kind_of (slice_index_or columns c d) ≡ (column C c).kind
+
+-- the cells that rows have in a column of the table
+pub record IsColumn (C : CatalogData) (rows : List Row) (c : ℕ) (made : Cells) : Type 0 where
+  pub kind : kind_of made ≡ (column C c).kind
+  pub cells : values made ≡ map (λ row. cell row c) rows
 
 -- the columns have the walked cells of some rows
 abbrev pub AreWalked : CatalogData → Contents → PlanData → List At → List Cells → Type 0

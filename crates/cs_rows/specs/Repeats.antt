@@ -5,8 +5,7 @@ use Rattle.std.specs.List.Sorted.{IsPermutation, IsSorted}
 use Rattle.std.specs.Ordering.{ordering_then, int_cmp, nat_cmp}
 use Rattle.std.specs.declared.cmp.Ordering.{Ordering}
 use Rattle.cs_schema.specs.declared.cells.Value.{Value}
-use Rattle.cs_schema.specs.declared.cells.Cells.{Cells}
-use Rattle.cs_schema.specs.Values.{value_cmp, value_eq, values, kind_of}
+use Rattle.cs_schema.specs.Values.{value_cmp, value_eq}
 use Rattle.cs_schema.specs.Rows.{cell}
 
 -- rows by their keys, and rows of one key by number
@@ -45,8 +44,3 @@ abbrev pub unmarked : {X : Type 0} → List Bool → List X → List X
 unmarked [] xs = []
 unmarked (mark ∷ marks) [] = []
 unmarked (mark ∷ marks) (x ∷ xs) = if mark then unmarked marks xs else x ∷ unmarked marks xs
-
--- the column of the unmarked cells of another one
-pub record IsUnmarked (marks : List Bool) (all left : Cells) : Type 0 where
-  pub kind : kind_of left ≡ kind_of all
-  pub cells : values left ≡ unmarked marks (values all)

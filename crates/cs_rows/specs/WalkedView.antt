@@ -1,5 +1,5 @@
 -- Walked rows: the kinds of the columns, and the rows in their order.
-use Rattle.std.specs.Prelude.{ℕ, ◌≡◌, ◌<◌, List, [], ◌∷◌, map, length}
+use Rattle.std.specs.Prelude.{All, ℕ, ◌≡◌, ◌<◌, List, [], ◌∷◌, map, length}
 use Rattle.cs_schema.specs.declared.kinds.Kind.{Kind}
 use Rattle.cs_schema.specs.declared.cells.Cells.{Cells}
 use Rattle.cs_schema.specs.Values.{values, kind_of}
@@ -30,3 +30,7 @@ walked_data columns = record { kinds = map kind_of columns; rows = rows_of colum
 pub record AreColumns (columns : List Cells) : Type 0 where
   pub some : 0 < length columns
   pub lengths : (cells : Cells) → IsIn cells columns → length (values cells) ≡ count_of columns
+
+-- a cell in each row for each column
+abbrev pub IsWide : WalkedData → Type 0
+IsWide w = All (λ row. length row ≡ length w.kinds) w.rows

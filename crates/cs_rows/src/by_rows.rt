@@ -12,7 +12,7 @@ ghost use Rattle.cs_rows.specs.RangeByRows.{is_stray_row, row_from, surviving_be
 ghost use Rattle.cs_rows.specs.RowSteps.{Stands, AllStand, IsReading, AreSourcesOf, through, RowPushed, AreRows, reached_from, projection_kept, IsStrayFault};
 
 use crate::catalog_of;
-use crate::counts::{kept_in_projection, kept_in_segment};
+use crate::counts::{kept_in_projection, kept_in_segment, surviving_row_count};
 use crate::levels::{Finding, Landed, RowWalk, walk_from};
 use crate::numbers::{column_count, projection_count};
 use crate::range::{WalkFault, new_columns, push_cell};
@@ -227,7 +227,11 @@ pub fn walk_rows(
     ensures rows { IfOk result (λ walked. Ok walked.rows ≡ found_among catalog.now loss (contents_of survivors.now) (surviving_between catalog.now loss (contents_of survivors.now) from to)) }
     ensures fault { IfErr result (IsWalkFault (found_among catalog.now loss (contents_of survivors.now) (surviving_between catalog.now loss (contents_of survivors.now) from to))) }
 {
-    let mut columns = match new_columns(alloc, catalog, 0) {
+    // most walks find a row
+    let room = to
+        .min(surviving_row_count(survivors, loss))
+        .saturating_sub(from);
+    let mut columns = match new_columns(alloc, catalog, room) {
         Ok(columns) => columns,
         Err(_) => return Err(WalkFault::Memory),
     };

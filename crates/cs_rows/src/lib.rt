@@ -2,8 +2,8 @@
 //!
 //! `walk_range` gives the rows that a plan's walk finds from some rows of its anchor, `walk_rows` the full rows that
 //! the walks from some surviving rows find, and each refuses the first row that is led astray. A row costs one look
-//! at a join index for each projection that is reached, and no memory but that of its cells. `Walked::once` leaves
-//! out the later rows of a key. `laws` has what a put changes.
+//! at a join index for each projection that is reached, and no memory but that of its cells. `join_once` joins
+//! pieces of walked rows without the later rows of a key. `laws` has what a put changes.
 #![tactic(auto)]
 
 mod block;
@@ -11,12 +11,14 @@ pub mod by_rows;
 mod catalog_of;
 pub mod counts;
 mod int_repeats;
+pub mod joining;
 pub mod laws;
 pub mod lent;
 mod levels;
 mod marks;
 mod near_ints;
 mod numbers;
+mod once;
 pub mod plan_walk;
 pub mod range;
 mod repeats;
@@ -29,6 +31,7 @@ pub mod walked;
 pub mod whole;
 
 pub use lent::Lent;
+pub use once::join_once;
 pub use plan_walk::PlanWalk;
 pub use survivors::Survivors;
 pub use table::Table;

@@ -2,17 +2,12 @@
 ghost use Rattle.std.specs.Prelude.{◌≡◌, ◌<◌, ◌++◌, ℕ, length, map, slice_get, slice_index_or, Some, [], IfOk, OnOk, OnErr, take};
 ghost use Rattle.cs_schema.specs.Values.{values, kind_of};
 ghost use Rattle.cs_schema.specs.Rows.{cell};
-ghost use Rattle.cs_rows.specs.WalkByRows.{without_repeats};
-ghost use Rattle.cs_rows.specs.WalkedView.{walked_data, AreColumns};
+ghost use Rattle.cs_rows.specs.WalkedView.{walked_data, AreColumns, IsWide};
 
-use crate::marks::unmarked_columns;
-use crate::numbers::key_column;
 use crate::range::new_columns;
-use crate::repeats::find_repeats;
 use cs_schema::{Catalog, Cells, Value};
 use std::alloc::{AllocError, Global};
 use std::marker::Model;
-use std::thread::Threads;
 
 /// Leaves so many cells in each column.
 fn truncate_columns(columns: &mut Vec<Cells>, rows: usize)
@@ -98,7 +93,8 @@ impl Walked {
 
     /// How many rows there are.
     pub fn rows(&self) -> usize
-        ensures { result ≡ length self.now.rows }
+        ensures count { result ≡ length self.now.rows }
+        ensures wide { IsWide self.now }
     {
         self.columns[0].len()
     }
@@ -134,20 +130,6 @@ impl Walked {
             Ok(()) => {}
             Err(fault) => return Err(fault),
         }
-        Ok(())
-    }
-
-    /// Leaves out each row whose primary key stands in an earlier row, in n log n steps. A refusal changes nothing.
-    pub fn once<R: Threads + Sync>(&mut self, rt: &R, catalog: &Catalog) -> Result<(), AllocError>
-        requires kinds { self.old.kinds ≡ map (λ c. c.kind) catalog.now.columns }
-        ensures kinds { self.new.kinds ≡ self.old.kinds }
-        ensures ok { OnOk result (self.new.rows ≡ without_repeats catalog.now self.old.rows) }
-        ensures err { OnErr result (self.new ≡ self.old) }
-    {
-        let keys = &self.columns[key_column(catalog)];
-        let alloc = *self.columns.allocator();
-        let marks = find_repeats(rt, alloc, keys)?;
-        self.columns = unmarked_columns(rt, alloc, self.columns.as_slice(), marks.as_slice())?;
         Ok(())
     }
 }

@@ -7,6 +7,7 @@ use Rattle.std.proofs.lemmas.List.{length-map, map_push, get_or-map}
 use Rattle.std.specs.Cmp.Lexicographic.{slice_cmp}
 use Rattle.std.specs.Ordering.{is_eq, nat_cmp}
 use Rattle.std.specs.Cmp.{Equal-is, tied_itself}
+use Rattle.std.specs.declared.cmp.Ordering.{Ordering}
 use Rattle.cs_schema.proofs.Ascending.{false≢true}
 use Rattle.cs_schema.specs.Values.{value_cmp}
 use Rattle.cs_schema.specs.Rows.{cell}
@@ -72,3 +73,23 @@ ties_are_equal (Some v) (Some w) = (
   λ t. ap Some (value_cmp-IsAntisymmetric v w ((Equal-is (value_cmp v w)).0 t)),
   λ e. let same : v ≡ w = cc in (Equal-is (value_cmp v w)).1 (ap (λ u. value_cmp u w) same ∙ ties w),
 )
+
+-- cells whose order is known are the same only where it is that of equals
+pub told_apart : (a b : Option Value) (order : Ordering) → order ≡ option_cmp value_cmp a b → IsTrue (is_eq order) ↔ (a ≡ b)
+told_apart a b order e = rw e (ties_are_equal a b)
+
+text_in : Value → List ℕ
+text_in (Int x) = []
+text_in (Text w) = w
+
+texts_in : (v : Option (List ℕ)) → option_map text_in (option_map Text v) ≡ v
+unfolding text_in
+texts_in None = refl
+texts_in (Some w) = refl
+
+-- texts of two columns are the same cells where their bytes are the same
+pub texts_same : (ys zs : List (List ℕ)) (i j : ℕ) → (slice_get ys i ≡ slice_get zs j) ↔ (slice_get (map Text ys) i ≡ slice_get (map Text zs) j)
+texts_same ys zs i j =
+    let y = slice_get-map Text ys i in
+    let z = slice_get-map Text zs j in
+    (λ e. y ∙ ap (option_map Text) e ∙ sym z, λ e. sym (texts_in (slice_get ys i)) ∙ ap (option_map text_in) (sym y ∙ e ∙ z) ∙ texts_in (slice_get zs j))

@@ -176,7 +176,12 @@ impl Cells {
         requires there { other_at < length (values other.now) }
         ensures { IsTrue result ↔ (slice_get (values self.now) at ≡ slice_get (values other.now) other_at) }
     {
-        self.compare_cell(at, other, other_at).is_eq()
+        match (self, other) {
+            (Cells::Ints(ints), Cells::Ints(others)) => ints[at] == others[other_at],
+            (Cells::Ints(_), Cells::Texts(_)) => false,
+            (Cells::Texts(_), Cells::Ints(_)) => false,
+            (Cells::Texts(texts), Cells::Texts(others)) => texts.same(at, others, other_at),
+        }
     }
 
     /// Adds a copy of a cell of another column of this kind at the end. A refusal changes nothing.

@@ -1,10 +1,11 @@
 //! A segment's file that grows, with its digest made beside: a digest is a chain, so it is begun before the last column stands.
-ghost use Rattle.std.specs.Prelude.{◌≡◌, ◌++◌, ◌<◌, ◌≤◌, ◌^◌, length, IfOk, OnOk};
+ghost use Rattle.std.specs.Prelude.{◌≡◌, ◌++◌, ◌<◌, ◌≤◌, ◌^◌, ℕ, List, length, take, IfOk, OnOk};
 ghost use Rattle.cs_schema.specs.CatalogData.{projection};
 ghost use Rattle.cs_segment.specs.SegmentFile.{sealed};
 ghost use Rattle.cs_segment.specs.Parts.{head_text};
 ghost use Rattle.cs_segment.specs.Bodies.{body_part, part_front};
 ghost use Rattle.cs_segment.specs.Growing.{joined};
+ghost use Rattle.sha2.specs.Hashers.{Holds256};
 
 use crate::seal::DIGEST;
 use crate::segment::{code_number, kind_number};
@@ -12,6 +13,10 @@ use cs_schema::{Catalog, Code, Kind};
 use sha2::{Digest, Sha256};
 use std::alloc::{AllocError, Global};
 use std::marker::Model;
+use std::thread::{Threads, join_mut};
+
+/// How many bytes are worth the start of a thread.
+const WORTH_THREADS: usize = 65_536;
 
 /// What stands in a segment's file so far.
 #[derive(Drop)]
@@ -65,6 +70,31 @@ fn length_of(text: &[Vec<u8>]) -> usize
         length += piece.len();
     }
     length
+}
+
+/// Puts bytes at the end of a text, of which a hasher has taken the first ones, while the hasher takes them and what was left.
+fn extend_both<R: Threads>(
+    rt: &R,
+    text: &mut Vec<u8>,
+    hasher: &mut Sha256,
+    taken: usize,
+    bytes: &[u8],
+) -> Result<(), AllocError>
+    requires { taken ≤ length text.old.items }
+    ensures text { OnOk result (text.new.items ≡ text.old.items ++ bytes.now) }
+    ensures hasher { Holds256 hasher.old (take taken text.old.items) → Holds256 hasher.new (text.old.items ++ bytes.now) }
+{
+    hasher.update(&text[taken..]);
+    let (put, _) = join_mut(
+        rt,
+        &mut || -> Result<(), AllocError>
+            ensures { OnOk result (text.exit.now.items ≡ text.entry.now.items ++ bytes.entry.now) }
+        { text.extend_from_slice(bytes) },
+        &mut || -> ()
+            ensures { (m : List ℕ) → Holds256 hasher.entry.now m → Holds256 hasher.exit.now (m ++ bytes.entry.now) }
+        { hasher.update(bytes) },
+    );
+    put
 }
 
 impl GrowingFile {
@@ -134,6 +164,44 @@ impl GrowingFile {
         self.open_part(code, kind, length_of(text.as_slice()))?;
         for piece in text {
             self.extend(&piece)?;
+        }
+        Ok(())
+    }
+
+    /// Puts bytes at the end while the digest takes them.
+    fn extend_beside<R: Threads>(&mut self, rt: &R, bytes: &[u8]) -> Result<(), AllocError>
+        ensures { OnOk result (self.new ≡ self.old ++ bytes.now) }
+    {
+        if bytes.len() < WORTH_THREADS {
+            return self.extend(bytes);
+        }
+        match extend_both(rt, &mut self.text, &mut self.hasher, self.taken, bytes) {
+            Ok(()) => {
+                self.taken = self.text.len();
+                return Ok(());
+            }
+            Err(_) => {}
+        }
+        // the digest took what does not stand there
+        self.hasher = Sha256::new();
+        self.taken = 0;
+        Err(AllocError)
+    }
+
+    /// As `push_pieces`, while the digest takes each piece: there is nothing else to do beside a digest of the last column.
+    pub fn push_last<R: Threads>(
+        &mut self,
+        rt: &R,
+        code: Code,
+        kind: Kind,
+        text: Vec<Vec<u8>>,
+    ) -> Result<(), AllocError>
+        requires { length (joined text.items) < 2 ^ 32 }
+        ensures { OnOk result (self.new ≡ self.old ++ body_part code kind (joined text.items)) }
+    {
+        self.open_part(code, kind, length_of(text.as_slice()))?;
+        for piece in text {
+            self.extend_beside(rt, &piece)?;
         }
         Ok(())
     }

@@ -127,12 +127,18 @@ impl<'a> Store<'a> {
         walk.range(alloc, from, to)
     }
 
-    /// The rows of all surviving segments.
-    pub fn walk_by_rows(&self, alloc: Global, loss: Loss) -> Result<Walked, WalkFault>
+    /// The rows of all surviving segments that are numbered so, or all of them where there are fewer.
+    pub fn walk_by_rows(
+        &self,
+        alloc: Global,
+        loss: Loss,
+        from: usize,
+        to: usize,
+    ) -> Result<Walked, WalkFault>
         ensures { IfOk result (λ walked. walked.kinds ≡ map (λ c. c.kind) self.now.survivors.catalog.columns) }
     {
-        let count = surviving_row_count(&self.survivors, loss);
+        let to = surviving_row_count(&self.survivors, loss).min(to);
         let catalog = self.survivors.catalog();
-        walk_rows(alloc, catalog, loss, &self.survivors, 0, count)
+        walk_rows(alloc, catalog, loss, &self.survivors, from.min(to), to)
     }
 }

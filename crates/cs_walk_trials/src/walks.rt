@@ -5,13 +5,16 @@ use crate::stores::catalogs::{NUMBERED_CITIES, THREE_ORDERS};
 use crate::stores::{Store, catalog};
 use cs_rows::lent::Lent;
 use cs_rows::range::{WalkFault, walk_range};
-use cs_rows::{PlanWalk, Table, Walked};
+use cs_rows::{PlanWalk, Table, Walked, join_once};
 use cs_safety::plan;
 use cs_schema::samples::SPLIT_COLUMNS;
 use cs_schema::{Catalog, Cells, Kind, Loss, Value};
 use std::alloc::{AllocGlobal, Global};
 use std::process::Abort;
 use std::thread::Threads;
+
+/// More rows than a small store has.
+const ALL: usize = 8;
 
 /// Whether a walk has these rows of ints.
 fn shows(walked: &Walked, catalog: &Catalog, rows: &[&[i64]]) -> bool
@@ -174,28 +177,42 @@ fn images_and_joins_that_were_put(rt: HostRuntime) {
     assert!(rt; survivors.join(1, 1, 0).is_none());
 }
 
-/// Whether the walk by rows has so many rows, and these where each key stands once.
+/// Whether the walk by rows has so many rows in a first and in a second piece, and these where each key stands once.
 fn gives_once(
     rt: &(impl AllocGlobal + Threads + Sync),
     store: &Store<'_>,
     loss: Loss,
-    all: usize,
+    counts: [usize; 2],
     rows: &[&[i64]],
 ) -> bool {
-    let Ok(mut walked) = store.walk_by_rows(rt.alloc(), loss) else {
+    let alloc = rt.alloc();
+    let catalog = store.survivors.catalog();
+    let (Ok(first), Ok(second)) = (
+        store.walk_by_rows(alloc, loss, 0, counts[0]),
+        store.walk_by_rows(alloc, loss, counts[0], ALL),
+    ) else {
         return false;
     };
-    walked.rows() == all
-        && walked.once(rt, store.survivors.catalog()).is_ok()
-        && shows(&walked, store.survivors.catalog(), rows)
+    let pieces = [first, second];
+    let Ok(once) = join_once(rt, alloc, catalog, &pieces) else {
+        return false;
+    };
+    pieces[0].rows() == counts[0] && pieces[1].rows() == counts[1] && shows(&once, catalog, rows)
 }
 
-/// Whether no rows are no rows where each key stands once.
+/// Whether no rows are no rows where each key stands once, in one piece and in none.
 fn keeps_no_rows(rt: &(impl AllocGlobal + Threads + Sync), catalog: &Catalog) -> bool {
-    let Ok(mut none) = Walked::none(rt.alloc(), catalog) else {
+    let alloc = rt.alloc();
+    let Ok(none) = Walked::none(alloc, catalog) else {
         return false;
     };
-    none.once(rt, catalog).is_ok() && none.rows() == 0
+    let (Ok(one), Ok(no_piece)) = (
+        join_once(rt, alloc, catalog, &[none]),
+        join_once(rt, alloc, catalog, &[]),
+    ) else {
+        return false;
+    };
+    one.rows() == 0 && no_piece.rows() == 0
 }
 
 // No projection is alive, and each row stands in a surviving segment.
@@ -208,7 +225,7 @@ fn rows_of_surviving_segments_with_ample_memory(rt: HostRuntime) {
     store.put_segment(&rt, 2, 0, &[&[2, 4, 3], &[10, 10, 20]], &[]);
     let loss = Loss::none().with(1).with(3).with(6);
     let rows: [&[i64]; 4] = [&[3, 20], &[4, 10], &[1, 30], &[2, 10]];
-    assert!(rt; gives_once(&rt, &store, loss, 7, &rows));
+    assert!(rt; gives_once(&rt, &store, loss, [3, 4], &rows));
     assert!(rt; keeps_no_rows(&rt, store.survivors.catalog()));
 }
 
@@ -220,7 +237,7 @@ fn rows_with_a_key_twice(rt: HostRuntime) {
     store.put_segment(&rt, 2, 0, &[&[2, 4, 3, 2], &[10, 10, 20, 30]], &[]);
     let loss = Loss::none().with(1).with(2).with(3).with(4).with(6);
     let rows: [&[i64]; 3] = [&[2, 10], &[4, 10], &[3, 20]];
-    assert!(rt; gives_once(&rt, &store, loss, 4, &rows));
+    assert!(rt; gives_once(&rt, &store, loss, [3, 1], &rows));
 }
 
 // One segment of the second projection is lost: the rows there are marked, and full without it.
@@ -234,9 +251,9 @@ fn rows_with_a_marked_projection(rt: HostRuntime) {
     store.put_join(&rt, 0, 0, 1, &[(1, 1), (0, 1), (0, 2)]);
     store.put_join(&rt, 1, 1, 0, &[(0, 1)]);
     let rows: [&[i64]; 3] = [&[1, 2, 7], &[2, 1, 5], &[3, 1, 3]];
-    assert!(rt; gives_once(&rt, &store, loss, 4, &rows));
+    assert!(rt; gives_once(&rt, &store, loss, [3, 1], &rows));
     store.put_join(&rt, 0, 0, 1, &[(1, 1), (0, 0), (0, 2)]);
-    assert!(rt; is_astray(store.walk_by_rows(rt.alloc(), loss)));
+    assert!(rt; is_astray(store.walk_by_rows(rt.alloc(), loss, 0, ALL)));
 }
 
 #[test]

@@ -3,8 +3,18 @@ use Rattle.std.specs.Prelude.{◌+ℤ◌, pos}
 use Rattle.cs_codec.specs.Cells.{IsInt}
 use Rattle.cs_codec.specs.Differences.{ValueStandsAt}
 use Rattle.std.proofs.lemmas.Int.{ints, to_z-of_z}
-use Rattle.cs_codec.proofs.DifferenceReading.{none_at_other, none_without_cell, none_below, none_without_gap, none_too_high, gap_stands}
+use Rattle.cs_codec.proofs.DifferenceReading.{none_without_number, none_at_other, none_without_cell, none_below, full_stands, none_without_gap, none_too_high, gap_stands}
 use Rattle.cs_codec.proofs.differences.read_value.Goals as goal
+
+pub returns-in_err-number-clause-none : goal.returns-in_err-number-clause-none
+returns-in_err-number-clause-none c =
+    rw c.from_residual.ensures (none_without_number c.args.before c.args.position c.args.bytes.now c.args.at (omega arith) c.in_err-number.ensures.none)
+
+pub returns-else-value-before-clause-found : goal.returns-else-value-before-clause-found
+returns-else-value-before-clause-found c =
+    let found = c.in_ok-value.ensures.found in
+    subst (λ (z : ℤ). ValueStandsAt c.args.before c.args.position c.args.bytes.now c.args.at z c.in_ok-value.end) (sym (to_z-of_z w64 c.in_ok-value.value found.holds))
+    (full_stands c.args.before c.args.position c.in_ok-number.number c.args.bytes.now c.args.at c.in_ok-value.value c.in_ok-value.end (omega arith) c.in_ok-number.ensures.found (omega arith) found (omega (arith, ints)))
 
 pub returns-then-number-position-clause-none : goal.returns-then-number-position-clause-none
 returns-then-number-position-clause-none c =

@@ -1,4 +1,4 @@
-use Rattle.std.proofs.Common.{replicate, length, ap, ◌∙◌, arith}
+use Rattle.std.proofs.Common.{[], ◌∷◌, replicate, length, ap, ◌∙◌, arith}
 use Rattle.std.proofs.lemmas.List.{length-append, length-replicate}
 use Rattle.cs_codec.proofs.RunReading.{count_of-part}
 use Rattle.cs_codec.proofs.RunColumnReading.{none_here, next_here, differs_here, grown_by, has_read_more, none_read, all_read, ended_here}
@@ -9,6 +9,27 @@ loop-at-init g c = record {
   has_read = none_read g.C.Cell.bytes g.C.Cell.is_cell g.C.PartialEq.eq c.args.bytes.now c.args.rows _ (c.reserve.ensures ∙ c.new-cells.ensures);
   count_is = omega (arith, ap length (c.reserve.ensures ∙ c.new-cells.ensures));
 }
+
+pub overflow_add-count : goal.overflow_add-count
+overflow_add-count g c = omega (arith, c.requires, c.loop-at.invariant.has_read.few, c.loop-at.invariant.count_is)
+
+pub overflow_sub-rows : goal.overflow_sub-rows
+overflow_sub-rows g c = omega (arith, c.loop-at.invariant.has_read.few, c.loop-at.invariant.count_is)
+
+pub differs-requires : goal.differs-requires
+differs-requires g c =
+    let found = (rw c.in-Some.is at c.in_ok-position.ensures.found) in
+    omega (arith, ap length found.added, length-append (g.L.Column.cells c.loop-at.cells) (found.value ∷ []), c.loop-at.invariant.count_is)
+
+pub repeat_at-requires : goal.repeat_at-requires
+repeat_at-requires g c =
+    let found = (rw c.in-Some.is at c.in_ok-position.ensures.found) in
+    omega (arith, ap length found.added, length-append (g.L.Column.cells c.loop-at.cells) (found.value ∷ []), c.loop-at.invariant.count_is)
+
+pub loop-at-smaller : goal.loop-at-smaller
+loop-at-smaller g c =
+    let found = (rw c.in-Some.is at c.in_ok-position.ensures.found) in
+    omega (arith, found.stands.later, found.stands.within)
 
 pub returns-in_default-clause-not_a_text : goal.returns-in_default-clause-not_a_text
 returns-in_default-clause-not_a_text g c = λ _ others h.

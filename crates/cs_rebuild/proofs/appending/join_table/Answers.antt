@@ -4,7 +4,7 @@ use Rattle.cs_schema.specs.Rows.{Row}
 use Rattle.cs_rows.specs.TableView.{over}
 use Rattle.cs_rows.specs.WalkedView.{WalkedData}
 use Rattle.cs_rows.proofs.FoundRows.{columns_of_rows, rows_in, kinds_fit}
-use Rattle.cs_rebuild.proofs.AppendedColumns.{all_wide}
+use Rattle.cs_rows.proofs.PieceRows.{pieces_wide}
 use Rattle.cs_rebuild.proofs.appending.join_table.Goals as goal
 
 abbrev rows_of : List WalkedData → List Row
@@ -21,7 +21,7 @@ pub returns-clause-rows : goal.returns-clause-rows
 returns-clause-rows g c =
     let C = c.args.catalog.now in
     let columns = c.in_ok-columns.ensures in
-    let wide : All (λ (row : Row). length row ≡ length C.columns) (rows_of c.deref.result.now) = rw c.deref.ensures.value (all_wide C c.args.all.items c.requires.width) in
+    let wide : All (λ (row : Row). length row ≡ length C.columns) (rows_of c.deref.result.now) = pieces_wide C c.deref.result.now (rw c.deref.ensures.value c.requires.kinds) columns.wide in
     ap (λ (w : WalkedData). w.rows) c.of_columns.ensures
     ∙ rows_in C (over c.in_ok-columns.columns.items c.args.lent) (rows_of c.deref.result.now) columns.fit columns.rows wide columns.rules.column_range.0
     ∙ ap rows_of c.deref.ensures.value

@@ -1,26 +1,15 @@
-use Rattle.std.proofs.Common.{◌≡◌, All, length, get_or, ◌≤◌, ◌*◌, List, map, refl, sym, ap, subst, ◌∙◌, Ok}
+use Rattle.std.proofs.Common.{◌≤◌, ◌*◌, List, map, refl, sym, ap, subst, ◌∙◌, Ok}
 use Rattle.std.proofs.lemmas.List.{map-append}
-use Rattle.std.proofs.lemmas.Option.{slice_get-get_or}
 use Rattle.std.specs.List.{flat_map}
 use Rattle.cs_schema.specs.CatalogData.{CatalogData}
 use Rattle.cs_schema.specs.Rows.{Row}
 use Rattle.cs_rows.specs.Survivors.{contents_of}
 use Rattle.cs_rows.specs.Walk.{At, Stray, is_astray, projection_rows, walked_row}
 use Rattle.cs_rows.specs.WalkedView.{WalkedData}
-use Rattle.cs_rebuild.specs.Walking.{piece_of, AreLent}
-use Rattle.cs_rebuild.proofs.AppendedColumns.{walked_wide}
+use Rattle.cs_rebuild.specs.Walking.{AreLent}
 use Rattle.cs_rebuild.proofs.Verdicts.{memory_or}
 use Rattle.cs_rebuild.proofs.WalkPieces.{all_walked, first_astray, none_astray}
 use Rattle.cs_rebuild.proofs.planned.walk_planned.Goals as goal
-
-pub join_table-requires-clause-width : goal.join_table-requires-clause-width
-join_table-requires-clause-width g c κs within k d h =
-    let C = c.args.walk.now.survivors.now.catalog in
-    let S = contents_of c.args.walk.now.survivors.now in
-    let P = c.args.walk.now.plan.now in
-    let walked = c.in-Ok.ensures.ok.each k (get_or c.in-Ok.all.items k d) (slice_get-get_or c.in-Ok.all.items k d h) in
-    subst (λ (D : CatalogData). All (λ (row : Row). length row ≡ length D.columns) (get_or c.in-Ok.all.items k d).rows) (sym c.catalog.ensures.catalog)
-    (subst (All (λ (row : Row). length row ≡ length C.columns)) (sym walked.1) (walked_wide C S P (piece_of c.args.run.now.cut (projection_rows C S P.anchor) k)))
 
 pub join_table-requires-clause-lent : goal.join_table-requires-clause-lent
 join_table-requires-clause-lent g c κs within =

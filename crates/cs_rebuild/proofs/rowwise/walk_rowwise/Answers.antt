@@ -1,31 +1,20 @@
-use Rattle.std.proofs.Common.{◌≡◌, All, length, get_or, ◌≤◌, ◌*◌, List, refl, sym, ap, subst, ◌∙◌, Ok}
-use Rattle.std.specs.List.{filter_map}
+use Rattle.std.proofs.Common.{length, ◌≤◌, ◌*◌, List, refl, sym, ap, subst, ◌∙◌, Ok}
+use Rattle.std.specs.List.{filter_map, flat_map}
 use Rattle.std.proofs.lemmas.List.Elements.{filter_map-append}
-use Rattle.std.proofs.lemmas.Option.{slice_get-get_or}
 use Rattle.cs_schema.specs.CatalogData.{CatalogData}
 use Rattle.cs_schema.specs.Rows.{Row}
 use Rattle.cs_rows.specs.Survivors.{contents_of}
 use Rattle.cs_rows.specs.Walk.{Stray}
-use Rattle.cs_rows.specs.WalkByRows.{Reached, surviving_rows}
+use Rattle.cs_rows.specs.WalkByRows.{Reached, surviving_rows, without_repeats}
 use Rattle.cs_rows.specs.RangeByRows.{is_stray_row, row_from}
 use Rattle.cs_rows.specs.WalkedView.{WalkedData}
 use Rattle.cs_rows.proofs.WalkParts.{walk_by_rows_found, walk_by_rows_stray}
-use Rattle.cs_rebuild.specs.Walking.{piece_of}
-use Rattle.cs_rebuild.proofs.AppendedColumns.{found_wide}
 use Rattle.cs_rebuild.proofs.Verdicts.{memory_or}
 use Rattle.cs_rebuild.proofs.WalkPieces.{all_walked, first_astray}
 use Rattle.cs_rebuild.proofs.rowwise.walk_rowwise.Goals as goal
 
-pub append_all-requires-clause-width : goal.append_all-requires-clause-width
-append_all-requires-clause-width g c κs within k d h =
-    let C = c.args.catalog.now in
-    let L = c.args.loss in
-    let S = contents_of c.args.survivors.now in
-    let walked = c.in-Ok.ensures.ok.each k (get_or c.in-Ok.all.items k d) (slice_get-get_or c.in-Ok.all.items k d h) in
-    subst (All (λ (row : Row). length row ≡ length C.columns)) (sym walked.1) (found_wide C L S (piece_of c.args.run.now.cut (surviving_rows C L S) k))
-
-pub returns-in-Ok-once-clause-rows : goal.returns-in-Ok-once-clause-rows
-returns-in-Ok-once-clause-rows g c =
+pub returns-in-Ok-join_once-clause-rows : goal.returns-in-Ok-join_once-clause-rows
+returns-in-Ok-join_once-clause-rows g c =
     let C = c.args.catalog.now in
     let L = c.args.loss in
     let S = contents_of c.args.survivors.now in
@@ -33,10 +22,10 @@ returns-in-Ok-once-clause-rows g c =
     let f : List Reached → List Row = filter_map (row_from C L S) in
     let cover = subst (λ n. n ≤ c.count_pieces-pieces.result * c.args.run.now.cut) (c.surviving_row_count-rows.ensures ∙ ap (λ (D : CatalogData). length (surviving_rows D L S)) c.requires.same) c.count_pieces-pieces.ensures.0 in
     let whole = all_walked (is_stray_row C L S) e f (surviving_rows C L S) c.args.run.now.cut refl (filter_map-append (row_from C L S)) c.count_pieces-pieces.result cover c.in-Ok.ensures.ok.sound c.in-Ok.all.items c.in-Ok.ensures.ok.len (λ i w at. (c.in-Ok.ensures.ok.each i w at).1) in
-    walk_by_rows_found C L S c.in-Ok-append_all.walked.rows (sym (whole ∙ ap (λ r. Ok r) (sym c.in-Ok-append_all.ensures.rows))) ∙ ap (λ r. Ok r) (sym (ap (λ (w : WalkedData). w.rows) c.of_walk.ensures ∙ c.in-Ok-once.ensures.ok))
+    walk_by_rows_found C L S _ (sym whole) ∙ ap (λ r. Ok r) (sym (ap (λ (w : WalkedData). w.rows) c.of_walk.ensures ∙ c.in-Ok-join_once.ensures.rows ∙ ap (λ (ps : List WalkedData). without_repeats C (flat_map (λ (piece : WalkedData). piece.rows) ps)) c.as_slice.ensures.value))
 
-pub returns-in-Err-clause-err : goal.returns-in-Err-clause-err
-returns-in-Err-clause-err g c =
+pub returns-clause-err : goal.returns-clause-err
+returns-clause-err g c =
     let C = c.args.catalog.now in
     let L = c.args.loss in
     let S = contents_of c.args.survivors.now in

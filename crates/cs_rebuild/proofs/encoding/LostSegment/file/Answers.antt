@@ -12,5 +12,5 @@ returns g c =
     let wide = width_is C w.p rows w.numbers.now in
     let begun = text_begun C w.p c.args.s (length w.numbers.now) (base_at C w.p rows w.numbers.now) c.in_ok-file.file (rows_are C w.p rows w.numbers.now) c.in_ok-file.ensures in
     let roomy = c.reserve.ensures ∙ begun in
-    let whole = c.in_ok-push.ensures c.args.s ((rw c.in_ok-grown.was at c.grow_beside-text.ensures.file) c.args.s roomy) in
-    file_whole (λ out. out.items) C w.p c.args.s (c.width-last.result - 1 + 1) (base_at C w.p rows w.numbers.now) c.finish.result c.push.new.file c.requires.base (omega (arith, wide, c.width-last.ensures.count)) whole c.finish.ensures
+    let whole = c.in_ok-push_last.ensures c.args.s ((rw c.in_ok-grown.was at c.grow_beside-text.ensures.file) c.args.s roomy) in
+    file_whole (λ out. out.items) C w.p c.args.s (c.width-last.result - 1 + 1) (base_at C w.p rows w.numbers.now) c.finish.result c.push_last.new.file c.requires.base (omega (arith, wide, c.width-last.ensures.count)) whole c.finish.ensures

@@ -1,0 +1,55 @@
+//! The cells that walked pieces have in a column, joined.
+ghost use Rattle.std.specs.Prelude.{◌≡◌, ◌<◌, All, IfOk, length, map};
+ghost use Rattle.std.specs.List.{flat_map};
+ghost use Rattle.cs_schema.specs.CatalogData.{column};
+ghost use Rattle.cs_schema.specs.Values.{values, kind_of};
+ghost use Rattle.cs_schema.specs.Rows.{cell};
+ghost use Rattle.cs_rows.specs.WalkedView.{IsWide};
+
+use crate::numbers::kind;
+use crate::walked::Walked;
+use cs_schema::{Catalog, Cells};
+use std::alloc::{AllocError, Global};
+
+/// How many rows the pieces have together.
+pub fn rows_in(pieces: &[Walked]) -> usize
+    ensures { All IsWide pieces.now }
+{
+    let mut rows: usize = 0;
+    for piece in pieces {
+        rows = rows.saturating_add(piece.rows());
+    }
+    rows
+}
+
+/// How many bytes the texts have together that the pieces have in a column.
+pub(crate) fn text_size(catalog: &Catalog, pieces: &[Walked], c: usize) -> usize
+    requires column { c < length catalog.now.columns }
+    requires kinds { All (λ piece. piece.kinds ≡ map (λ c. c.kind) catalog.now.columns) pieces.now }
+{
+    let mut size: usize = 0;
+    for piece in pieces {
+        size = size.saturating_add(piece.column(c).text_size());
+    }
+    size
+}
+
+/// The cells that the pieces have in a column, one piece after the other.
+pub fn join_column(
+    alloc: Global,
+    catalog: &Catalog,
+    pieces: &[Walked],
+    c: usize,
+) -> Result<Cells, AllocError>
+    requires column { c < length catalog.now.columns }
+    requires kinds { All (λ piece. piece.kinds ≡ map (λ c. c.kind) catalog.now.columns) pieces.now }
+    ensures kind { IfOk result (λ cells. kind_of cells ≡ (column catalog.now c).kind) }
+    ensures cells { IfOk result (λ cells. values cells ≡ map (λ row. cell row c) (flat_map (λ piece. piece.rows) pieces.now)) }
+{
+    let mut joined = Cells::new(alloc, kind(catalog, c));
+    joined.reserve(rows_in(pieces), text_size(catalog, pieces, c))?;
+    for piece in pieces {
+        joined.extend(piece.column(c), 0, piece.rows())?;
+    }
+    Ok(joined)
+}

@@ -1,0 +1,132 @@
+//! The rows of walked pieces, each primary key once. Only the keys are joined to find the repeats: every other cell that
+//! is left goes straight from its piece to its column.
+ghost use Rattle.std.specs.Prelude.{◌≡◌, ◌<◌, All, IfOk, count_by, length, map, not};
+ghost use Rattle.std.specs.List.{flat_map};
+ghost use Rattle.cs_schema.specs.CatalogData.{column};
+ghost use Rattle.cs_schema.specs.CatalogRules.{IsCatalog};
+ghost use Rattle.cs_schema.specs.Values.{values, kind_of};
+ghost use Rattle.cs_schema.specs.Rows.{cell};
+ghost use Rattle.cs_rows.specs.Columns.{ColumnsFit, IsColumn};
+ghost use Rattle.cs_rows.specs.Repeats.{AreRepeats, unmarked};
+ghost use Rattle.cs_rows.specs.RowSteps.{AreRows};
+ghost use Rattle.cs_rows.specs.WalkByRows.{without_repeats};
+ghost use Rattle.cs_rows.specs.WalkedView.{IsWide};
+
+use crate::joining::{join_column, rows_in, text_size};
+use crate::marks::push_unmarked;
+use crate::numbers::{column_count, key_column, kind};
+use crate::repeats::find_repeats;
+use crate::walked::Walked;
+use cs_schema::{Catalog, Cells};
+use rayon::prelude::*;
+use std::alloc::{AllocError, Global};
+use std::thread::Threads;
+
+/// Marks the rows of all pieces whose primary key stands in an earlier one.
+fn mark_repeats_in<R: Threads + Sync>(
+    rt: &R,
+    alloc: Global,
+    catalog: &Catalog,
+    pieces: &[Walked],
+) -> Result<Vec<bool>, AllocError>
+    requires { All (λ piece. piece.kinds ≡ map (λ c. c.kind) catalog.now.columns) pieces.now }
+    ensures { IfOk result (λ marks. AreRepeats (map (λ row. cell row catalog.now.key) (flat_map (λ piece. piece.rows) pieces.now)) marks.items) }
+{
+    let keys = join_column(alloc, catalog, pieces, key_column(catalog))?;
+    find_repeats(rt, alloc, &keys)
+}
+
+/// How many marks aren't set.
+fn count_unmarked(marks: &[bool]) -> usize
+    ensures { result ≡ count_by not marks.now }
+{
+    marks.iter().filter(|mark| !**mark).count()
+}
+
+/// About how many bytes the texts take of so many of the pieces' cells in a column.
+fn estimate_text(catalog: &Catalog, pieces: &[Walked], left: usize, c: usize) -> usize
+    requires column { c < length catalog.now.columns }
+    requires kinds { All (λ piece. piece.kinds ≡ map (λ c. c.kind) catalog.now.columns) pieces.now }
+{
+    let rows = rows_in(pieces);
+    if rows == 0 {
+        return 0;
+    }
+    let mean = text_size(catalog, pieces, c) / rows;
+    mean.saturating_add(1).saturating_mul(left)
+}
+
+/// The unmarked cells that the pieces have in a column, one piece after the other. Room is made for `left` of them.
+fn join_unmarked(
+    alloc: Global,
+    catalog: &Catalog,
+    pieces: &[Walked],
+    marks: &[bool],
+    left: usize,
+    c: usize,
+) -> Result<Cells, AllocError>
+    requires column { c < length catalog.now.columns }
+    requires kinds { All (λ piece. piece.kinds ≡ map (λ c. c.kind) catalog.now.columns) pieces.now }
+    requires marks { length marks.now ≡ length (flat_map (λ piece. piece.rows) pieces.now) }
+    ensures { IfOk result (IsColumn catalog.now (unmarked marks.now (flat_map (λ piece. piece.rows) pieces.now)) c) }
+{
+    let mut joined = Cells::new(alloc, kind(catalog, c));
+    joined.reserve(left, estimate_text(catalog, pieces, left, c))?;
+    let mut rest = marks;
+    for piece in pieces {
+        let (here, later) = rest.split_at(piece.rows());
+        push_unmarked(&mut joined, piece.column(c), here)?;
+        rest = later;
+    }
+    Ok(joined)
+}
+
+/// The columns of the unmarked rows of all pieces, each made in a thread of its own.
+fn unmarked_columns<R: Threads + Sync>(
+    rt: &R,
+    alloc: Global,
+    catalog: &Catalog,
+    pieces: &[Walked],
+    marks: &[bool],
+) -> Result<Vec<Cells>, AllocError>
+    requires kinds { All (λ piece. piece.kinds ≡ map (λ c. c.kind) catalog.now.columns) pieces.now }
+    requires marks { length marks.now ≡ length (flat_map (λ piece. piece.rows) pieces.now) }
+    ensures fit { IfOk result (λ columns. ColumnsFit catalog.now columns.items) }
+    ensures rows { IfOk result (λ columns. AreRows catalog.now (unmarked marks.now (flat_map (λ piece. piece.rows) pieces.now)) columns.items) }
+    ensures wide { All IsWide pieces.now }
+    ensures rules { IsCatalog catalog.now }
+{
+    // tells how wide the rows are
+    let _rows = rows_in(pieces);
+    let left = count_unmarked(marks);
+    (0..column_count(catalog))
+        .into_par_iter()
+        // a column is worth a thread
+        .with_min_len(1)
+        .map(
+            |c: usize| -> Result<Cells, AllocError>
+                requires column { c < length catalog.now.columns }
+                requires kinds { All (λ piece. piece.kinds ≡ map (λ c. c.kind) catalog.now.columns) pieces.now }
+                requires marks { length marks.now ≡ length (flat_map (λ piece. piece.rows) pieces.now) }
+                ensures { IfOk result (IsColumn catalog.entry.now (unmarked marks.entry.now (flat_map (λ piece. piece.rows) pieces.entry.now)) c) }
+            { join_unmarked(alloc, catalog, pieces, marks, left, c) },
+        )
+        .collect::<Result<Vec<Cells>, AllocError>>(rt, alloc)?
+}
+
+/// The rows of all pieces, one after the other, without each row whose primary key stands in an earlier one, in n log n
+/// steps. Of the pieces' columns only the keys are joined.
+pub fn join_once<R: Threads + Sync>(
+    rt: &R,
+    alloc: Global,
+    catalog: &Catalog,
+    pieces: &[Walked],
+) -> Result<Walked, AllocError>
+    requires { All (λ piece. piece.kinds ≡ map (λ c. c.kind) catalog.now.columns) pieces.now }
+    ensures kinds { IfOk result (λ walked. walked.kinds ≡ map (λ c. c.kind) catalog.now.columns) }
+    ensures rows { IfOk result (λ walked. walked.rows ≡ without_repeats catalog.now (flat_map (λ piece. piece.rows) pieces.now)) }
+{
+    let marks = mark_repeats_in(rt, alloc, catalog, pieces)?;
+    let columns = unmarked_columns(rt, alloc, catalog, pieces, &marks)?;
+    Ok(Walked::from_columns(columns))
+}

@@ -1,0 +1,103 @@
+//! Saving a file set whose files are written side by side.
+ghost use Rattle.std.specs.Prelude.{◌≡◌, ◌<◌, OnOk, IfErr};
+ghost use Rattle.std.specs.FinMap.{entries, len};
+ghost use Rattle.cs_store.specs.Save.{Saves, StopsSaving};
+
+use crate::batch_sink::{BatchSink, FileWriter};
+use cs_schema::FileName;
+use cs_store::{Fault, FileSet, Sink, StoreFault, save};
+use rayon::prelude::*;
+use std::alloc::{AllocError, Global};
+use std::marker::Sync;
+use std::thread::Threads;
+
+/// A sink whose files were written ahead. One that was not is written when it is put.
+#[derive(Drop)]
+struct Ahead<K> {
+    sink: K,
+    /// What came of the writing of each file, the next one last.
+    written: Vec<Result<(), StoreFault>>,
+}
+
+/// What comes of the writing of each file, in the order of names.
+fn write_each<R: Threads + Sync, W: FileWriter>(
+    rt: &R,
+    alloc: Global,
+    files: &FileSet,
+    writer: &W,
+) -> Result<Vec<Result<(), StoreFault>>, AllocError> {
+    (0..files.len())
+        .into_par_iter()
+        // a file is worth a thread
+        .with_min_len(1)
+        .map(
+            |at: usize| -> Result<(), StoreFault>
+                requires { at < len files.now }
+            {
+                let (name, bytes) = files.at(at);
+                writer.write(name, bytes)
+            },
+        )
+        .collect(rt, alloc)
+}
+
+/// What came of the writing of each file, the first one last, where the sink has a writer. For want of memory it isn't told.
+fn write_ahead<R: Threads + Sync, K: BatchSink>(
+    rt: &R,
+    alloc: Global,
+    files: &FileSet,
+    sink: &K,
+) -> Vec<Result<(), StoreFault>> {
+    let Some(writer) = sink.writer() else {
+        return Vec::new(alloc);
+    };
+    match write_each(rt, alloc, files, writer) {
+        Ok(written) => {
+            let mut written = written;
+            written.reverse();
+            written
+        }
+        Err(_) => Vec::new(alloc),
+    }
+}
+
+impl<K: BatchSink> Sink for Ahead<K> {
+    ghost takes = { λ s name bytes t. K.takes s.sink name bytes t.sink };
+
+    ghost marks = { λ s files t. K.marks s.sink files t.sink };
+
+    ghost refuses = { λ s at fault t. K.refuses s.sink at fault t.sink };
+
+    ghost fault_count = { λ s. K.fault_count s.sink };
+
+    fn put(&mut self, name: FileName, bytes: &[u8]) -> Result<(), StoreFault> {
+        match self.written.pop() {
+            Some(written) => self.sink.put_written(name, bytes, written),
+            None => self.sink.put(name, bytes),
+        }
+    }
+
+    fn mark(&mut self, files: u64) -> Result<(), StoreFault> {
+        self.sink.mark(files)
+    }
+
+    fn faults(&self) -> u64 {
+        self.sink.faults()
+    }
+}
+
+/// As `save`, where the files are written side by side: after a refusal, more than one may stand in part, and more than those
+/// before the one that is named.
+pub fn save_batch<R: Threads + Sync, K: BatchSink + Drop>(
+    rt: &R,
+    alloc: Global,
+    files: &FileSet,
+    sink: K,
+) -> Result<(), Fault>
+    ensures ok { OnOk result ((t : K) × Saves K.takes K.marks (entries files.now) sink t) }
+    ensures err { IfErr result (λ fault. (t : K) × StopsSaving K.takes K.refuses (entries files.now) sink fault t) }
+{
+    let written = write_ahead(rt, alloc, files, &sink);
+    let mut ahead = Ahead { sink, written };
+    save(files, &mut ahead)
+}
