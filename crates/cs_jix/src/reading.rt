@@ -60,8 +60,8 @@ fn read_entries(
     ensures keys { IfOk result (λ r. length r.1.items ≡ count) }
     ensures text { IfOk result (λ r. bytes.now ≡ entries_text (zip r.0.items r.1.items)) }
 {
-    let mut segments: Vec<u16> = Vec::new(alloc);
-    let mut keys: Vec<u32> = Vec::new(alloc);
+    let mut segments: Vec<u16> = Vec::with_capacity(alloc, count)?;
+    let mut keys: Vec<u32> = Vec::with_capacity(alloc, count)?;
     for i in 0..count {
         let (segment, key) = read_entry(&bytes[6 * i..6 * i + 6]);
         segments.push(segment)?;

@@ -11,16 +11,11 @@ ghost use Rattle.cs_order.specs.Orders.{row_at};
 ghost use Rattle.cs_rebuild.specs.Comparing.{AreAlike, AreBeside, AreComparable, IsColumnThere};
 
 use crate::columns::columns_of;
+use crate::shares::Shares;
 use cs_delta::Image;
 use cs_rows::Table;
 use cs_schema::{Catalog, Cells};
 use std::thread::{Threads, join};
-
-/// How many cells are worth the start of a thread.
-const WORTH_THREADS: usize = 16_384;
-
-/// Into how many parts a long column is cut, for where there are more processors than columns.
-const PARTS: usize = 4;
 
 /// Whether a column has, from a start up to an end, the cells of another one at the rows of these numbers.
 fn has_cells(cells: &Cells, column: &Cells, numbers: &[u32], start: usize, end: usize) -> bool
@@ -36,21 +31,21 @@ fn has_cells(cells: &Cells, column: &Cells, numbers: &[u32], start: usize, end: 
     true
 }
 
-/// How many cells of a column with so many rows are compared by one thread.
-fn part_of(rows: usize) -> usize
-    ensures { 0 < result }
-{
-    (rows / PARTS).max(WORTH_THREADS)
-}
-
-/// Whether the first cells of a column are those of another one at the rows of these numbers, each part of them compared
+/// Whether the first cells of a column are those of another one at the rows of these numbers, each `part` of them compared
 /// by a thread of its own.
-fn has_first<R: Threads>(rt: &R, cells: &Cells, column: &Cells, numbers: &[u32], end: usize) -> bool
+fn has_first<R: Threads>(
+    rt: &R,
+    cells: &Cells,
+    column: &Cells,
+    numbers: &[u32],
+    end: usize,
+    part: usize,
+) -> bool
+    requires some { 0 < part }
     requires beside { AreBeside (values cells.now) (values column.now) numbers.now }
     requires within { end ≤ length numbers.now }
     ensures { IsTrue result ↔ AreAlike (values cells.now) (values column.now) numbers.now 0 end }
 {
-    let part = part_of(numbers.len());
     if end <= part {
         return has_cells(cells, column, numbers, 0, end);
     }
@@ -62,16 +57,16 @@ fn has_first<R: Threads>(rt: &R, cells: &Cells, column: &Cells, numbers: &[u32],
             ensures { IsTrue result ↔ AreAlike (values cells.entry.now) (values column.entry.now) numbers.entry.now start end }
         { has_cells(cells, column, numbers, start, end) },
         || -> bool
-            requires { AreBeside (values cells.now) (values column.now) numbers.now × (start ≤ length numbers.now) }
+            requires { (0 < part) × AreBeside (values cells.now) (values column.now) numbers.now × (start ≤ length numbers.now) }
             ensures { IsTrue result ↔ AreAlike (values cells.entry.now) (values column.entry.now) numbers.entry.now 0 start }
-        { has_first(rt, cells, column, numbers, start) },
+        { has_first(rt, cells, column, numbers, start, part) },
     );
     here && before
 }
 
 /// Whether column `j` of the image has the cells of the rows of these numbers.
 fn has_column<R: Threads>(
-    rt: &R,
+    shares: &Shares<'_, R>,
     image: &Image,
     walked: &Table<'_>,
     columns: &[u8],
@@ -83,12 +78,20 @@ fn has_column<R: Threads>(
     ensures { IsTrue result ↔ IsColumnThere image.now walked.now columns.now numbers.now j }
 {
     let column = walked.column(columns[j] as usize);
-    has_first(rt, image.column(j), column, numbers, numbers.len())
+    let rows = numbers.len();
+    has_first(
+        shares.rt,
+        image.column(j),
+        column,
+        numbers,
+        rows,
+        shares.part_of(rows),
+    )
 }
 
 /// Whether an image has the walked rows of these numbers, as a projection keeps them.
 pub fn has_rows<R: Threads>(
-    rt: &R,
+    shares: &Shares<'_, R>,
     catalog: &Catalog,
     p: u16,
     image: &Image,
@@ -109,7 +112,7 @@ pub fn has_rows<R: Threads>(
     let width = catalog.width(p);
     let columns = columns_of(catalog, p);
     for j in 0..width {
-        if !has_column(rt, image, walked, columns, numbers, j) {
+        if !has_column(shares, image, walked, columns, numbers, j) {
             return false;
         }
     }

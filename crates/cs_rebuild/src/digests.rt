@@ -27,21 +27,29 @@ fn has_digest(files: &FileSet, segments: &[(u16, u16)], at: usize) -> bool
     }
 }
 
-/// Whether each segment's file, where it is there, has the digest of its text. Each is asked in a thread where one is free.
-fn have_digests<R: Threads + Sync>(rt: &R, files: &FileSet, segments: &[(u16, u16)]) -> bool
+/// How many digests so many workers take at once. No round waits for them: so they leave processors to the rounds, and take
+/// what these leave free.
+fn digests_at_once(workers: u32) -> usize {
+    (workers as usize / 2).max(2)
+}
+
+/// Whether each segment's file, where it is there, has the digest of its text, about so many of them asked at once.
+fn have_digests<R: Threads + Sync>(
+    rt: &R,
+    files: &FileSet,
+    segments: &[(u16, u16)],
+    at_once: usize,
+) -> bool
     ensures { IsTrue result → AreSealed (contents_of files.now) segments.now }
 {
-    (0..segments.len())
-        .into_par_iter()
-        // a digest is worth a thread
-        .with_min_len(1)
-        .all(
-            rt,
-            |at: usize| -> bool
-                requires { at < length segments.now }
-                ensures { IsTrue result → IsSealedAt (contents_of files.entry.now) segments.entry.now at }
-            { has_digest(files, segments, at) },
-        )
+    let least = segments.len().checked_div(at_once).unwrap_or(1).max(1);
+    (0..segments.len()).into_par_iter().with_min_len(least).all(
+        rt,
+        |at: usize| -> bool
+            requires { at < length segments.now }
+            ensures { IsTrue result → IsSealedAt (contents_of files.entry.now) segments.entry.now at }
+        { has_digest(files, segments, at) },
+    )
 }
 
 /// Whether each surviving segment file that is there has the digest of its text. For want of memory it isn't told.
@@ -54,7 +62,10 @@ pub fn are_sealed<R: Threads + Sync, G>(
     ensures { IsTrue result → AreSealed (contents_of files.now) (segments_after catalog.now loss) }
 {
     match surviving_segments(run.alloc, catalog, loss) {
-        Ok(segments) => have_digests(run.rt, files, segments.as_slice()),
+        Ok(segments) => {
+            let at_once = digests_at_once(run.workers);
+            have_digests(run.rt, files, segments.as_slice(), at_once)
+        }
         Err(_) => false,
     }
 }

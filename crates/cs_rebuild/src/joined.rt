@@ -19,6 +19,7 @@ use crate::ordered_store::OrderedStore;
 use crate::places::Entries;
 use crate::rounds::Tasks;
 use crate::run::Run;
+use crate::shares::Shares;
 use cs_board::{Gate, Round};
 use cs_jix::JoinIndex;
 use cs_schema::{Catalog, Loss};
@@ -51,19 +52,6 @@ fn agrees(catalog: &Catalog, loss: Loss, q: u16, entry: (u16, u32), place: (u16,
     entry.1 == place.1
 }
 
-/// How many entries are worth the start of a thread.
-const WORTH_THREADS: u32 = 16_384;
-
-/// Into how many parts a long join index is cut: there may be more processors than join indexes.
-const PARTS: u32 = 4;
-
-/// How many entries of a join index with so many are compared by one thread.
-fn part_of(top: u32) -> u32
-    ensures { 0 < result }
-{
-    (top / PARTS).max(WORTH_THREADS)
-}
-
 /// Whether a join index has the expected entries at the keys above one number, up to another.
 fn leads_between(entries: &Entries<'_>, index: &JoinIndex, from: u32, to: u32) -> bool
     requires within { to ≤ length index.now }
@@ -86,13 +74,19 @@ fn leads_between(entries: &Entries<'_>, index: &JoinIndex, from: u32, to: u32) -
     true
 }
 
-/// Whether it has them at its first keys, so many, each part of which is looked at by a thread of its own.
-fn leads_first<R: Threads>(rt: &R, entries: &Entries<'_>, index: &JoinIndex, end: u32) -> bool
+/// Whether it has them at its first keys, so many, each `part` of which is looked at by a thread of its own.
+fn leads_first<R: Threads>(
+    rt: &R,
+    entries: &Entries<'_>,
+    index: &JoinIndex,
+    end: u32,
+    part: u32,
+) -> bool
+    requires some { 0 < part }
     requires within { end ≤ length index.now }
     requires raw { HasNoKeylessPlace index.now }
     ensures { IsTrue result ↔ AreLed entries.now.store.now.catalog.now entries.now.store.now.loss (held_on entries.now.store.now) (table_on entries.now.store.now) entries.now.p entries.now.s entries.now.q index.now 0 end }
 {
-    let part = part_of(index.top());
     if end <= part {
         return leads_between(entries, index, 0, end);
     }
@@ -105,16 +99,16 @@ fn leads_first<R: Threads>(rt: &R, entries: &Entries<'_>, index: &JoinIndex, end
             ensures { IsTrue result ↔ AreLed entries.entry.now.store.now.catalog.now entries.entry.now.store.now.loss (held_on entries.entry.now.store.now) (table_on entries.entry.now.store.now) entries.entry.now.p entries.entry.now.s entries.entry.now.q index.entry.now start end }
         { leads_between(entries, index, start, end) },
         &mut || -> bool
-            requires { (start ≤ length index.now) × HasNoKeylessPlace index.now }
+            requires { (0 < part) × (start ≤ length index.now) × HasNoKeylessPlace index.now }
             ensures { IsTrue result ↔ AreLed entries.entry.now.store.now.catalog.now entries.entry.now.store.now.loss (held_on entries.entry.now.store.now) (table_on entries.entry.now.store.now) entries.entry.now.p entries.entry.now.s entries.entry.now.q index.entry.now 0 start }
-        { leads_first(rt, entries, index, start) },
+        { leads_first(rt, entries, index, start, part) },
     );
     here && before
 }
 
 /// Whether a join index of a segment has the expected entries.
 fn leads<R: Threads>(
-    rt: &R,
+    shares: &Shares<'_, R>,
     store: &OrderedStore<'_>,
     p: u16,
     s: u16,
@@ -131,17 +125,24 @@ fn leads<R: Threads>(
     if index.top() != top {
         return false;
     }
-    leads_first(rt, &entries, index, top)
+    let part = shares.part_of(top as usize).min(u32::MAX as usize);
+    leads_first(shares.rt, &entries, index, top, part as u32)
 }
 
 /// Whether a surviving join index leads to the places of its rows.
-fn is_led<R: Threads>(rt: &R, store: &OrderedStore<'_>, p: u16, s: u16, q: u16) -> bool
+fn is_led<R: Threads>(
+    shares: &Shares<'_, R>,
+    store: &OrderedStore<'_>,
+    p: u16,
+    s: u16,
+    q: u16,
+) -> bool
     requires { Survives store.now.catalog.now store.now.loss (NameData.Jix p s q) }
     ensures { result ≡ not (is_misled store.now.catalog.now store.now.loss (held_on store.now) (table_on store.now) (p, s, q)) }
 {
     let _rules = store.catalog.projection_count();
     match store.survivors.join(p as usize, s as usize, q as usize) {
-        Some(index) => leads(rt, store, p, s, q, index),
+        Some(index) => leads(shares, store, p, s, q, index),
         None => unreachable!(),
     }
 }
@@ -149,7 +150,7 @@ fn is_led<R: Threads>(rt: &R, store: &OrderedStore<'_>, p: u16, s: u16, q: u16) 
 /// The comparing of some join indexes with the places of their rows.
 #[derive(Drop)]
 struct JoinedWork<'a, R> {
-    rt: &'a R,
+    shares: Shares<'a, R>,
     store: &'a OrderedStore<'a>,
     joins: &'a [(u16, u16, u16)],
     ghost few: { length joins.now ≤ 1024 },
@@ -171,7 +172,7 @@ impl<R: Threads> Tasks for JoinedWork<'_, R> {
 
     fn task(&self, i: u32) -> Result<(), Fault> {
         let (p, s, q) = self.joins[i as usize];
-        if is_led(self.rt, self.store, p, s, q) {
+        if is_led(&self.shares, self.store, p, s, q) {
             Ok(())
         } else {
             Err(Fault::Misled { p, s, q })
@@ -193,7 +194,7 @@ pub fn verify_joins<R: Threads + Sync, G: Gate + Sync>(
     ensures err { IfErr result (λ fault. MemoryOr fault (misled store.now.catalog.now store.now.loss (held_on store.now) (table_on store.now) ≡ Some fault)) }
 {
     let work = JoinedWork {
-        rt: run.rt,
+        shares: Shares::new(run.rt, joins.len(), run.workers),
         store,
         joins,
     };

@@ -38,6 +38,7 @@ mod recovery;
 mod rounds;
 mod rowwise;
 mod run;
+mod shares;
 mod sound_store;
 mod surviving;
 mod surviving_table;

@@ -15,6 +15,7 @@ use crate::comparing::has_rows;
 use crate::ordered_store::OrderedStore;
 use crate::rounds::Tasks;
 use crate::run::Run;
+use crate::shares::Shares;
 use cs_board::{Gate, Round};
 use cs_store::Fault;
 use std::marker::Sync;
@@ -25,9 +26,22 @@ pub fn is_placed<R: Threads>(rt: &R, store: &OrderedStore<'_>, p: u16, s: u16) -
     requires { Survives store.now.catalog.now store.now.loss (NameData.Seg p s) }
     ensures { result ≡ not (is_misplaced store.now.catalog.now (held_on store.now) (table_on store.now) (p, s)) }
 {
+    is_placed_by(&Shares::new(rt, 1, 1), store, p, s)
+}
+
+/// The same, where the comparison is cut into parts like this.
+fn is_placed_by<R: Threads>(
+    shares: &Shares<'_, R>,
+    store: &OrderedStore<'_>,
+    p: u16,
+    s: u16,
+) -> bool
+    requires { Survives store.now.catalog.now store.now.loss (NameData.Seg p s) }
+    ensures { result ≡ not (is_misplaced store.now.catalog.now (held_on store.now) (table_on store.now) (p, s)) }
+{
     let numbers = store.orders.segment(p, s);
     match store.survivors.image(p as usize, s as usize) {
-        Some(image) => has_rows(rt, store.catalog, p, image, &store.walked, numbers),
+        Some(image) => has_rows(shares, store.catalog, p, image, &store.walked, numbers),
         None => unreachable!(),
     }
 }
@@ -35,7 +49,7 @@ pub fn is_placed<R: Threads>(rt: &R, store: &OrderedStore<'_>, p: u16, s: u16) -
 /// The comparing of some images with the table's rows.
 #[derive(Drop)]
 struct PlacedWork<'a, R> {
-    rt: &'a R,
+    shares: Shares<'a, R>,
     store: &'a OrderedStore<'a>,
     segments: &'a [(u16, u16)],
     ghost few: { length segments.now ≤ 128 },
@@ -57,7 +71,7 @@ impl<R: Threads> Tasks for PlacedWork<'_, R> {
 
     fn task(&self, i: u32) -> Result<(), Fault> {
         let (p, s) = self.segments[i as usize];
-        if is_placed(self.rt, self.store, p, s) {
+        if is_placed_by(&self.shares, self.store, p, s) {
             Ok(())
         } else {
             Err(Fault::Misplaced { p, s })
@@ -79,7 +93,7 @@ pub fn verify_images<R: Threads + Sync, G: Gate + Sync>(
     ensures err { IfErr result (λ fault. MemoryOr fault (misplaced store.now.catalog.now store.now.loss (held_on store.now) (table_on store.now) ≡ Some fault)) }
 {
     let work = PlacedWork {
-        rt: run.rt,
+        shares: Shares::new(run.rt, segments.len(), run.workers),
         store,
         segments,
     };

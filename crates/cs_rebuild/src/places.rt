@@ -79,6 +79,7 @@ impl<'a> Entries<'a> {
     }
 
     /// The position of a key in the segment.
+    #[inline(always)]
     pub fn position(&self, key: u32) -> Option<u32>
         ensures { result ≡ position_of_key (image_after self.now.store.now.catalog.now self.now.store.now.loss (held_on self.now.store.now) (table_on self.now.store.now) self.now.p self.now.s) key }
     {
@@ -97,6 +98,7 @@ impl<'a> Entries<'a> {
     }
 
     /// The place of a walked row in the projection: its segment, and the key that it has there.
+    #[inline(always)]
     pub fn place(&self, row: u32) -> (u16, u32)
         requires { row < length self.now.store.now.walked.rows }
         ensures place { result ≡ place_of self.now.store.now.catalog.now self.now.store.now.loss (held_on self.now.store.now) (table_on self.now.store.now) self.now.q (row_at self.now.store.now.walked.rows row) }
@@ -121,6 +123,7 @@ impl<'a> Entries<'a> {
     }
 
     /// The entry at a key: the place of its row, or none where the key is dead.
+    #[inline(always)]
     pub fn at(&self, key: u32) -> (u16, u32)
         ensures entry { result ≡ entry_for self.now.store.now.catalog.now self.now.store.now.loss (held_on self.now.store.now) (table_on self.now.store.now) self.now.p self.now.s self.now.q key }
         ensures exists { result.0 < segments self.now.store.now.catalog.now self.now.q }

@@ -135,7 +135,7 @@ module _ (C : CatalogData) (S : SurvivorsData) (rs : List Reached) (stand : All 
 -- ---- cells at the ends of columns
 
 -- values stand at the end of each of the first n columns
-abbrev AreAdded : (ℕ → List Value) → List Cells → List Cells → ℕ → Type 0
+abbrev pub AreAdded : (ℕ → List Value) → List Cells → List Cells → ℕ → Type 0
 AreAdded added before after n = (c : ℕ) (d : Cells) → c < n → (kind_of (get_or after c d) ≡ kind_of (get_or before c d)) × (values (get_or after c d) ≡ values (get_or before c d) ++ added c)
 
 pub added_more : (added : ℕ → List Value) (before now : List Cells) (i : ℕ) (cells new : Cells) → i < length now → AreAdded added before now i → ((k : ℕ) (d : Cells) → i ≤ k → get_or now k d ≡ get_or before k d) → cells ≡ get_or now i cells → kind_of new ≡ kind_of cells → values new ≡ values cells ++ added i → AreAdded added before (set now i new) (i + 1)

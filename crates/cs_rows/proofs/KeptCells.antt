@@ -1,7 +1,7 @@
 -- Elements that are kept in place, by marks.
-use Rattle.std.proofs.Common.{◌≡◌, ℕ, ◌+◌, ◌<◌, ◌≤◌, List, [], ◌∷◌, ◌++◌, length, map, take, drop, get_or, refl, sym, ap, ◌∙◌, arith, Bool, true, false, cond}
+use Rattle.std.proofs.Common.{◌≡◌, ℕ, ◌+◌, ◌-◌, ◌<◌, ◌≤◌, List, [], ◌∷◌, ◌++◌, length, map, take, drop, get_or, refl, sym, ap, ◌∙◌, arith, Bool, true, false, cond, append_assoc}
 use Rattle.std.specs.Prelude.{All}
-use Rattle.std.proofs.lemmas.List.{take_more, length-take-le}
+use Rattle.std.proofs.lemmas.List.{take_more, length-take-le, length-drop, get_or-drop, append-nil}
 use Rattle.std.proofs.lemmas.List.Elements.{All-nil, All-cons, All-head, All-tail}
 use Rattle.cs_rows.specs.Repeats.{unmarked}
 
@@ -62,3 +62,31 @@ unmarked_all {X} P (g ∷ gs) (x ∷ xs) h = go g (unmarked_all P gs xs (All-tai
     go : (c : Bool) → All P (unmarked gs xs) → All P (cond c (unmarked gs xs) (x ∷ unmarked gs xs))
     go true rest = rest
     go false rest = All-cons P x (unmarked gs xs) (All-head P x xs h) rest
+
+-- an element more from a place on
+pub run_more : {X : Type 0} (xs : List X) (from at : ℕ) (d : X) → from ≤ at → at < length xs → take (at + 1 - from) (drop from xs) ≡ take (at - from) (drop from xs) ++ get_or xs at d ∷ []
+run_more xs from at d order within =
+    let one : at + 1 - from ≡ at - from + 1 = omega (arith, order) in
+    let there : at - from < length (drop from xs) = omega (arith, order, within, length-drop from xs) in
+    let place : from + (at - from) ≡ at = omega (arith, order) in
+    ap (λ n. take n (drop from xs)) one ∙ take_more (drop from xs) (at - from) d there
+    ∙ ap (λ x. take (at - from) (drop from xs) ++ x ∷ []) (get_or-drop from xs (at - from) d ∙ ap (λ n. get_or xs n d) place)
+
+-- an unmarked element goes on with a run
+pub run_goes_on : {X : Type 0} (gs : List Bool) (xs old left : List X) (from at : ℕ) (d : X) → length gs ≡ length xs → at < length gs → from ≤ at → get_or gs at false ≡ false → left ++ take (at - from) (drop from xs) ≡ old ++ unmarked (take at gs) (take at xs) → left ++ take (at + 1 - from) (drop from xs) ≡ old ++ unmarked (take (at + 1) gs) (take (at + 1) xs)
+run_goes_on {X} gs xs old left from at d same within order free e =
+    let x = get_or xs at d in
+    let run = take (at - from) (drop from xs) in
+    let done = unmarked (take at gs) (take at xs) in
+    ap (λ (l : List X). left ++ l) (run_more xs from at d order (omega (arith, within, same))) ∙ sym (append_assoc left run (x ∷ [])) ∙ ap (λ (l : List X). l ++ x ∷ []) e
+    ∙ append_assoc old done (x ∷ []) ∙ ap (λ (l : List X). old ++ l) (sym (unmarked_more gs xs at d same within ∙ ap (λ (b : Bool). done ++ cond b [] (x ∷ [])) free))
+
+-- a marked element ends a run, and the next one begins behind it
+pub run_stops : {X : Type 0} (gs : List Bool) (xs old left : List X) (from at : ℕ) (d : X) → length gs ≡ length xs → at < length gs → get_or gs at false ≡ true → left ++ take (at - from) (drop from xs) ≡ old ++ unmarked (take at gs) (take at xs) → (left ++ take (at - from) (drop from xs)) ++ take (at + 1 - (at + 1)) (drop (at + 1) xs) ≡ old ++ unmarked (take (at + 1) gs) (take (at + 1) xs)
+run_stops {X} gs xs old left from at d same within marked e =
+    let x = get_or xs at d in
+    let done = unmarked (take at gs) (take at xs) in
+    let all = left ++ take (at - from) (drop from xs) in
+    let none : at + 1 - (at + 1) ≡ 0 = omega arith in
+    ap (λ n. all ++ take n (drop (at + 1) xs)) none ∙ append-nil all ∙ e
+    ∙ ap (λ (l : List X). old ++ l) (sym (unmarked_more gs xs at d same within ∙ ap (λ (b : Bool). done ++ cond b [] (x ∷ [])) marked ∙ append-nil done))

@@ -2,6 +2,7 @@ pub mod Walk
 pub mod WalkByRows
 pub mod RangeByRows
 pub mod RowSteps
+pub mod OwnRows
 pub mod WalkedView
 pub mod TableView
 pub mod Survivors

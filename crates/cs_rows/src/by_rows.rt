@@ -15,6 +15,7 @@ use crate::catalog_of;
 use crate::counts::{kept_in_projection, kept_in_segment, surviving_row_count};
 use crate::levels::{Finding, Landed, RowWalk, walk_from};
 use crate::numbers::{column_count, projection_count};
+use crate::own_rows::has_all_columns;
 use crate::range::{WalkFault, new_columns, push_cell};
 use crate::sources::{Reading, Source};
 use crate::survivors::Survivors;
@@ -24,10 +25,10 @@ use std::alloc::{AllocError, Global};
 
 /// Room for the walk from one row, made once for all rows.
 #[derive(Drop)]
-struct Desk {
-    finding: Finding,
-    landings: Vec<(u16, Landed)>,
-    reading: Reading,
+pub(crate) struct Desk {
+    pub(crate) finding: Finding,
+    pub(crate) landings: Vec<(u16, Landed)>,
+    pub(crate) reading: Reading,
 }
 
 /// Room for the walk from a row of a catalog.
@@ -139,6 +140,9 @@ impl RowWalk<'_> {
         ensures cells { OnOk result ((found : List Row) → AreRows self.now.survivors.now.catalog found columns.old.items → AreRows self.now.survivors.now.catalog (found ++ filter_map (row_from self.now.survivors.now.catalog self.now.loss (contents_of self.now.survivors.now)) (reached_from segment.0 segment.1 rows.0 (rows.1 - rows.0))) columns.new.items) }
         ensures fault { IfErr result (IsStrayFault self.now.survivors.now.catalog self.now.loss (contents_of self.now.survivors.now) (reached_from segment.0 segment.1 rows.0 (rows.1 - rows.0))) }
     {
+        if has_all_columns(self.survivors, segment.0) {
+            return self.walk_own_rows(segment, rows, desk, columns);
+        }
         for i in rows.0..rows.1 {
             let row = (segment.0, (segment.1, i));
             match self.walk_row(row, desk, columns) {

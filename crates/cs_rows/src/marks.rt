@@ -1,5 +1,5 @@
 //! Marks of rows, and cells without those of marked rows.
-ghost use Rattle.std.specs.Prelude.{◌≡◌, ◌++◌, false, IfOk, OnOk, length, replicate};
+ghost use Rattle.std.specs.Prelude.{◌≡◌, ◌≤◌, ◌-◌, ◌++◌, false, IfOk, OnOk, length, take, drop, replicate};
 ghost use Rattle.cs_schema.specs.Values.{values, kind_of};
 ghost use Rattle.cs_rows.specs.Repeats.{unmarked};
 
@@ -17,7 +17,21 @@ pub(crate) fn no_marks(alloc: Global, count: usize) -> Result<Vec<bool>, AllocEr
     Ok(marks)
 }
 
-/// Pushes a copy of each unmarked cell of another column, in their order.
+/// Pushes copies of another column's cells, from one place up to another.
+fn push_run(left: &mut Cells, cells: &Cells, from: usize, to: usize) -> Result<(), AllocError>
+    requires kind { kind_of cells.now ≡ kind_of left.old }
+    requires order { from ≤ to }
+    requires within { to ≤ length (values cells.now) }
+    ensures kind { kind_of left.new ≡ kind_of left.old }
+    ensures cells { OnOk result (values left.new ≡ values left.old ++ take (to - from) (drop from (values cells.now))) }
+{
+    if from == to {
+        return Ok(());
+    }
+    left.extend(cells, from, to)
+}
+
+/// Pushes a copy of each unmarked cell of another column, in their order: those between two marked ones at once.
 pub(crate) fn push_unmarked(
     left: &mut Cells,
     cells: &Cells,
@@ -28,10 +42,13 @@ pub(crate) fn push_unmarked(
     ensures kind { kind_of left.new ≡ kind_of left.old }
     ensures cells { OnOk result (values left.new ≡ values left.old ++ unmarked marks.now (values cells.now)) }
 {
+    // where the cells begin that are still to be pushed
+    let mut from = 0;
     for at in 0..marks.len() {
-        if !marks[at] {
-            left.push_cell(cells, at)?;
+        if marks[at] {
+            push_run(left, cells, from, at)?;
+            from = at + 1;
         }
     }
-    Ok(())
+    push_run(left, cells, from, marks.len())
 }

@@ -1,29 +1,31 @@
-use Rattle.std.proofs.Common.{◌++◌, ◌∷◌, [], Bool, List, take, pos, sym, ap, ◌∙◌, cond, get_or, append_assoc}
-use Rattle.std.proofs.lemmas.List.{append-nil}
+use Rattle.std.proofs.Common.{◌+◌, ◌-◌, ◌++◌, pos, ap, ◌∙◌, arith, take, drop}
 use Rattle.cs_schema.specs.declared.cells.Value.{Value}
 use Rattle.cs_schema.specs.Values.{values, kind_of}
-use Rattle.cs_rows.specs.Repeats.{unmarked}
-use Rattle.cs_rows.proofs.KeptCells.{unmarked_more}
+use Rattle.cs_rows.proofs.KeptCells.{run_goes_on, run_stops}
 use Rattle.cs_rows.proofs.marks.push_unmarked.Goals as goal
-use Rattle.cs_rows.proofs.marks.push_unmarked.Goals.{then-not-marks-at+in_ok-push_cell, else-not-marks-at}
+use Rattle.cs_rows.proofs.marks.push_unmarked.Goals.{then-marks-at+in_ok-push_run, else-marks-at}
 
 pub loop-at-preserved : goal.loop-at-preserved
 loop-at-preserved c =
     let marks = c.args.marks.now in
     let old = values c.args.left.now in
+    let left = values c.loop-at.left in
     let vs = values c.args.cells.now in
     let at = c.loop-at.at in
-    let done = unmarked (take at marks) (take at vs) in
-    let x = get_or vs at (Value.Int (pos 0)) in
-    let more = unmarked_more marks vs at (Value.Int (pos 0)) c.requires.marks c.loop-at-test.true in
-    elim c.if-not-marks-at.branch [
-      | then-not-marks-at+in_ok-push_cell w ↦ record {
-        kind = ap kind_of w.left-is ∙ w.in_ok-push_cell.ensures.kind ∙ c.loop-at.invariant.kind;
-        cells = ap values w.left-is ∙ w.in_ok-push_cell.ensures.ok ∙ ap (λ (ws : List Value). ws ++ x ∷ []) c.loop-at.invariant.cells
-            ∙ append_assoc old done (x ∷ []) ∙ ap (λ (ws : List Value). old ++ ws) (sym (more ∙ ap (λ (b : Bool). done ++ cond b [] (x ∷ [])) w.if-not-marks-at.true));
+    let from = c.loop-at.from in
+    let so_far = c.loop-at.invariant in
+    elim c.if-marks-at.branch [
+      | then-marks-at+in_ok-push_run w ↦ record {
+        order = omega (arith, w.from-is);
+        kind = ap kind_of w.left-is ∙ w.in_ok-push_run.ensures.kind ∙ so_far.kind;
+        cells = (λ i. values (w.left-is i) ++ take (at + 1 - w.from-is i) (drop (w.from-is i) vs))
+            ∙ ap (λ ws. ws ++ take (at + 1 - (at + 1)) (drop (at + 1) vs)) w.in_ok-push_run.ensures.cells
+            ∙ run_stops marks vs old left from at (Value.Int (pos 0)) c.requires.marks c.loop-at-test.true w.if-marks-at.true so_far.cells;
       }
-      | else-not-marks-at w ↦ record {
-        kind = ap kind_of w.left-is ∙ c.loop-at.invariant.kind;
-        cells = ap values w.left-is ∙ c.loop-at.invariant.cells ∙ ap (λ (ws : List Value). old ++ ws) (sym (more ∙ ap (λ (b : Bool). done ++ cond b [] (x ∷ [])) w.if-not-marks-at.false ∙ append-nil done));
+      | else-marks-at w ↦ record {
+        order = omega (arith, w.from-is, so_far.order);
+        kind = ap kind_of w.left-is ∙ so_far.kind;
+        cells = (λ i. values (w.left-is i) ++ take (at + 1 - w.from-is i) (drop (w.from-is i) vs))
+            ∙ run_goes_on marks vs old left from at (Value.Int (pos 0)) c.requires.marks c.loop-at-test.true so_far.order w.if-marks-at.false so_far.cells;
       }
     ]
