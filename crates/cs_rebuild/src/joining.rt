@@ -1,6 +1,6 @@
 //! Making the file of a lost segment: its columns are encoded, joined and written one after the other, and the digest of the
 //! file takes each while the next is made.
-ghost use Rattle.std.specs.Prelude.{◌≡◌, ◌<◌, ◌≤◌, ◌+◌, ◌∷◌, ◌++◌, [], ℕ, length, IfOk, OnOk};
+ghost use Rattle.std.specs.Prelude.{◌≡◌, ◌<◌, ◌≤◌, ◌+◌, ◌-◌, ◌∷◌, ◌++◌, [], ℕ, length, IfOk, OnOk};
 ghost use Rattle.cs_schema.specs.declared.kinds.Code.{Code as CodeData};
 ghost use Rattle.cs_schema.specs.CatalogData.{projection, code_at, kind_at};
 ghost use Rattle.cs_piece.specs.Pieces.{IsPieceOf};
@@ -18,10 +18,8 @@ use cs_schema::{Cells, Code};
 use cs_segment::GrowingFile;
 use std::alloc::AllocError;
 use std::marker::Sync;
+use std::mem::replace;
 use std::thread::{Threads, join_mut};
-
-/// How many bytes the digest has to be behind for a thread to be worth its start.
-const WORTH_THREADS: usize = 65_536;
 
 /// About how many bytes the text of so many rows of a column has at most.
 fn text_room(column: &Cells, code: Code, rows: usize) -> usize {
@@ -122,36 +120,15 @@ impl LostSegment<'_> {
         self.whole_text(j, pieces)
     }
 
-    /// The text of a column, made while the digest of a file that is far behind its text catches up.
-    fn text_beside<R: Threads + Sync, G: Gate + Sync>(
+    /// Puts the text of the `j`-th column at the end of the file, behind those of the columns before it, while the digest takes
+    /// it, and lets it go.
+    fn push<R: Threads + Sync, G: Gate + Sync>(
         &self,
         run: &Run<'_, R, G>,
         file: &mut GrowingFile,
         j: usize,
-    ) -> Result<Vec<Vec<u8>>, AllocError>
-        requires column { j < length (projection self.now.store.now.catalog.now self.now.p).columns }
-        ensures file { file.new ≡ file.old }
-        ensures text { IfOk result (λ text. IsTextAt self.now j (joined text.items)) }
-    {
-        if file.behind() < WORTH_THREADS {
-            return self.text(run, j);
-        }
-        // of a closure over a struct of references `join` says nothing
-        let (_, text) = join_mut(
-            run.rt,
-            &mut || -> ()
-                ensures { file.exit.now ≡ file.entry.now }
-            { file.catch_up() },
-            &mut || -> Result<Vec<Vec<u8>>, AllocError>
-                requires { j < length (projection self.now.store.now.catalog.now self.now.p).columns }
-                ensures { IfOk result (λ text. IsTextAt self.entry.now j (joined text.items)) }
-            { self.text(run, j) },
-        );
-        text
-    }
-
-    /// Puts the text of the `j`-th column at the end of the file, behind those of the columns before it, and lets it go.
-    fn push(&self, file: &mut GrowingFile, j: usize, text: Vec<Vec<u8>>) -> Result<(), AllocError>
+        text: Vec<Vec<u8>>,
+    ) -> Result<(), AllocError>
         requires column { j < length (projection self.now.store.now.catalog.now self.now.p).columns }
         requires base { IsBase self.now.store.now.catalog.now self.now.p (base_at self.now.store.now.catalog.now self.now.p self.now.store.now.walked.rows self.now.numbers.now) }
         requires text { IsTextAt self.now j (joined text.items) }
@@ -160,26 +137,37 @@ impl LostSegment<'_> {
         let catalog = self.store.catalog;
         let code = catalog.code(self.p, j);
         let kind = catalog.column_kind(self.p, j);
-        file.push_pieces(code, kind, text)
+        file.push_last(run.rt, code, kind, text)
     }
 
-    /// The same of the last column, while the digest takes it: nothing is left to make beside.
-    fn push_last<R: Threads + Sync, G: Gate + Sync>(
+    /// Puts the text of the column before the `next`-th into the file, and makes that of the `next`-th beside.
+    fn push_beside<R: Threads + Sync, G: Gate + Sync>(
         &self,
         run: &Run<'_, R, G>,
         file: &mut GrowingFile,
-        last: usize,
+        next: usize,
         text: Vec<Vec<u8>>,
-    ) -> Result<(), AllocError>
-        requires column { last < length (projection self.now.store.now.catalog.now self.now.p).columns }
+    ) -> (Result<(), AllocError>, Result<Vec<Vec<u8>>, AllocError>)
+        requires column { (1 ≤ next) × (next < length (projection self.now.store.now.catalog.now self.now.p).columns) }
         requires base { IsBase self.now.store.now.catalog.now self.now.p (base_at self.now.store.now.catalog.now self.now.p self.now.store.now.walked.rows self.now.numbers.now) }
-        requires text { IsTextAt self.now last (joined text.items) }
-        ensures { OnOk result ((s : ℕ) → HoldsFirst self.now s last file.old → HoldsFirst self.now s (last + 1) file.new) }
+        requires text { IsTextAt self.now (next - 1) (joined text.items) }
+        ensures file { OnOk result.0 ((s : ℕ) → HoldsFirst self.now s (next - 1) file.old → HoldsFirst self.now s (next - 1 + 1) file.new) }
+        ensures text { IfOk result.1 (λ made. IsTextAt self.now next (joined made.items)) }
     {
-        let catalog = self.store.catalog;
-        let code = catalog.code(self.p, last);
-        let kind = catalog.column_kind(self.p, last);
-        file.push_last(run.rt, code, kind, text)
+        let last = next - 1;
+        let mut text = text;
+        // of a closure over a struct of references `join` says nothing
+        join_mut(
+            run.rt,
+            &mut || -> Result<(), AllocError>
+                requires { (last < length (projection self.now.store.now.catalog.now self.now.p).columns) × IsBase self.now.store.now.catalog.now self.now.p (base_at self.now.store.now.catalog.now self.now.p self.now.store.now.walked.rows self.now.numbers.now) × IsTextAt self.now last (joined text.items) }
+                ensures { OnOk result ((s : ℕ) → HoldsFirst self.entry.now s last file.entry.now → HoldsFirst self.entry.now s (last + 1) file.exit.now) }
+            { self.push(run, file, last, replace(&mut text, Vec::new(self.alloc))) },
+            &mut || -> Result<Vec<Vec<u8>>, AllocError>
+                requires { next < length (projection self.now.store.now.catalog.now self.now.p).columns }
+                ensures { IfOk result (λ made. IsTextAt self.entry.now next (joined made.items)) }
+            { self.text(run, next) },
+        )
     }
 
     /// Puts the columns before the `count`-th into a file that holds none. The digest takes each while the next is made.
@@ -193,38 +181,16 @@ impl LostSegment<'_> {
         requires base { IsBase self.now.store.now.catalog.now self.now.p (base_at self.now.store.now.catalog.now self.now.p self.now.store.now.walked.rows self.now.numbers.now) }
         ensures { OnOk result ((s : ℕ) → HoldsFirst self.now s 0 file.old → HoldsFirst self.now s count file.new) }
     {
-        for j in 0..count {
-            let text = self.text_beside(run, file, j)?;
-            self.push(file, j, text)?;
+        if count == 0 {
+            return Ok(());
         }
-        file.catch_up();
-        Ok(())
-    }
-
-    /// Puts all columns but the last into a file that holds none, and makes the text of the last beside: nothing is left to
-    /// hide that behind once the others stand.
-    fn grow_beside<R: Threads + Sync, G: Gate + Sync>(
-        &self,
-        run: &Run<'_, R, G>,
-        file: &mut GrowingFile,
-        last: usize,
-    ) -> (Result<Vec<Vec<u8>>, AllocError>, Result<(), AllocError>)
-        requires last { last < length (projection self.now.store.now.catalog.now self.now.p).columns }
-        requires base { IsBase self.now.store.now.catalog.now self.now.p (base_at self.now.store.now.catalog.now self.now.p self.now.store.now.walked.rows self.now.numbers.now) }
-        ensures text { IfOk result.0 (λ text. IsTextAt self.now last (joined text.items)) }
-        ensures file { OnOk result.1 ((s : ℕ) → HoldsFirst self.now s 0 file.old → HoldsFirst self.now s last file.new) }
-    {
-        join_mut(
-            run.rt,
-            &mut || -> Result<Vec<Vec<u8>>, AllocError>
-                requires { last < length (projection self.now.store.now.catalog.now self.now.p).columns }
-                ensures { IfOk result (λ text. IsTextAt self.entry.now last (joined text.items)) }
-            { self.text(run, last) },
-            &mut || -> Result<(), AllocError>
-                requires { (last ≤ length (projection self.now.store.now.catalog.now self.now.p).columns) × IsBase self.now.store.now.catalog.now self.now.p (base_at self.now.store.now.catalog.now self.now.p self.now.store.now.walked.rows self.now.numbers.now) }
-                ensures { OnOk result ((s : ℕ) → HoldsFirst self.entry.now s 0 file.entry.now → HoldsFirst self.entry.now s last file.exit.now) }
-            { self.grow(run, file, last) },
-        )
+        let mut text = self.text(run, 0)?;
+        for next in 1..count {
+            let (put, made) = self.push_beside(run, file, next, text);
+            put?;
+            text = made?;
+        }
+        self.push(run, file, count - 1, text)
     }
 
     /// The file of the segment. A column is let go of once its text stands in the file.
@@ -237,14 +203,12 @@ impl LostSegment<'_> {
         ensures { IfOk result (λ bytes. bytes.items ≡ segment_text self.now.store.now.catalog.now self.now.p s (base_at self.now.store.now.catalog.now self.now.p self.now.store.now.walked.rows self.now.numbers.now)) }
     {
         let catalog = self.store.catalog;
-        let last = catalog.width(self.p) - 1;
+        let width = catalog.width(self.p);
         let rows = self.numbers.len() as u32;
         let mut file = GrowingFile::begin(self.alloc, catalog, self.p, s, rows)?;
         // else what stands there is copied each time that the file grows
         file.reserve(self.room())?;
-        let (text, grown) = self.grow_beside(run, &mut file, last);
-        grown?;
-        self.push_last(run, &mut file, last, text?)?;
+        self.grow(run, &mut file, width)?;
         file.finish()
     }
 }
