@@ -1,5 +1,6 @@
 //! Gates that hold workers until so many are at work at once, also where rows are walked along joins and joins are verified,
-//! and count the pieces.
+//! and count the pieces. A lost segment's columns are encoded one after the other: so where a column has fewer pieces than there
+//! are workers, the rounds before these alone are held.
 ghost use Rattle.std.specs.Prelude.{◌≤◌};
 
 use crate::answers::{Written, expect_written};
@@ -18,9 +19,11 @@ use std::thread::Threads;
 /// How long a piece is held at most.
 const TURNS: u64 = 1_000_000_000;
 
-/// Holds the first pieces of each round until one more is begun: so as many workers are at work at once.
+/// Holds the first pieces of a round until one more is begun: so as many workers are at work at once.
 #[derive(Drop)]
 struct Crowd {
+    /// How many rounds are held.
+    held: u64,
     /// The last piece that is waited for.
     last: u32,
     /// How often each of the first pieces was begun, by its number.
@@ -30,8 +33,9 @@ struct Crowd {
 }
 
 impl Crowd {
-    fn of(last: u32) -> Crowd {
+    fn of(held: u64, last: u32) -> Crowd {
         Crowd {
+            held,
             last,
             begun: [
                 AtomicU64::new(0),
@@ -65,7 +69,7 @@ impl Gate for Crowd {
             return;
         };
         let before = begun.fetch_add(1, Ordering::SeqCst);
-        if piece < self.last {
+        if before < self.held && piece < self.last {
             self.wait(before);
         }
     }
@@ -97,22 +101,28 @@ const THREE_ORDERS: Lost = Lost {
     rows: 4,
 };
 
+/// More rounds than there are.
+const ALL: u64 = 100;
+
+/// The rounds of files and of the walk.
+const FIRST: u64 = 2;
+
 /// Edits of the catalog, for how many lost sites the store is checked, how many workers there are, how many rows a piece of
-/// work has, and in how many pieces the store is rebuilt, and checked.
-type Trial<'a> = (&'a [Edit<'a>], u8, u32, u32, u64, u64);
+/// work has, how many rounds of a rebuild are held, and in how many pieces the store is rebuilt, and checked.
+type Trial<'a> = (&'a [Edit<'a>], u8, u32, u32, u64, u64, u64);
 
 // The pieces are those of the files, the walk, the images, the joins, and the columns that are written.
 const OF_JOINED: [Trial; 2] = [
-    (AS_IT_IS, 1, 2, 1, 2 + 2 + 2 + 2 + 6, 3 + 2 + 3 + 2),
-    (BY_ROWS, 1, 2, 1, 2 + 4 + 2 + 2 + 6, 3 + 6 + 3 + 2),
+    (AS_IT_IS, 1, 2, 1, ALL, 2 + 2 + 2 + 2 + 6, 3 + 2 + 3 + 2),
+    (BY_ROWS, 1, 2, 1, ALL, 2 + 4 + 2 + 2 + 6, 3 + 6 + 3 + 2),
 ];
 
 const OF_THREE_ORDERS: [Trial; 5] = [
-    (AS_IT_IS, 1, 4, 1, 4 + 4 + 4 + 8, 6 + 4 + 6),
-    (BY_ROWS, 1, 4, 1, 4 + 8 + 4 + 8, 6 + 12 + 6),
-    (AS_IT_IS, 2, 2, 1, 20, 16),
-    (BY_ROWS, 2, 2, 1, 24, 24),
-    (AS_IT_IS, 2, 2, 2, 14, 14),
+    (AS_IT_IS, 1, 4, 1, FIRST, 4 + 4 + 4 + 8, 6 + 4 + 6),
+    (BY_ROWS, 1, 4, 1, FIRST, 4 + 8 + 4 + 8, 6 + 12 + 6),
+    (AS_IT_IS, 2, 2, 1, FIRST, 20, 16),
+    (BY_ROWS, 2, 2, 1, FIRST, 24, 24),
+    (AS_IT_IS, 2, 2, 2, FIRST, 14, 14),
 ];
 
 /// How many workers there are, and how many rows a piece of work has.
@@ -130,7 +140,7 @@ fn expect_at_once(
     lost: &Lost,
     trials: &[Trial],
 ) -> Result<(), Fail> {
-    for (edits, k, workers, cut, rebuilt, checked) in trials {
+    for (edits, k, workers, cut, held, rebuilt, checked) in trials {
         let text = edited(rt.alloc(), lost.catalog, edits)?;
         let store = Store::made(rt.alloc(), text.as_str(), lost.parts)?;
         let (workers, cut) = (*workers, *cut);
@@ -138,7 +148,7 @@ fn expect_at_once(
             return Err(Fail::from("no such work"));
         }
         let work = Work { workers, cut };
-        expect_rebuilt(rt, &store, lost, &work, *rebuilt)?;
+        expect_rebuilt(rt, &store, lost, &work, *held, *rebuilt)?;
         expect_checked(rt, &store, *k, lost.rows, &work, *checked);
     }
     Ok(())
@@ -149,9 +159,10 @@ fn expect_rebuilt(
     store: &Store,
     lost: &Lost,
     work: &Work,
+    held: u64,
     pieces: u64,
 ) -> Result<(), Fail> {
-    let gate = Crowd::of(work.workers - 1);
+    let gate = Crowd::of(held, work.workers - 1);
     let out = rebuild_gated(
         rt,
         store.alloc,
@@ -177,7 +188,7 @@ fn expect_checked(
     work: &Work,
     pieces: u64,
 ) {
-    let gate = Crowd::of(work.workers - 1);
+    let gate = Crowd::of(ALL, work.workers - 1);
     let answer = check_gated(
         rt,
         store.alloc,
