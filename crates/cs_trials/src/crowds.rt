@@ -120,8 +120,8 @@ const OF_JOINED: [Trial; 2] = [
 const OF_THREE_ORDERS: [Trial; 5] = [
     (AS_IT_IS, 1, 4, 1, FIRST, 4 + 4 + 4 + 8, 6 + 4 + 6),
     (BY_ROWS, 1, 4, 1, FIRST, 4 + 8 + 4 + 8, 6 + 12 + 6),
-    (AS_IT_IS, 2, 2, 1, FIRST, 20, 16),
-    (BY_ROWS, 2, 2, 1, FIRST, 24, 24),
+    (AS_IT_IS, 2, 2, 1, ALL, 20, 16),
+    (BY_ROWS, 2, 2, 1, ALL, 24, 24),
     (AS_IT_IS, 2, 2, 2, FIRST, 14, 14),
 ];
 
