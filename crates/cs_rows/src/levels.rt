@@ -257,6 +257,7 @@ impl Finding {
 }
 
 /// Walks from a row until a level reaches nothing. Tells whether the walk is not astray.
+#[inline(always)]
 pub(crate) fn walk_from(
     walk: &RowWalk<'_>,
     row: (u16, (u16, u32)),
