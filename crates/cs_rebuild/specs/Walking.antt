@@ -11,7 +11,7 @@ use Rattle.cs_schema.specs.Losses.{Sites}
 use Rattle.cs_safety.specs.PlanData.{PlanData}
 use Rattle.cs_rows.specs.Walk.{Contents, At, projection_rows, walked_row, is_astray}
 use Rattle.cs_rows.specs.WalkByRows.{Reached, surviving_rows}
-use Rattle.cs_rows.specs.RangeByRows.{is_stray_row, row_from}
+use Rattle.cs_rows.specs.RangeByRows.{is_stray_row, fresh_row}
 use Rattle.cs_rows.specs.WalkedView.{WalkedData}
 
 -- the i-th piece of a list
@@ -60,4 +60,4 @@ abbrev pub RowsFaultAt : CatalogData → Sites → Contents → ℕ → ℕ → 
 RowsFaultAt C L S cut i fault = fault ≡ option_map stray_row_fault (find (is_stray_row C L S) (piece_of cut (surviving_rows C L S) i))
 
 abbrev pub RowsAnswerAt : CatalogData → Sites → Contents → ℕ → ℕ → WalkedData → Type 0
-RowsAnswerAt C L S cut i w = HasTableKinds C w × (w.rows ≡ filter_map (row_from C L S) (piece_of cut (surviving_rows C L S) i))
+RowsAnswerAt C L S cut i w = HasTableKinds C w × (w.rows ≡ filter_map (fresh_row C L S) (piece_of cut (surviving_rows C L S) i))

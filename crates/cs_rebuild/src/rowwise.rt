@@ -81,6 +81,7 @@ pub fn walk_rowwise<'a, R: Threads + Sync, G: Gate + Sync>(
     ensures rows { IfOk result (λ rows. walked_by_rows catalog.now loss (contents_of survivors.now) ≡ Ok rows.rows) }
     ensures err { IfErr result (λ fault. MemoryOr fault ((at : Stray) × (walked_by_rows catalog.now loss (contents_of survivors.now) ≡ Err at) × (fault ≡ FaultData.Astray at.0 at.1 at.2))) }
 {
+    let _rules = catalog.projection_count();
     let rows = surviving_row_count(survivors, loss);
     let pieces = count_pieces(rows, run.cut);
     let work = RowsWork {

@@ -1,7 +1,7 @@
 -- A store that was built holds the table of its rows, and what a safe loss of it leaves is recovered to the same files.
-use Rattle.std.proofs.Common.{◌≡◌, ℕ, ◌<◌, ◌≤◌, ◌+◌, List, [], map, refl, sym, ap, subst, ◌∙◌, Bool, true, false, cond, ◌&&◌, ◌||◌, not, inl, inr, Option, Some, None, length, arith, Result, Ok, Err}
-use Rattle.std.specs.Prelude.{nat_lt, slice_index, IfOk}
-use Rattle.std.specs.List.{slice_get, range_with_len}
+use Rattle.std.proofs.Common.{◌≡◌, ℕ, ◌<◌, ◌+◌, List, map, refl, sym, ap, subst, ◌∙◌, Bool, true, false, cond, ◌&&◌, ◌||◌, not, Option, Some, None, length, arith, Result, Ok, Err}
+use Rattle.std.specs.Prelude.{nat_lt, slice_index}
+use Rattle.std.specs.List.{slice_get}
 use Rattle.std.specs.Option.{option_and_then, option_map_or, option_or}
 use Rattle.std.proofs.lemmas.Option.{none-some}
 use borrow.Author.Tests.{lt-ltb}
@@ -11,7 +11,7 @@ use Rattle.cs_schema.specs.declared.file_name.FileName.{FileName}
 use Rattle.cs_schema.specs.CatalogData.{CatalogData, HasSegment, projection, segments, has_join}
 use Rattle.cs_schema.specs.CatalogRules.{IsCatalog}
 use Rattle.cs_schema.specs.FileNames.{FileContents, HasName, Survives, projection_of, segment_of}
-use Rattle.cs_schema.specs.Lists.{IsIn, member, numbers_below}
+use Rattle.cs_schema.specs.Lists.{IsIn, numbers_below}
 use Rattle.cs_schema.specs.Losses.{Sites, IsLoss, lost, alive}
 use Rattle.cs_schema.specs.Order.{Fits, rows_of, index_of}
 use Rattle.cs_schema.specs.Rows.{Row, IsRow, IsTable, project, segment_of_row}
@@ -28,11 +28,11 @@ use Rattle.cs_order.specs.Tables.{table_of, is_twice}
 use Rattle.cs_recovery.specs.BuildAnswers.{every_site, no_files, build_fault, IsBuildAnswer, IsBuiltAgain, BuildClauses}
 use Rattle.cs_recovery.specs.Claims.{SameSurvivors, IsRebuildAnswer, IsRecovered, put_over}
 use Rattle.cs_recovery.specs.Contents.{IsImageOf, Reads}
-use Rattle.cs_recovery.specs.Expected.{AreExpected, written, is_segment, is_lost, is_affected}
+use Rattle.cs_recovery.specs.Expected.{AreExpected, is_segment, is_lost, is_affected}
 use Rattle.cs_recovery.specs.Holding.{AreContentsOf, HoldsSurvivors, Holds}
 use Rattle.cs_recovery.specs.Places.{image_after, place_of, entries_for}
 use Rattle.cs_recovery.specs.Tables.{when}
-use Rattle.cs_recovery.specs.Verdicts.{NamesItsSites, twice, full}
+use Rattle.cs_recovery.specs.Verdicts.{twice, full}
 use Rattle.cs_recovery.proofs.Clauses.{answer_recovers}
 use Rattle.cs_recovery.proofs.Exact.{Layers}
 use Rattle.cs_recovery.proofs.FewerSurvive.{image_under}

@@ -1,8 +1,7 @@
 -- Rows in columns: those of a table, and those of the catalog's kinds.
-use Rattle.std.proofs.Common.{◌≡◌, ℕ, zero, suc, ◌<◌, ◌≤◌, List, [], ◌∷◌, length, map, get_or, refl, sym, ap, subst, ◌∙◌, arith, Some}
-use Rattle.std.specs.Prelude.{All, pos, slice_get}
+use Rattle.std.proofs.Common.{◌≡◌, ℕ, zero, suc, ◌<◌, List, [], ◌∷◌, length, map, get_or, sym, ap, subst, ◌∙◌, arith}
+use Rattle.std.specs.Prelude.{All, pos}
 use Rattle.std.proofs.lemmas.List.{length-map}
-use Rattle.std.proofs.lemmas.List.FromFn.{get_or-map-range_with_len, length-map-range_with_len}
 use Rattle.std.proofs.lemmas.Option.{slice_get-get_or, get_or_from_slice_get}
 use Rattle.cs_schema.specs.CatalogData.{CatalogData, column}
 use Rattle.cs_schema.specs.CatalogRules.{IsCatalog}
@@ -15,7 +14,7 @@ use Rattle.cs_schema.proofs.Ascending.{same_ascending, ascending_sorted, in_asce
 use Rattle.cs_schema.proofs.Lists.{in_at, in_map, in_range}
 use Rattle.cs_schema.proofs.RowOrder.{tied_same, key_total}
 use Rattle.cs_rows.specs.Columns.{ColumnsFit}
-use Rattle.cs_rows.specs.WalkedView.{AreColumns, count_of, row_of}
+use Rattle.cs_rows.specs.WalkedView.{count_of, row_of}
 use Rattle.cs_rows.proofs.FoundRows.{columns_of_rows, rows_in as rows_of_columns}
 use Rattle.cs_order.specs.Tables.{table_of}
 use Rattle.cs_order.proofs.SortedItems.{exists_at}

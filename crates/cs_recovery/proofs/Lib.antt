@@ -26,6 +26,7 @@ pub mod Restarts
 pub mod RowHome
 pub mod RowKinds
 pub mod RowLevels
+pub mod FoundBefore
 pub mod RowLists
 pub mod RowPlaces
 pub mod RowReadings

@@ -1,5 +1,5 @@
 -- The clauses of `table`, from its answer.
-use Rattle.std.proofs.Common.{◌≡◌, ℕ, List, [], sym, ap, subst, inl, inr, length, Result, Ok, Err}
+use Rattle.std.proofs.Common.{◌≡◌, List, [], ap, subst, inl, inr, Result, Ok, Err}
 use Rattle.std.specs.Prelude.{IfOk}
 use Rattle.cs_store.specs.declared.fault.Fault.{Fault}
 use Rattle.cs_schema.specs.CatalogData.{CatalogData}

@@ -1,5 +1,5 @@
 -- The first element that passes a test, sought from the front.
-use Rattle.std.proofs.Common.{◌≡◌, ℕ, zero, suc, ◌+◌, ◌<◌, ◌≤◌, List, [], ◌∷◌, length, take, get_or, refl, sym, ap, ◌∙◌, subst, arith, Bool, true, false, cond, not, ◌&&◌, ◌||◌, ◌==◌, Some, None}
+use Rattle.std.proofs.Common.{◌≡◌, ℕ, zero, suc, ◌+◌, ◌<◌, ◌≤◌, List, [], ◌∷◌, length, take, get_or, refl, sym, ap, ◌∙◌, subst, arith, Bool, true, false, cond, not, ◌&&◌, ◌||◌, ◌==◌, Some, None, true≢false}
 use Rattle.std.specs.Prelude.{All}
 use Rattle.std.specs.List.{find, list_all, list_any, position_or_len, range_with_len}
 use Rattle.std.proofs.lemmas.Option.{none-some, same_Some}
@@ -70,6 +70,19 @@ fails_from t a (suc n) (suc i) h e =
     and_false : (b : Bool) → (b && false) ≡ false
     and_false true = refl
     and_false false = refl
+
+one_from : (t : ℕ → Bool) (a n i : ℕ) → list_all t (range_with_len a n) ≡ true → i < n → t (a + i) ≡ true
+one_from t a zero i e h = absurd (omega arith)
+one_from t a (suc n) i e h = go (t a) refl e i h (λ g j k. one_from t (a + 1) n j g k)
+  where
+    go : (b : Bool) → t a ≡ b → (b && list_all t (range_with_len (a + 1) n)) ≡ true → (i : ℕ) → i < suc n → (list_all t (range_with_len (a + 1) n) ≡ true → (j : ℕ) → j < n → t (a + 1 + j) ≡ true) → t (a + i) ≡ true
+    go true f g zero k later = let z : a ≡ a + 0 = omega arith in ap t (sym z) ∙ f
+    go true f g (suc i) k later = let s : a + 1 + i ≡ a + suc i = omega arith in ap t (sym s) ∙ later g i (omega arith)
+    go false f g i k later = absurd (true≢false (sym g))
+
+-- what is true of all is of one
+pub one_of_all : (t : ℕ → Bool) (n : ℕ) → list_all t (numbers_below n) ≡ true → (k : ℕ) → k < n → t k ≡ true
+one_of_all t n e k h = let z : 0 + k ≡ k = omega arith in ap t (sym z) ∙ one_from t 0 n k e h
 
 pub fails_below : (t : ℕ → Bool) (n k : ℕ) → k < n → t k ≡ false → list_all t (numbers_below n) ≡ false
 fails_below t n k h e = let z : 0 + k ≡ k = omega arith in fails_from t 0 n k h (ap t z ∙ e)

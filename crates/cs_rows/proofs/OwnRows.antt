@@ -1,6 +1,6 @@
 -- Rows of projections that have every column are full by themselves.
-use Rattle.std.proofs.Common.{◌≡◌, ℕ, zero, suc, ◌+◌, ◌-◌, ◌<◌, ◌≤◌, List, [], ◌∷◌, ◌++◌, length, map, get_or, take, drop, refl, sym, ap, ◌∙◌, subst, arith, Bool, true, false, cond, ◌==◌, ◌&&◌, Option, Some, None, zero-add, eqb-true}
-use Rattle.std.specs.Prelude.{All, pos, slice_index_or}
+use Rattle.std.proofs.Common.{◌≡◌, ℕ, zero, suc, ◌+◌, ◌-◌, ◌<◌, ◌≤◌, List, [], ◌∷◌, ◌++◌, length, map, get_or, take, drop, refl, sym, ap, ◌∙◌, subst, arith, Bool, true, false, cond, ◌==◌, ◌&&◌, Option, Some, None, zero-add, eqb-true, not, le-ltb}
+use Rattle.std.specs.Prelude.{All, nat_lt, pos, slice_index_or}
 use Rattle.std.specs.List.{find, filter_map, cons_option, list_all, list_any, position_or_len, range_with_len}
 use Rattle.std.specs.Option.{is_some, is_none, option_and_then, option_map_or}
 use Rattle.std.proofs.lemmas.List.{length-map, get_or-map, get_or-take, get_or-drop, length-take-le, length-drop}
@@ -20,26 +20,30 @@ use Rattle.cs_delta.specs.Image.{ImageData, Pair}
 use Rattle.cs_delta.specs.KindedImage.{KindedImage, image_column}
 use Rattle.cs_safety.specs.Paths.{holds_column}
 use Rattle.cs_rows.specs.Walk.{Contents, image_cell}
-use Rattle.cs_rows.specs.WalkByRows.{Reached, Found, found, found_from, source_in, is_full, found_row, full_row, level, with_level, row_landing, is_stray_landing}
-use Rattle.cs_rows.specs.RangeByRows.{is_stray_row, row_from}
+use Rattle.cs_rows.specs.WalkByRows.{Reached, Found, numbers_of, found, found_from, source_in, is_full, found_row, level, with_level, row_landing, is_stray_landing}
+use Rattle.cs_rows.specs.RangeByRows.{is_stray_row, fresh_row}
 use Rattle.cs_rows.specs.RowSteps.{reached_from, row_at}
-use Rattle.cs_rows.specs.OwnRows.{HasAll, own_cells}
-use Rattle.cs_rows.proofs.FirstLemmas.{found_in}
+use Rattle.cs_rows.specs.OwnRows.{has_all, HasAll, own_cells, is_found_before, is_fresh}
 use Rattle.cs_rows.specs.Survivors.{SurvivorsData, contents_of, image_at, held}
 use Rattle.cs_rows.proofs.RowLemmas.{column_cell, position_first}
 use Rattle.cs_rows.proofs.RangeLemmas.{map_append}
-use Rattle.cs_rows.proofs.FoundRows.{Grows}
+use Rattle.cs_rows.proofs.FoundRows.{Grows, if_fresh}
+use Rattle.cs_rows.proofs.FirstLemmas.{one_of_all}
+
+-- a projection that has all columns has each
+pub all_held : (C : CatalogData) (p : ℕ) → HasAll C p → (c : ℕ) → c < length C.columns → holds_column C p c ≡ true
+all_held C p all c h = one_of_all (holds_column C p) (length C.columns) all c h
 
 module _ (C : CatalogData) (L : Sites) (S : Contents) where
   -- the row from which a walk starts stays the first that it reached
-  record Begins (x : Reached) (F : Found) : Type 0 where
+  pub record Begins (x : Reached) (F : Found) : Type 0 where
     pub rest : List Reached
     pub is : F.reached ≡ x ∷ rest
 
   some_is : {X : Type 0} (x y : X) → Some x ≡ Some y → x ≡ y
   some_is x y e = ap (λ (o : Option _). Rattle.std.specs.Option.unwrap_or o x) e
 
-  begins : (n : ℕ) (F G : Found) (x : Reached) → Begins x F → found C L S n F ≡ Some G → Begins x G
+  pub begins : (n : ℕ) (F G : Found) (x : Reached) → Begins x F → found C L S n F ≡ Some G → Begins x G
   begins zero F G x b e = subst (Begins x) (some_is F G e) b
   begins (suc n) F G x b e = go (list_any is_stray_landing (level C L S F)) e (begins n (with_level F (level C L S F)) G x)
     where
@@ -54,11 +58,11 @@ module _ (C : CatalogData) (L : Sites) (S : Contents) where
   abbrev pub own_row : Reached → Row
   own_row x = map (λ c. image_cell C S x.0 c x.1) (numbers_below (length C.columns))
 
-  module _ (x : Reached) (all : HasAll C x.0) (F : Found) (b : Begins x F) where
-    source_is : (c : ℕ) → c < length C.columns → source_in C F c ≡ Some x
+  module _ (keyed : C.key < length C.columns) (x : Reached) (all : HasAll C x.0) (F : Found) (b : Begins x F) where
+    pub source_is : (c : ℕ) → c < length C.columns → source_in C F c ≡ Some x
     source_is c h =
         ap (find (λ (r : Reached). holds_column C r.0 c)) b.is
-        ∙ ap (λ (held : Bool). cond held (Some x) (find (λ (r : Reached). holds_column C r.0 c) b.rest)) (found_in c (projection C x.0).columns (all c h))
+        ∙ ap (λ (held : Bool). cond held (Some x) (find (λ (r : Reached). holds_column C r.0 c) b.rest)) (all_held C x.0 all c h)
 
     full_below : (n : ℕ) (start : ℕ) → start + n ≤ length C.columns → list_all (λ c. is_some (source_in C F c)) (range_with_len start n) ≡ true
     full_below zero start h = refl
@@ -66,6 +70,17 @@ module _ (C : CatalogData) (L : Sites) (S : Contents) where
 
     own_full : is_full C F ≡ true
     own_full = full_below (length C.columns) 0 (omega arith)
+
+    -- its key is its own, so no walk before reads that
+    not_before : is_found_before C (numbers_of F.reached) ≡ false
+    not_before =
+        let later : ℕ → Bool = λ q. nat_lt q x.0 && has_all C q in
+        ap (λ (l : List Reached). is_found_before C (numbers_of l)) b.is
+        ∙ ap (λ (held : Bool). option_map_or later (cond held (Some x.0) (find (λ q. holds_column C q C.key) (numbers_of b.rest))) false) (all_held C x.0 all C.key keyed)
+        ∙ ap (λ (less : Bool). less && has_all C x.0) (le-ltb x.0 x.0 (omega arith))
+
+    own_fresh : is_fresh C F ≡ true
+    own_fresh = λ i. own_full i && not (not_before i)
 
     own_found : found_row C S F ≡ own_row x
     own_found =
@@ -76,31 +91,31 @@ module _ (C : CatalogData) (L : Sites) (S : Contents) where
         fill_by_all f (map read (numbers_below n)) n v (length-map-range_with_len read 0 n)
         (λ k h. get_or-map-range_with_len read 0 n k k v h (zero-add k) ∙ ap (λ (o : Option Reached). option_map_or (λ (r : Reached). image_cell C S r.0 k r.1) o v) (source_is k h))
 
-  own_from : (x : Reached) → HasAll C x.0 → (F : Found) → found_from C L S x.0 x.1 ≡ Some F → row_from C L S x ≡ Some (own_row x)
-  own_from x all F e =
+  pub own_from : C.key < length C.columns → (x : Reached) → HasAll C x.0 → (F : Found) → found_from C L S x.0 x.1 ≡ Some F → fresh_row C L S x ≡ Some (own_row x)
+  own_from keyed x all F e =
       let b : Begins x F = begins (length C.projections) (record { reached = x ∷ []; last = x ∷ []; marked = [] }) F x (record { rest = []; is = refl }) e in
-      ap (λ (o : Option Found). option_and_then (full_row C S) o) e
-      ∙ ap (λ (full : Bool). cond full (Some (found_row C S F)) None) (own_full x all F b)
-      ∙ ap (λ (r : Row). Some r) (own_found x all F b)
+      ap (λ (o : Option Found). option_and_then (if_fresh C S) o) e
+      ∙ ap (λ (fresh : Bool). cond fresh (Some (found_row C S F)) None) (own_fresh keyed x all F b)
+      ∙ ap (λ (r : Row). Some r) (own_found keyed x all F b)
 
-  own_rows : (xs : List Reached) → All (λ (x : Reached). HasAll C x.0) xs → find (is_stray_row C L S) xs ≡ None → filter_map (row_from C L S) xs ≡ map own_row xs
-  own_rows [] all e = refl
-  own_rows (x ∷ xs) all e = go (found_from C L S x.0 x.1) refl e (own_rows xs (All-tail (λ (y : Reached). HasAll C y.0) x xs all))
+  own_rows : C.key < length C.columns → (xs : List Reached) → All (λ (x : Reached). HasAll C x.0) xs → find (is_stray_row C L S) xs ≡ None → filter_map (fresh_row C L S) xs ≡ map own_row xs
+  own_rows keyed [] all e = refl
+  own_rows keyed (x ∷ xs) all e = go (found_from C L S x.0 x.1) refl e (own_rows keyed xs (All-tail (λ (y : Reached). HasAll C y.0) x xs all))
     where
-      go : (o : Option Found) → found_from C L S x.0 x.1 ≡ o → cond (is_none o) (Some x) (find (is_stray_row C L S) xs) ≡ None → (find (is_stray_row C L S) xs ≡ None → filter_map (row_from C L S) xs ≡ map own_row xs) → filter_map (row_from C L S) (x ∷ xs) ≡ map own_row (x ∷ xs)
+      go : (o : Option Found) → found_from C L S x.0 x.1 ≡ o → cond (is_none o) (Some x) (find (is_stray_row C L S) xs) ≡ None → (find (is_stray_row C L S) xs ≡ None → filter_map (fresh_row C L S) xs ≡ map own_row xs) → filter_map (fresh_row C L S) (x ∷ xs) ≡ map own_row (x ∷ xs)
       go None f g later = absurd (none-some x (sym g))
-      go (Some F) f g later = λ i. cons_option (own_from x (All-head (λ (y : Reached). HasAll C y.0) x xs all) F f i) (later g i)
+      go (Some F) f g later = λ i. cons_option (own_from keyed x (All-head (λ (y : Reached). HasAll C y.0) x xs all) F f i) (later g i)
 
   cells_of : (xs : List Reached) (c : ℕ) → c < length C.columns → map (λ (r : Row). cell r c) (map own_row xs) ≡ own_cells C S xs c
   cells_of [] c h = refl
   cells_of (x ∷ xs) c h = λ i. get_or-map-range_with_len (λ (d : ℕ). image_cell C S x.0 d x.1) 0 (length C.columns) c c (Value.Int (pos 0)) h (zero-add c) i ∷ cells_of xs c h i
 
   -- columns to which the own cells of rows are added have the rows that walks from these find
-  pub own_grow : (xs : List Reached) (before after : List Cells) → All (λ (x : Reached). HasAll C x.0) xs → find (is_stray_row C L S) xs ≡ None
+  pub own_grow : C.key < length C.columns → (xs : List Reached) (before after : List Cells) → All (λ (x : Reached). HasAll C x.0) xs → find (is_stray_row C L S) xs ≡ None
       → ((c : ℕ) (d : Cells) → c < length C.columns → values (get_or after c d) ≡ values (get_or before c d) ++ own_cells C S xs c) → Grows C L S xs before after
-  own_grow xs before after all sound added rows are c d h =
-      added c d h ∙ (λ i. are c d h i ++ sym (ap (map (λ (r : Row). cell r c)) (own_rows xs all sound) ∙ cells_of xs c h) i)
-      ∙ sym (map_append (λ (r : Row). cell r c) rows (filter_map (row_from C L S) xs))
+  own_grow keyed xs before after all sound added rows are c d h =
+      added c d h ∙ (λ i. are c d h i ++ sym (ap (map (λ (r : Row). cell r c)) (own_rows keyed xs all sound) ∙ cells_of xs c h) i)
+      ∙ sym (map_append (λ (r : Row). cell r c) rows (filter_map (fresh_row C L S) xs))
 
 -- the rows of a segment are of its projection
 pub all_of : (P : ℕ → Type 0) (p s start n : ℕ) → P p → All (λ (x : Reached). P x.0) (reached_from p s start n)
@@ -130,13 +145,16 @@ module _ (C : CatalogData) (S : SurvivorsData) (p : ℕ) (all : HasAll C p) (c :
   abbrev pub place : ℕ
   place = position_or_len (λ d. d == c) (projection C p).columns
 
+  place_inside : place < length (projection C p).columns
+  place_inside = (position_first (λ d. d == c) (projection C p).columns 0 (all_held C p all c h)).0
+
   pub own_column : (j s : ℕ) (m : KindedImage) → j ≡ place → image_at S p s ≡ Some m → m.kinds ≡ kinds_at C p
       → (j < length m.kinds) × (slice_index_or m.kinds j Kind.Int ≡ (column C c).kind) × (image_column m.image j ≡ image_column ((contents_of S).image p s) place)
   own_column j s m b e kinds =
       let n : ℕ = length (projection C p).columns in
-      let first = position_first (λ d. d == c) (projection C p).columns 0 (found_in c (projection C p).columns (all c h)) in
+      let first = position_first (λ d. d == c) (projection C p).columns 0 (all_held C p all c h) in
       let wide : length m.kinds ≡ n = ap length kinds ∙ length-map-range_with_len (kind_at C p) 0 n in (
-        omega (arith, wide, b, all c h),
-        (λ i. slice_index_or (kinds i) (b i) Kind.Int) ∙ get_or-map-range_with_len (kind_at C p) 0 n place place Kind.Int (all c h) (zero-add place) ∙ ap (λ (x : ℕ). (column C x).kind) (eqb-true _ c first.1),
+        omega (arith, wide, b, place_inside),
+        (λ i. slice_index_or (kinds i) (b i) Kind.Int) ∙ get_or-map-range_with_len (kind_at C p) 0 n place place Kind.Int place_inside (zero-add place) ∙ ap (λ (x : ℕ). (column C x).kind) (eqb-true _ c first.1),
         ap (image_column m.image) b ∙ ap (λ (o : Option KindedImage). image_column (held o) place) (sym e),
       )

@@ -250,7 +250,7 @@ module _ (C : CatalogData) where
   key_of r = cell r C.key
 
   -- a row at the end is left out where a row before it has its key
-  repeats_push : (xs : List Row) (x : Row) → without_repeats C (xs ++ x ∷ []) ≡ cond (list_any (λ y. same_key y x) xs) (without_repeats C xs) (without_repeats C xs ++ x ∷ [])
+  pub repeats_push : (xs : List Row) (x : Row) → without_repeats C (xs ++ x ∷ []) ≡ cond (list_any (λ y. same_key y x) xs) (without_repeats C xs) (without_repeats C xs ++ x ∷ [])
   repeats_push [] x = refl
   repeats_push (r ∷ rs) x = ap (λ l. r ∷ filter keep l) (repeats_push rs x) ∙ go (list_any (λ y. same_key y x) rs) (same_key r x) refl
     where

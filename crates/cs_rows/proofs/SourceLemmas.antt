@@ -1,13 +1,14 @@
 -- Where columns are read of rows that lead to the same projections.
-use Rattle.std.proofs.Common.{◌≡◌, ℕ, ◌<◌, List, length, get_or, sym, ap, ◌∙◌, subst, arith, true, ◌==◌}
-use Rattle.std.specs.Prelude.{All, slice_index}
+use Rattle.std.proofs.Common.{◌≡◌, ℕ, ◌<◌, List, [], ◌∷◌, length, Option, Some, get_or, sym, ap, ◌∙◌, subst, arith, Bool, true, false, not, ◌&&◌, ◌==◌}
+use Rattle.std.specs.Prelude.{All, nat_lt, slice_index}
 use Rattle.std.specs.List.{find, position_or_len}
-use Rattle.std.specs.Option.{is_some}
+use Rattle.std.specs.Option.{is_some, option_map_or}
 use Rattle.std.proofs.lemmas.List.{length-map, get_or-map, get_or_default, same_lists}
 use Rattle.cs_schema.specs.CatalogData.{CatalogData, projection}
 use Rattle.cs_rows.specs.declared.sources.Source.{Source}
 use Rattle.cs_rows.specs.declared.sources.Reading.{Reading}
-use Rattle.cs_rows.specs.WalkByRows.{Reached, Found, numbers_of, is_full}
+use Rattle.cs_rows.specs.WalkByRows.{Reached, Found, numbers_of}
+use Rattle.cs_rows.specs.OwnRows.{has_all, is_found_before, is_fresh}
 use Rattle.cs_rows.specs.RowSteps.{IsSource, IsReading, have_all}
 use Rattle.cs_rows.proofs.FirstLemmas.{first_at, found_in}
 use Rattle.cs_rows.proofs.FoundRows.{holds, full_by_numbers}
@@ -22,12 +23,21 @@ same_numbers rs ps e f =
     let here : k < length rs = omega (arith, length-map rs number) in
     get_or-map number rs k (0, (0, 0)) d here ∙ f k here ∙ get_or_default ps k 0 d (omega arith))
 
--- a column that is read is one of some projection
-pub has_source : (C : CatalogData) (ps : List ℕ) (c : ℕ) (s : Source) → IsSource C ps c s → is_some (find (holds C c) ps) ≡ true
-has_source C ps c s source =
+-- a column is read in the first projection that has it
+source_is : (C : CatalogData) (ps : List ℕ) (c : ℕ) (s : Source) → IsSource C ps c s → find (holds C c) ps ≡ Some (get_or ps s.reached 0)
+source_is C ps c s source =
     let columns : List ℕ = (projection C (slice_index ps s.reached)).columns in
     let first : position_or_len (λ d. d == c) columns < length columns = subst (λ (n : ℕ). n < length columns) source.place source.there in
-    ap is_some (first_at (holds C c) ps s.reached 0 source.within source.before (found_in c columns first))
+    first_at (holds C c) ps s.reached 0 source.within source.before (found_in c columns first)
+
+-- a column that is read is one of some projection
+pub has_source : (C : CatalogData) (ps : List ℕ) (c : ℕ) (s : Source) → IsSource C ps c s → is_some (find (holds C c) ps) ≡ true
+has_source C ps c s source = ap is_some (source_is C ps c s source)
+
+-- whether the projection in which the key is read comes before the first, and has every column
+pub before_by_source : (C : CatalogData) (ps : List ℕ) (s : Source) → IsSource C ps C.key s → (nat_lt (get_or ps s.reached 0) (get_or ps 0 0) && has_all C (get_or ps s.reached 0)) ≡ is_found_before C ps
+before_by_source C [] s source = absurd (omega (arith, source.within))
+before_by_source C (p ∷ ps) s source = sym (ap (λ (o : Option ℕ). option_map_or (λ q. nat_lt q p && has_all C q) o false) (source_is C (p ∷ ps) C.key s source))
 
 -- a test of each number is one of each row
 pub all_numbers : (n : ℕ) (rs : List Reached) → All (λ (r : Reached). r.0 < n) rs → All (λ (p : ℕ). p < n) (numbers_of rs)
@@ -35,6 +45,7 @@ all_numbers n rs all k d h =
     let here : k < length rs = omega (arith, length-map rs number) in
     subst (λ (p : ℕ). p < n) (sym (get_or-map number rs k (0, (0, 0)) d here)) (all k (0, (0, 0)) here)
 
--- a reading of the rows that were reached tells whether what was found is full
-pub told_full : (C : CatalogData) (F : Found) (reading : Reading) (rs : List Reached) → rs ≡ F.reached → IsReading C reading → reading.projections.items ≡ numbers_of rs → reading.full ≡ is_full C F
-told_full C F reading rs same so numbers = so.full ∙ ap (have_all C) (numbers ∙ ap numbers_of same) ∙ full_by_numbers C F
+-- a reading of the rows that were reached tells whether what was found is full, and not found before
+pub told_fresh : (C : CatalogData) (F : Found) (reading : Reading) (rs : List Reached) → rs ≡ F.reached → IsReading C reading → reading.projections.items ≡ numbers_of rs → reading.fresh ≡ is_fresh C F
+told_fresh C F reading rs same so numbers =
+    so.fresh ∙ ap (λ (ps : List ℕ). have_all C ps && not (is_found_before C ps)) (numbers ∙ ap numbers_of same) ∙ ap (λ (b : Bool). b && not (is_found_before C (numbers_of F.reached))) (full_by_numbers C F)

@@ -1,8 +1,8 @@
 pub mod Walk
 pub mod WalkByRows
+pub mod OwnRows
 pub mod RangeByRows
 pub mod RowSteps
-pub mod OwnRows
 pub mod WalkedView
 pub mod TableView
 pub mod Survivors

@@ -1,15 +1,31 @@
 -- Rows of projections that have every column of the table.
-use Rattle.std.specs.Prelude.{ℕ, ◌<◌, ◌==◌, List, map, length}
-use Rattle.std.specs.List.{position_or_len}
+use Rattle.std.specs.Prelude.{ℕ, nat_lt, ◌≡◌, Bool, true, false, not, ◌&&◌, List, [], ◌∷◌, map, length}
+use Rattle.std.specs.List.{find, list_all}
+use Rattle.std.specs.Option.{option_map_or}
 use Rattle.cs_schema.specs.declared.cells.Value.{Value}
-use Rattle.cs_schema.specs.CatalogData.{CatalogData, projection}
+use Rattle.cs_schema.specs.CatalogData.{CatalogData}
+use Rattle.cs_schema.specs.Lists.{numbers_below}
+use Rattle.cs_safety.specs.Paths.{holds_column}
 use Rattle.cs_rows.specs.Walk.{Contents, image_cell}
-use Rattle.cs_rows.specs.WalkByRows.{Reached}
+use Rattle.cs_rows.specs.WalkByRows.{Reached, Found, numbers_of, is_full}
 
 -- each column of the table is among the projection's
+abbrev pub has_all : CatalogData → ℕ → Bool
+has_all C p = list_all (holds_column C p) (numbers_below (length C.columns))
+
 abbrev pub HasAll : CatalogData → ℕ → Type 0
-HasAll C p = (c : ℕ) → c < length C.columns → position_or_len (λ d. d == c) (projection C p).columns < length (projection C p).columns
+HasAll C p = has_all C p ≡ true
 
 -- the cells of a column that stand in the images of some rows
 abbrev pub own_cells : CatalogData → Contents → List Reached → ℕ → List Value
 own_cells C S xs c = map (λ (x : Reached). image_cell C S x.0 c x.1) xs
+
+-- A walk reached rows in these projections, and starts in the first. It reads its key in an earlier projection, one that has every
+-- column: the walk from the row there comes before, and finds a row with that key.
+abbrev pub is_found_before : CatalogData → List ℕ → Bool
+is_found_before C [] = false
+is_found_before C (p ∷ ps) = option_map_or (λ q. nat_lt q p && has_all C q) (find (λ q. holds_column C q C.key) (p ∷ ps)) false
+
+-- what a walk has found is a full row, and isn't found before
+abbrev pub is_fresh : CatalogData → Found → Bool
+is_fresh C F = is_full C F && not (is_found_before C (numbers_of F.reached))

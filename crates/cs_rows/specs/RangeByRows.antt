@@ -1,12 +1,13 @@
 -- The walk by rows of some of the surviving rows.
-use Rattle.std.specs.Prelude.{ℕ, Bool, List, take, drop, Option, Result, Ok, Err}
+use Rattle.std.specs.Prelude.{ℕ, Bool, if◌then◌else◌, List, take, drop, Option, Some, None, Result, Ok, Err}
 use Rattle.std.specs.List.{filter_map, find}
 use Rattle.std.specs.Option.{is_none, option_and_then, option_map_or}
 use Rattle.cs_schema.specs.CatalogData.{CatalogData}
 use Rattle.cs_schema.specs.Losses.{Sites}
 use Rattle.cs_schema.specs.Rows.{Row}
 use Rattle.cs_rows.specs.Walk.{Contents, Stray}
-use Rattle.cs_rows.specs.WalkByRows.{Reached, found_from, full_row, surviving_rows}
+use Rattle.cs_rows.specs.WalkByRows.{Reached, Found, found_from, found_row, full_row, surviving_rows}
+use Rattle.cs_rows.specs.OwnRows.{is_fresh}
 
 -- the walk from a row is astray
 abbrev pub is_stray_row : CatalogData → Sites → Contents → Reached → Bool
@@ -16,10 +17,14 @@ is_stray_row C L S x = is_none (found_from C L S x.0 x.1)
 abbrev pub row_from : CatalogData → Sites → Contents → Reached → Option Row
 row_from C L S x = option_and_then (full_row C S) (found_from C L S x.0 x.1)
 
+-- the same, but for rows whose key the walk from an earlier row finds by itself
+abbrev pub fresh_row : CatalogData → Sites → Contents → Reached → Option Row
+fresh_row C L S x = option_and_then (λ (F : Found). if is_fresh C F then Some (found_row C S F) else None) (found_from C L S x.0 x.1)
+
 -- the surviving rows numbered from..to, through all segments
 abbrev pub surviving_between : CatalogData → Sites → Contents → ℕ → ℕ → List Reached
 surviving_between C L S start end = drop start (take end (surviving_rows C L S))
 
--- the full rows that the walks from some rows find, or the first of these that is astray
+-- the full rows that the walks from some rows find, but for such, or the first of these that is astray
 abbrev pub found_among : CatalogData → Sites → Contents → List Reached → Result (List Row) Stray
-found_among C L S xs = option_map_or (λ (x : Reached). Err (x.0, x.1.0, x.1.1)) (find (is_stray_row C L S) xs) (Ok (filter_map (row_from C L S) xs))
+found_among C L S xs = option_map_or (λ (x : Reached). Err (x.0, x.1.0, x.1.1)) (find (is_stray_row C L S) xs) (Ok (filter_map (fresh_row C L S) xs))

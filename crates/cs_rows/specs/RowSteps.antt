@@ -1,5 +1,5 @@
 -- What the steps of a walk by rows need to know.
-use Rattle.std.specs.Prelude.{ℕ, Bool, true, ◌≡◌, ◌<◌, ◌==◌, ◌++◌, List, [], ◌∷◌, All, map, take, length, slice_index, slice_index_or, Some, None, if◌then◌else◌}
+use Rattle.std.specs.Prelude.{ℕ, Bool, true, not, ◌&&◌, ◌≡◌, ◌<◌, ◌==◌, ◌++◌, List, [], ◌∷◌, All, map, take, length, slice_index, slice_index_or, Some, None, if◌then◌else◌}
 use Rattle.std.specs.List.{find, flat_map, list_all, position_or_len, range_with_len}
 use Rattle.std.specs.Option.{is_some}
 use Rattle.cs_schema.specs.declared.cells.Cells.{Cells}
@@ -16,6 +16,7 @@ use Rattle.cs_rows.specs.declared.range.WalkFault.{WalkFault}
 use Rattle.cs_rows.specs.Walk.{Contents}
 use Rattle.cs_rows.specs.WalkByRows.{Reached, Found, Landing, numbers_of}
 use Rattle.cs_rows.specs.RangeByRows.{is_stray_row}
+use Rattle.cs_rows.specs.OwnRows.{is_found_before}
 use Rattle.cs_rows.specs.Steps.{IsAt}
 
 -- ---- levels
@@ -70,11 +71,11 @@ AreSources C ps sources n = (c : ℕ) (d : Source) → c < n → IsSource C ps c
 abbrev pub have_all : CatalogData → List ℕ → Bool
 have_all C ps = list_all (λ c. is_some (find (λ p. holds_column C p c) ps)) (numbers_below (length C.columns))
 
--- whether projections have all columns, and where each is read then
+-- whether what is reached in some projections is a full row that isn't found before, and where each column is read then
 pub record IsReading (C : CatalogData) (reading : Reading) : Type 0 where
   pub count : length reading.sources.items ≡ length C.columns
-  pub full : reading.full ≡ have_all C reading.projections.items
-  pub each : reading.full ≡ true → AreSources C reading.projections.items reading.sources.items (length C.columns)
+  pub fresh : reading.fresh ≡ (have_all C reading.projections.items && not (is_found_before C reading.projections.items))
+  pub each : reading.fresh ≡ true → AreSources C reading.projections.items reading.sources.items (length C.columns)
 
 -- where each column of a full row is read, which was found through rows that stand in images
 pub record AreSourcesOf (C : CatalogData) (S : Contents) (rs : List Reached) (sources : List Source) : Type 0 where

@@ -7,8 +7,9 @@ ghost use Rattle.cs_schema.specs.Rows.{Row};
 ghost use Rattle.cs_rows.specs.Survivors.{contents_of};
 ghost use Rattle.cs_rows.specs.Columns.{ColumnsFit};
 ghost use Rattle.cs_rows.specs.Range.{IsWalkFault};
-ghost use Rattle.cs_rows.specs.WalkByRows.{is_full, found_row};
-ghost use Rattle.cs_rows.specs.RangeByRows.{is_stray_row, row_from, surviving_between, found_among};
+ghost use Rattle.cs_rows.specs.WalkByRows.{found_row};
+ghost use Rattle.cs_rows.specs.OwnRows.{is_fresh};
+ghost use Rattle.cs_rows.specs.RangeByRows.{is_stray_row, fresh_row, surviving_between, found_among};
 ghost use Rattle.cs_rows.specs.RowSteps.{Stands, AllStand, IsReading, AreSourcesOf, through, RowPushed, AreRows, reached_from, projection_kept, IsStrayFault};
 
 use crate::catalog_of;
@@ -69,7 +70,7 @@ fn push_row(
     Ok(())
 }
 
-/// Adds what a walk has found, if that is full.
+/// Adds what a walk has found, if that is full and was not found before.
 fn push_found(
     survivors: &Survivors<'_>,
     finding: &Finding,
@@ -81,19 +82,19 @@ fn push_found(
     requires columns { ColumnsFit survivors.now.catalog columns.old.items }
     ensures reading { OnOk result (IsReading survivors.now.catalog reading.new) }
     ensures count { length columns.new.items ≡ length columns.old.items }
-    ensures full { OnOk result (is_full survivors.now.catalog finding.now ≡ true → RowPushed (found_row survivors.now.catalog (contents_of survivors.now) finding.now) columns.old.items columns.new.items (length survivors.now.catalog.columns)) }
-    ensures not_full { OnOk result (is_full survivors.now.catalog finding.now ≡ false → columns.new.items ≡ columns.old.items) }
+    ensures fresh { OnOk result (is_fresh survivors.now.catalog finding.now ≡ true → RowPushed (found_row survivors.now.catalog (contents_of survivors.now) finding.now) columns.old.items columns.new.items (length survivors.now.catalog.columns)) }
+    ensures not_fresh { OnOk result (is_fresh survivors.now.catalog finding.now ≡ false → columns.new.items ≡ columns.old.items) }
 {
     let reached = finding.reached();
     reading.update(survivors, reached)?;
-    if reading.full {
+    if reading.fresh {
         push_row(survivors, reached, reading.sources.as_slice(), columns)?;
     }
     Ok(())
 }
 
 impl RowWalk<'_> {
-    /// Walks from one row, and adds what it finds if that is full.
+    /// Walks from one row, and adds what it finds if that is full and was not found before.
     fn walk_row(
         &self,
         row: (u16, (u16, u32)),
@@ -106,7 +107,7 @@ impl RowWalk<'_> {
         ensures desk { OnOk result (IsReading self.now.survivors.now.catalog desk.new.reading) }
         ensures fit { OnOk result (ColumnsFit self.now.survivors.now.catalog columns.new.items) }
         ensures sound { OnOk result (find (is_stray_row self.now.survivors.now.catalog self.now.loss (contents_of self.now.survivors.now)) (row ∷ []) ≡ None) }
-        ensures cells { OnOk result ((rows : List Row) → AreRows self.now.survivors.now.catalog rows columns.old.items → AreRows self.now.survivors.now.catalog (rows ++ filter_map (row_from self.now.survivors.now.catalog self.now.loss (contents_of self.now.survivors.now)) (row ∷ [])) columns.new.items) }
+        ensures cells { OnOk result ((rows : List Row) → AreRows self.now.survivors.now.catalog rows columns.old.items → AreRows self.now.survivors.now.catalog (rows ++ filter_map (fresh_row self.now.survivors.now.catalog self.now.loss (contents_of self.now.survivors.now)) (row ∷ [])) columns.new.items) }
         ensures fault { IfErr result (IsStrayFault self.now.survivors.now.catalog self.now.loss (contents_of self.now.survivors.now) (row ∷ [])) }
     {
         if !walk_from(self, row, &mut desk.finding, &mut desk.landings)? {
@@ -137,7 +138,7 @@ impl RowWalk<'_> {
         ensures desk { OnOk result (IsReading self.now.survivors.now.catalog desk.new.reading) }
         ensures fit { OnOk result (ColumnsFit self.now.survivors.now.catalog columns.new.items) }
         ensures sound { OnOk result (find (is_stray_row self.now.survivors.now.catalog self.now.loss (contents_of self.now.survivors.now)) (reached_from segment.0 segment.1 rows.0 (rows.1 - rows.0)) ≡ None) }
-        ensures cells { OnOk result ((found : List Row) → AreRows self.now.survivors.now.catalog found columns.old.items → AreRows self.now.survivors.now.catalog (found ++ filter_map (row_from self.now.survivors.now.catalog self.now.loss (contents_of self.now.survivors.now)) (reached_from segment.0 segment.1 rows.0 (rows.1 - rows.0))) columns.new.items) }
+        ensures cells { OnOk result ((found : List Row) → AreRows self.now.survivors.now.catalog found columns.old.items → AreRows self.now.survivors.now.catalog (found ++ filter_map (fresh_row self.now.survivors.now.catalog self.now.loss (contents_of self.now.survivors.now)) (reached_from segment.0 segment.1 rows.0 (rows.1 - rows.0))) columns.new.items) }
         ensures fault { IfErr result (IsStrayFault self.now.survivors.now.catalog self.now.loss (contents_of self.now.survivors.now) (reached_from segment.0 segment.1 rows.0 (rows.1 - rows.0))) }
     {
         if has_all_columns(self.survivors, segment.0) {
@@ -168,7 +169,7 @@ impl RowWalk<'_> {
         ensures desk { OnOk result (IsReading self.now.survivors.now.catalog desk.new.reading) }
         ensures fit { OnOk result (ColumnsFit self.now.survivors.now.catalog columns.new.items) }
         ensures sound { OnOk result (find (is_stray_row self.now.survivors.now.catalog self.now.loss (contents_of self.now.survivors.now)) (drop range.0 (take range.1 (projection_kept self.now.survivors.now.catalog self.now.loss (contents_of self.now.survivors.now) p))) ≡ None) }
-        ensures cells { OnOk result ((found : List Row) → AreRows self.now.survivors.now.catalog found columns.old.items → AreRows self.now.survivors.now.catalog (found ++ filter_map (row_from self.now.survivors.now.catalog self.now.loss (contents_of self.now.survivors.now)) (drop range.0 (take range.1 (projection_kept self.now.survivors.now.catalog self.now.loss (contents_of self.now.survivors.now) p)))) columns.new.items) }
+        ensures cells { OnOk result ((found : List Row) → AreRows self.now.survivors.now.catalog found columns.old.items → AreRows self.now.survivors.now.catalog (found ++ filter_map (fresh_row self.now.survivors.now.catalog self.now.loss (contents_of self.now.survivors.now)) (drop range.0 (take range.1 (projection_kept self.now.survivors.now.catalog self.now.loss (contents_of self.now.survivors.now) p)))) columns.new.items) }
         ensures fault { IfErr result (IsStrayFault self.now.survivors.now.catalog self.now.loss (contents_of self.now.survivors.now) (drop range.0 (take range.1 (projection_kept self.now.survivors.now.catalog self.now.loss (contents_of self.now.survivors.now) p)))) }
     {
         let mut first: usize = 0;
@@ -197,7 +198,7 @@ impl RowWalk<'_> {
         requires order { range.0 ≤ range.1 }
         ensures fit { OnOk result (ColumnsFit self.now.survivors.now.catalog columns.new.items) }
         ensures sound { OnOk result (find (is_stray_row self.now.survivors.now.catalog self.now.loss (contents_of self.now.survivors.now)) (surviving_between self.now.survivors.now.catalog self.now.loss (contents_of self.now.survivors.now) range.0 range.1) ≡ None) }
-        ensures cells { OnOk result ((found : List Row) → AreRows self.now.survivors.now.catalog found columns.old.items → AreRows self.now.survivors.now.catalog (found ++ filter_map (row_from self.now.survivors.now.catalog self.now.loss (contents_of self.now.survivors.now)) (surviving_between self.now.survivors.now.catalog self.now.loss (contents_of self.now.survivors.now) range.0 range.1)) columns.new.items) }
+        ensures cells { OnOk result ((found : List Row) → AreRows self.now.survivors.now.catalog found columns.old.items → AreRows self.now.survivors.now.catalog (found ++ filter_map (fresh_row self.now.survivors.now.catalog self.now.loss (contents_of self.now.survivors.now)) (surviving_between self.now.survivors.now.catalog self.now.loss (contents_of self.now.survivors.now) range.0 range.1)) columns.new.items) }
         ensures fault { IfErr result (IsStrayFault self.now.survivors.now.catalog self.now.loss (contents_of self.now.survivors.now) (surviving_between self.now.survivors.now.catalog self.now.loss (contents_of self.now.survivors.now) range.0 range.1)) }
     {
         let mut first: usize = 0;
@@ -213,7 +214,8 @@ impl RowWalk<'_> {
     }
 }
 
-/// The full rows that the walks from the surviving rows numbered from..to find, a row of the table once for each of these.
+/// The full rows that the walks from the surviving rows numbered from..to find, a row of the table once for each of these, but
+/// for those whose key is read in a row of an earlier projection that has every column: the walk from there finds it too.
 ///
 /// The surviving rows are those of all segments that are not lost, by projection, segment and position. Refuses with
 /// `Astray` the first of them that the join indexes lead astray, and with `Memory` for want of memory alone.

@@ -24,6 +24,14 @@ pub(crate) fn column_count(survivors: &Survivors<'_>) -> usize
     numbers::column_count(survivors.catalog())
 }
 
+/// The column of the primary key.
+pub(crate) fn key_column(survivors: &Survivors<'_>) -> usize
+    ensures key { result ≡ survivors.now.catalog.key }
+    ensures inside { result < length survivors.now.catalog.columns }
+{
+    numbers::key_column(survivors.catalog())
+}
+
 /// How many segments a projection has.
 pub(crate) fn segments(survivors: &Survivors<'_>, p: u16) -> u16
     requires { p < length survivors.now.catalog.projections }

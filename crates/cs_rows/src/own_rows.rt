@@ -1,19 +1,19 @@
 //! The walk by rows from a projection that has every column of the table: each row is full by itself, so the walk only tells
 //! whether it is astray, and the cells of many rows are copied at once.
-ghost use Rattle.std.specs.Prelude.{◌≡◌, ◌<◌, ◌≤◌, ◌-◌, ◌++◌, ◌∷◌, [], ℕ, List, IsTrue, IfErr, OnOk, None, length, slice_index_or};
+ghost use Rattle.std.specs.Prelude.{◌≡◌, ◌<◌, ◌≤◌, ◌-◌, ◌++◌, ◌∷◌, [], ℕ, List, IfErr, OnOk, None, length, slice_index_or};
 ghost use Rattle.std.specs.List.{find, filter_map};
 ghost use Rattle.cs_schema.specs.CatalogData.{segments};
 ghost use Rattle.cs_schema.specs.Values.{values};
 ghost use Rattle.cs_schema.specs.declared.cells.Cells.{Cells as CellsData};
 ghost use Rattle.cs_rows.specs.Survivors.{contents_of};
 ghost use Rattle.cs_rows.specs.Columns.{ColumnsFit};
-ghost use Rattle.cs_rows.specs.OwnRows.{HasAll, own_cells};
-ghost use Rattle.cs_rows.specs.RangeByRows.{is_stray_row, row_from};
+ghost use Rattle.cs_rows.specs.OwnRows.{HasAll, has_all, own_cells};
+ghost use Rattle.cs_rows.specs.RangeByRows.{is_stray_row, fresh_row};
 ghost use Rattle.cs_rows.specs.RowSteps.{Stands, AreRows, reached_from, IsStrayFault};
 ghost use Rattle.cs_schema.specs.Rows.{Row};
 
 use crate::by_rows::Desk;
-use crate::catalog_of::{column_count, columns_of};
+use crate::catalog_of::{column_count, columns_of, projection_count};
 use crate::levels::{RowWalk, walk_from};
 use crate::range::{WalkFault, place_in};
 use crate::survivors::Survivors;
@@ -23,7 +23,7 @@ use std::alloc::AllocError;
 /// Whether a projection has every column of the table.
 pub(crate) fn has_all_columns(survivors: &Survivors<'_>, p: u16) -> bool
     requires { p < length survivors.now.catalog.projections }
-    ensures { IsTrue result → HasAll survivors.now.catalog p }
+    ensures { result ≡ has_all survivors.now.catalog p }
 {
     let columns = columns_of(survivors, p as usize);
     for c in 0..column_count(survivors) {
@@ -126,9 +126,11 @@ impl RowWalk<'_> {
         ensures reading { desk.new.reading ≡ desk.old.reading }
         ensures fit { OnOk result (ColumnsFit self.now.survivors.now.catalog columns.new.items) }
         ensures sound { OnOk result (find (is_stray_row self.now.survivors.now.catalog self.now.loss (contents_of self.now.survivors.now)) (reached_from segment.0 segment.1 rows.0 (rows.1 - rows.0)) ≡ None) }
-        ensures cells { OnOk result ((found : List Row) → AreRows self.now.survivors.now.catalog found columns.old.items → AreRows self.now.survivors.now.catalog (found ++ filter_map (row_from self.now.survivors.now.catalog self.now.loss (contents_of self.now.survivors.now)) (reached_from segment.0 segment.1 rows.0 (rows.1 - rows.0))) columns.new.items) }
+        ensures cells { OnOk result ((found : List Row) → AreRows self.now.survivors.now.catalog found columns.old.items → AreRows self.now.survivors.now.catalog (found ++ filter_map (fresh_row self.now.survivors.now.catalog self.now.loss (contents_of self.now.survivors.now)) (reached_from segment.0 segment.1 rows.0 (rows.1 - rows.0))) columns.new.items) }
         ensures fault { IfErr result (IsStrayFault self.now.survivors.now.catalog self.now.loss (contents_of self.now.survivors.now) (reached_from segment.0 segment.1 rows.0 (rows.1 - rows.0))) }
     {
+        // tells that the key is a column
+        let _rules = projection_count(self.survivors);
         match self.follow_segment(segment, rows, desk) {
             Ok(()) => {}
             Err(fault) => return Err(fault),

@@ -5,8 +5,10 @@ ghost use Rattle.cs_schema.specs.CatalogData.{CatalogData};
 ghost use Rattle.cs_safety.specs.Paths.{holds_column};
 ghost use Rattle.cs_rows.specs.WalkByRows.{numbers_of};
 ghost use Rattle.cs_rows.specs.RowSteps.{IsSource, AreSources, IsReading, have_all};
+ghost use Rattle.cs_rows.specs.OwnRows.{is_found_before};
 
-use crate::catalog_of::columns_of;
+use crate::catalog_of::{columns_of, key_column};
+use crate::own_rows::has_all_columns;
 use crate::range::place_in;
 use crate::survivors::Survivors;
 use std::alloc::{AllocError, Global};
@@ -18,12 +20,13 @@ pub(crate) struct Source {
     pub(crate) place: usize,
 }
 
-/// Where each column is read of rows that were found through some projections, where these have all columns.
+/// Where each column is read of rows that were found through some projections, where these have all columns, and no walk before
+/// finds the row.
 #[derive(Drop)]
 pub(crate) struct Reading {
     projections: Vec<u16>,
     pub(crate) sources: Vec<Source>,
-    pub(crate) full: bool,
+    pub(crate) fresh: bool,
 }
 
 /// Where a column is read, if one of the projections has it: the first.
@@ -56,6 +59,16 @@ fn find_sources(survivors: &Survivors<'_>, projections: &[u16], sources: &mut Ve
         }
     }
     true
+}
+
+/// Whether the key is read, as this source says, in a projection before the first that has all columns.
+fn is_found_before(survivors: &Survivors<'_>, projections: &[u16], key: Source) -> bool
+    requires there { All (λ p. p < length survivors.now.catalog.projections) projections.now }
+    requires key { IsSource survivors.now.catalog projections.now survivors.now.catalog.key key }
+    ensures { result ≡ is_found_before survivors.now.catalog projections.now }
+{
+    let q = projections[key.reached];
+    q < projections[0] && has_all_columns(survivors, q)
 }
 
 /// Whether rows were reached in these projections, one after the other.
@@ -103,7 +116,7 @@ impl Reading {
         Ok(Reading {
             projections: Vec::with_capacity(alloc, projections)?,
             sources,
-            full: false,
+            fresh: false,
         })
     }
 
@@ -122,7 +135,12 @@ impl Reading {
             return Ok(());
         }
         list_projections(&mut self.projections, reached)?;
-        self.full = find_sources(survivors, self.projections.as_slice(), &mut self.sources);
+        let projections = self.projections.as_slice();
+        self.fresh = false;
+        if find_sources(survivors, projections, &mut self.sources) {
+            let key = self.sources[key_column(survivors)];
+            self.fresh = !is_found_before(survivors, projections, key);
+        }
         Ok(())
     }
 }

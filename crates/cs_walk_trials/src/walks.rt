@@ -240,7 +240,8 @@ fn rows_with_a_key_twice(rt: HostRuntime) {
     assert!(rt; gives_once(&rt, &store, loss, [3, 1], &rows));
 }
 
-// One segment of the second projection is lost: the rows there are marked, and full without it.
+// One segment of the second projection is lost: the rows there are marked, and full without it. The row that survives there is
+// found before, from the first projection.
 #[test]
 fn rows_with_a_marked_projection(rt: HostRuntime) {
     let loss = Loss::none().with(2);
@@ -251,7 +252,7 @@ fn rows_with_a_marked_projection(rt: HostRuntime) {
     store.put_join(&rt, 0, 0, 1, &[(1, 1), (0, 1), (0, 2)]);
     store.put_join(&rt, 1, 1, 0, &[(0, 1)]);
     let rows: [&[i64]; 3] = [&[1, 2, 7], &[2, 1, 5], &[3, 1, 3]];
-    assert!(rt; gives_once(&rt, &store, loss, [3, 1], &rows));
+    assert!(rt; gives_once(&rt, &store, loss, [3, 0], &rows));
     store.put_join(&rt, 0, 0, 1, &[(1, 1), (0, 0), (0, 2)]);
     assert!(rt; is_astray(store.walk_by_rows(rt.alloc(), loss, 0, ALL)));
 }

@@ -8,7 +8,7 @@ use Rattle.cs_schema.specs.Values.{values}
 use Rattle.cs_schema.specs.declared.cells.Cells.{Cells}
 use Rattle.cs_rows.specs.Walk.{Stray}
 use Rattle.cs_rows.specs.Range.{IsWalkFault}
-use Rattle.cs_rows.specs.RangeByRows.{row_from, surviving_between, found_among}
+use Rattle.cs_rows.specs.RangeByRows.{fresh_row, surviving_between, found_among}
 use Rattle.cs_rows.specs.Survivors.{contents_of}
 use Rattle.cs_rows.specs.WalkByRows.{Reached}
 use Rattle.cs_rows.specs.WalkedView.{WalkedData}
@@ -27,7 +27,7 @@ from_columns-requires c =
     let C = c.args.survivors.now.catalog in
     let S = contents_of c.args.survivors.now in
     let xs : List Reached = surviving_between C c.args.loss S c.args.from c.args.to in
-    columns_of_rows C c.walk_projections.new.columns.items (filter_map (row_from C c.args.loss S) xs) c.in-Ok-walk_projections.ensures.fit (c.in-Ok-walk_projections.ensures.cells [] (no_cells c.in-Ok.columns.items C c.args.catalog.now c.requires.same c.in-Ok.ensures.none)) (own_rules C c.args.catalog.now c.requires.same c.new_desk.ensures.rules).column_range.0
+    columns_of_rows C c.walk_projections.new.columns.items (filter_map (fresh_row C c.args.loss S) xs) c.in-Ok-walk_projections.ensures.fit (c.in-Ok-walk_projections.ensures.cells [] (no_cells c.in-Ok.columns.items C c.args.catalog.now c.requires.same c.in-Ok.ensures.none)) (own_rules C c.args.catalog.now c.requires.same c.new_desk.ensures.rules).column_range.0
 
 pub returns-in-Ok-walk_projections-clause-kinds : goal.returns-in-Ok-walk_projections-clause-kinds
 returns-in-Ok-walk_projections-clause-kinds c =
