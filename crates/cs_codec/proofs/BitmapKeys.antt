@@ -10,7 +10,7 @@ use Rattle.std.proofs.lemmas.Cmp.{tied_itself}
 use Rattle.std.proofs.lemmas.Map.Keys.{sorted_head, sorted_tail}
 use Rattle.cs_codec.specs.Texts.{insert_value, place_value, distinct_values}
 
-by_test : {P : Type 0} (b : Bool) → (b ≡ true → P) → (b ≡ false → P) → P
+pub by_test : {P : Type 0} (b : Bool) → (b ≡ true → P) → (b ≡ false → P) → P
 by_test true f g = f refl
 by_test false f g = g refl
 
@@ -19,7 +19,7 @@ abbrev pub In : {C : Type 0} → C → List C → Type 0
 In q [] = ⊥
 In q (x ∷ xs) = (q ≡ x) ⊎ In q xs
 
-in_all : {C : Type 0} (P : C → Type 0) (q : C) (xs : List C) → AllByRecursion P xs → In q xs → P q
+pub in_all : {C : Type 0} (P : C → Type 0) (q : C) (xs : List C) → AllByRecursion P xs → In q xs → P q
 in_all P q [] h m = absurd m
 in_all P q (x ∷ xs) h (inl e) = subst P (sym e) h.0
 in_all P q (x ∷ xs) h (inr m) = in_all P q xs h.1 m
@@ -29,7 +29,7 @@ not_both cmp o x y e f =
     let g : Less ≡ ordering_reverse Less = sym e ∙ o.antisymm x y ∙ ap ordering_reverse f in
     absurd cc
 
-not_itself : {C : Type 0} (cmp : C → C → Ordering) (o : IsTotalOrder cmp) (x : C) → cmp x x ≡ Less → ⊥
+pub not_itself : {C : Type 0} (cmp : C → C → Ordering) (o : IsTotalOrder cmp) (x : C) → cmp x x ≡ Less → ⊥
 not_itself cmp o x e =
     let f = tied_itself o x in
     absurd cc
@@ -68,7 +68,7 @@ all_inserted : {C : Type 0} (P : C → Type 0) (cmp : C → C → Ordering) (x :
 all_inserted P cmp x [] h hs = (h, tt)
 all_inserted P cmp x (y ∷ ys) h hs = all_placed P (cmp x y) x y ys (insert_value cmp x ys) h hs (all_inserted P cmp x ys h hs.1)
 
-below_too : {C : Type 0} (cmp : C → C → Ordering) (o : IsTotalOrder cmp) (x y : C) (ys : List C) → cmp x y ≡ Less → AllByRecursion (λ z. cmp y z ≡ Less) ys → AllByRecursion (λ z. cmp x z ≡ Less) ys
+pub below_too : {C : Type 0} (cmp : C → C → Ordering) (o : IsTotalOrder cmp) (x y : C) (ys : List C) → cmp x y ≡ Less → AllByRecursion (λ z. cmp y z ≡ Less) ys → AllByRecursion (λ z. cmp x z ≡ Less) ys
 below_too cmp o x y [] e h = tt
 below_too cmp o x y (z ∷ ys) e h = (o.trans x y z e h.0, below_too cmp o x y ys e h.1)
 

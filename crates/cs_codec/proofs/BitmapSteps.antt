@@ -26,7 +26,7 @@ or_empty-if_some (x ∷ xs) = refl
 abbrev pub Each : {C : Type 0} → (C → C → Bool) → (C → C → Ordering) → BTreeMap C (List ℕ) → List C → Type 0
 Each {C} eq cmp m cells = (x : C) → get cmp m x ≡ if_some (bitmap_lengths eq x cells)
 
-single : {C : Type 0} (eq : C → C → Bool) (x y : C) (b : Bool) → eq x y ≡ b → bitmap_lengths eq x (y ∷ []) ≡ cond b (0 ∷ 1 ∷ []) []
+pub single : {C : Type 0} (eq : C → C → Bool) (x y : C) (b : Bool) → eq x y ≡ b → bitmap_lengths eq x (y ∷ []) ≡ cond b (0 ∷ 1 ∷ []) []
 single eq x y true e = rw e refl
 single eq x y false e = rw e refl
 

@@ -37,7 +37,7 @@ filled_more {C} eq t cells new v numbers p xs done x size value ns filled = λ k
     clash : (b : Bool) → b ≡ true → b ≡ false → ⊥
     clash b e f = absurd cc
 
-among_cells : {C : Type 0} (ys : List C) (k : ℕ) (d : C) → k < length ys → In (get_or ys k d) ys
+pub among_cells : {C : Type 0} (ys : List C) (k : ℕ) (d : C) → k < length ys → In (get_or ys k d) ys
 among_cells [] k d lt = absurd (omega arith)
 among_cells (y ∷ ys) zero d lt = inl refl
 among_cells (y ∷ ys) (suc k) d lt = inr (among_cells ys k d (omega arith))
@@ -126,7 +126,7 @@ numbered_more {C} eq t values v number lengths old new p place below xs done x s
 
 -- ---- the cells at the numbers
 
-one_cell : {C : Type 0} (xs : List C) (n : ℕ) (d : C) → n < length xs → take 1 (drop n xs) ≡ get_or xs n d ∷ []
+pub one_cell : {C : Type 0} (xs : List C) (n : ℕ) (d : C) → n < length xs → take 1 (drop n xs) ≡ get_or xs n d ∷ []
 one_cell [] n d lt = absurd (omega arith)
 one_cell (x ∷ xs) zero d lt = refl
 one_cell (x ∷ xs) (suc n) d lt = one_cell xs n d (omega arith)

@@ -19,3 +19,4 @@ pub mod CellLemmas
 pub mod RunLemmas
 pub mod DifferenceReading
 pub mod PaintLemmas
+pub mod NumberedColumns

@@ -1,11 +1,12 @@
 -- What is read of a text of bitmaps.
-use Rattle.std.specs.Prelude.{◌≡◌, ℕ, ◌≤◌, ◌^◌, ◌<◌, Bool, List, [], ◌∷◌, ◌++◌, length, drop, flat_map, Option, Some, None}
+use Rattle.std.specs.Prelude.{◌≡◌, ◌≢◌, ℕ, ◌≤◌, ◌^◌, ◌<◌, Bool, List, [], ◌∷◌, ◌++◌, length, drop, slice_get, slice_index, slice_index_or, flat_map, Option, Some, None}
 use Rattle.std.specs.List.{AllByRecursion}
 use Rattle.std.specs.declared.cmp.Ordering.{Ordering}
 use Rattle.cs_codec.specs.Cells.{number}
 use Rattle.cs_codec.specs.Encodings.{IsColumn, IsShort}
 use Rattle.cs_codec.specs.Bitmaps.{AreNumbers}
-use Rattle.cs_codec.specs.Texts.{bitmaps_text}
+use Rattle.cs_codec.specs.Columns.{cells_at}
+use Rattle.cs_codec.specs.Texts.{distinct_values, bitmap_lengths, bitmap_text, bitmaps_text}
 
 -- so many numbers stand there up to the end, or no so many
 abbrev pub ReadsNumbers : List ℕ → ℕ → ℕ → List ℕ → Option ℕ → Type 0
@@ -40,11 +41,33 @@ abbrev pub AddsEntry : {C : Type 0} → (C → List ℕ) → (C → Type 0) → 
 AddsEntry bytes is_cell text start before after numbers None = ReadsEntry bytes is_cell text start numbers None
 AddsEntry bytes is_cell text start before after numbers (Some end) = AddsValue bytes is_cell text start before after numbers end
 
--- So many cells; and a column with this text has just these.
-pub record IsOnlyCandidate {C : Type 0} (bytes : C → List ℕ) (is_cell : C → Type 0) (eq : C → C → Bool) (cmp : C → C → Ordering) (text : List ℕ) (rows : ℕ) (cells : List C) : Type 0 where
-  pub rows_are : length cells ≡ rows
-  pub hold : AllByRecursion is_cell cells
-  pub only : (xs : List C) → IsColumn (bitmaps_text bytes eq cmp) IsShort is_cell text rows xs → cells ≡ xs
+-- each number is below the count of the values
+abbrev pub NameValues : List ℕ → ℕ → Type 0
+NameValues numbers count = (k : ℕ) → k < length numbers → slice_index numbers k < count
+
+-- A number for each of so many rows; and a column with this text has just these values, and in each row that of its number.
+pub record IsOnlyCandidate {C : Type 0} (bytes : C → List ℕ) (is_cell : C → Type 0) (eq : C → C → Bool) (cmp : C → C → Ordering) (text : List ℕ) (rows : ℕ) (values : List C) (numbers : List ℕ) : Type 0 where
+  pub rows_are : length numbers ≡ rows
+  pub below : NameValues numbers (length values)
+  pub hold : AllByRecursion is_cell values
+  pub values_are : (xs : List C) → IsColumn (bitmaps_text bytes eq cmp) IsShort is_cell text rows xs → values ≡ distinct_values cmp xs
+  pub only : (xs : List C) → IsColumn (bitmaps_text bytes eq cmp) IsShort is_cell text rows xs → cells_at values numbers ≡ xs
+
+-- the bitmap of each value is that of the cells
+abbrev pub HaveBitmaps : {C : Type 0} → (C → C → Bool) → List C → List (List ℕ) → List C → Type 0
+HaveBitmaps {C} eq values bitmaps cells = (n : ℕ) (x : C) → slice_get values n ≡ Some x → slice_index_or bitmaps n [] ≡ bitmap_lengths eq x cells
+
+-- no bitmap is without ones
+abbrev pub HaveOnes : List (List ℕ) → Type 0
+HaveOnes bitmaps = (n : ℕ) → n < length bitmaps → slice_index_or bitmaps n [] ≢ []
+
+-- the text is the values and their bitmaps, if these are the bitmaps
+abbrev pub HaveText : {C : Type 0} → (C → List ℕ) → (C → C → Bool) → List C → List (List ℕ) → List ℕ → Type 0
+HaveText {C} bytes eq values bitmaps text = (cells : List C) → HaveBitmaps eq values bitmaps cells → text ≡ flat_map (bitmap_text bytes eq cells) values
+
+-- the text is another one than the values and their bitmaps
+abbrev pub HaveOtherText : {C : Type 0} → (C → List ℕ) → (C → C → Bool) → List C → List (List ℕ) → List ℕ → Type 0
+HaveOtherText {C} bytes eq values bitmaps text = (cells : List C) → HaveBitmaps eq values bitmaps cells → text ≡ flat_map (bitmap_text bytes eq cells) values → ⊥
 
 -- No column of so many rows has this text as bitmaps.
 abbrev pub NoBitmaps : {C : Type 0} → (C → List ℕ) → (C → Type 0) → (C → C → Bool) → (C → C → Ordering) → List ℕ → ℕ → Type 0

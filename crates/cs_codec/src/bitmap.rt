@@ -1,7 +1,9 @@
 //! The positions of one value, by the lengths of their runs.
 ghost use Rattle.std.specs.Prelude.{◌≡◌, ◌≤◌, ◌<◌, ◌+◌, ◌-◌, ◌++◌, [], ◌∷◌, IfOk, OnOk, OnErr, length};
-ghost use Rattle.cs_codec.specs.Bitmaps.{glued, total, with_run};
+ghost use Rattle.cs_codec.specs.Bitmaps.{glued, total, with_run, entry_text};
 
+use crate::cell::Cell;
+use crate::numbers::write_number;
 use std::alloc::{AllocError, Global};
 use std::marker::Model;
 
@@ -35,7 +37,12 @@ fn push_run(lengths: &mut Vec<u32>, zeros: u32, ones: u32) -> Result<(), AllocEr
         lengths[len - 1] += ones;
         return Ok(());
     }
-    lengths.extend_from_slice(&[zeros, ones])
+    lengths.push(zeros)?;
+    if lengths.push(ones).is_err() {
+        lengths.truncate(len);
+        return Err(AllocError);
+    }
+    Ok(())
 }
 
 impl Bitmap {
@@ -93,4 +100,20 @@ impl Bitmap {
             end: self.end + offset,
         }
     }
+}
+
+/// Appends a value and its bitmap.
+pub(crate) fn write_bitmap<C: Cell>(
+    out: &mut Vec<u8>,
+    value: &C,
+    bitmap: &Bitmap,
+) -> Result<(), AllocError>
+    ensures { OnOk result (out.new.items ≡ out.old.items ++ entry_text C.bytes (value.now, bitmap.now)) }
+{
+    value.write(out)?;
+    write_number(out, bitmap.lengths.len() as u32)?;
+    for length in &bitmap.lengths {
+        write_number(out, *length)?;
+    }
+    Ok(())
 }

@@ -7,6 +7,7 @@ ghost use Rattle.cs_codec.specs.BitmapReading.{IsOnlyCandidate};
 
 use crate::cell::Cell;
 use crate::column::Column;
+use crate::numbered::NumberedColumn;
 use crate::numbers::read_number;
 use std::alloc::{AllocError, Global};
 
@@ -159,14 +160,14 @@ pub(crate) fn names_all_rows<C: Cell>(
 }
 
 /// The one column whose text the bytes may be, where the entries name as many positions as there are rows. The values
-/// come in their order, and not in that of the rows: each row has the number of its value, until all are there.
+/// come in their order, and not in that of the rows: each row has the number of its value.
 pub(crate) fn candidate<C: Cell, L: Column<C>>(
     alloc: Global,
     bytes: &[u8],
     rows: u32,
-) -> Result<Option<L>, AllocError>
+) -> Result<Option<NumberedColumn<L>>, AllocError>
     ensures found { IfOk result (λ found. IfSome found (λ column.
-        IsOnlyCandidate C.bytes C.is_cell C.eq C.cmp bytes.now rows (L.cells column))) }
+        IsOnlyCandidate C.bytes C.is_cell C.eq C.cmp bytes.now rows (L.cells column.values) column.numbers.items)) }
     ensures none { IfOk result (λ found. IfNone found (NoBitmaps C.bytes C.is_cell C.eq C.cmp bytes.now rows)) }
 {
     let mut numbers = zeros(alloc, rows)?;
@@ -190,9 +191,7 @@ pub(crate) fn candidate<C: Cell, L: Column<C>>(
     if count == 0 && rows > 0 {
         return Ok(None);
     }
-    let mut column = L::new(alloc);
-    column.push_at(&values, &numbers)?;
-    Ok(Some(column))
+    Ok(Some(NumberedColumn { values, numbers }))
 }
 
 /// So many zeros.

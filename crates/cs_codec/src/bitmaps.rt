@@ -9,13 +9,13 @@ ghost use Rattle.cs_codec.specs.BitmapLaws.{bitmaps_have_one_list};
 ghost use Rattle.cs_schema.specs.declared.kinds.Code.{Code};
 ghost use Rattle.cs_codec.specs.TextMaps.{bitmaps_of_code};
 
-use crate::bitmap::Bitmap;
+use crate::bitmap::{Bitmap, write_bitmap};
 use crate::bitmap_reading::{candidate, names_all_rows};
 use crate::cell::Cell;
 use crate::column::Column;
 use crate::encoding::{CodecFault, ColumnEncoding};
 use crate::few_cells::{FEW, FewCells, copies};
-use crate::numbers::write_number;
+use crate::numbered::{cells_of, has_text};
 use cs_schema::Code;
 use std::alloc::{AllocError, Global};
 use std::collections::BTreeMap;
@@ -198,18 +198,6 @@ fn add_kept<C: Cell>(
     }
 }
 
-/// Appends a value and its bitmap.
-fn write_bitmap<C: Cell>(out: &mut Vec<u8>, value: &C, bitmap: &Bitmap) -> Result<(), AllocError>
-    ensures { OnOk result (out.new.items ≡ out.old.items ++ entry_text C.bytes (value.now, bitmap.now)) }
-{
-    value.write(out)?;
-    write_number(out, bitmap.lengths.len() as u32)?;
-    for length in &bitmap.lengths {
-        write_number(out, *length)?;
-    }
-    Ok(())
-}
-
 /// The values and their bitmaps, one after the other.
 fn text_of<C: Cell>(alloc: Global, bitmaps: &BTreeMap<C, Bitmap>) -> Result<Vec<u8>, AllocError>
     ensures { IfOk result (λ out. out.items ≡ flat_map (entry_text C.bytes) bitmaps.now.entries) }
@@ -285,11 +273,10 @@ impl<C: Cell, L: Column<C>> ColumnEncoding<C, L> for Bitmaps {
         let Some(column) = candidate::<C, L>(alloc, bytes, rows)? else {
             return Err(CodecFault::NotAText);
         };
-        let text = text_of_all::<C, L>(alloc, &column)?;
-        if text.as_slice() != bytes {
+        if !has_text::<C, L>(alloc, &column, bytes)? {
             return Err(CodecFault::NotAText);
         }
-        Ok(column)
+        Ok(cells_of::<C, L>(alloc, &column)?)
     }
 
     ghost one_list = { bitmaps_have_one_list C.bytes C.is_cell C.eq C.cmp

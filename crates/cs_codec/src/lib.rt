@@ -13,6 +13,7 @@ pub mod encoding;
 mod few_cells;
 mod groups;
 mod lists;
+mod numbered;
 pub mod numbers;
 pub mod plain;
 mod run_reading;

@@ -1,13 +1,14 @@
-use Rattle.std.proofs.Common.{arith, rules, ◌≡◌, ◌∙◌, sym, ap, subst, List, ℕ, length, get_or, [], ◌∷◌, ◌++◌, false, ◌<◌, ◌+◌}
+use Rattle.std.proofs.Common.{arith, rules, ◌∙◌, sym, ap, subst, List, ℕ, length, get_or, [], ◌∷◌, ◌++◌, false, ◌<◌, ◌+◌}
 use Rattle.std.proofs.lemmas.List.{length-replicate, length-append}
 use Rattle.std.specs.List.{AllByRecursion}
 use Rattle.cs_codec.specs.Bitmaps.{total, bits_from}
-use Rattle.cs_codec.specs.Columns.{cells_at}
-use Rattle.cs_codec.specs.BitmapReading.{AddsEntry, AddsValue, IsOnlyCandidate}
+use Rattle.cs_codec.specs.Encodings.{IsColumn, IsShort}
+use Rattle.cs_codec.specs.Texts.{distinct_values, bitmaps_text}
+use Rattle.cs_codec.specs.BitmapReading.{AddsEntry, AddsValue}
 use Rattle.cs_codec.specs.Painting.{Painted}
 use Rattle.cs_codec.proofs.BitmapCuts.{total_within}
 use Rattle.cs_codec.proofs.EntryReading.{entries_begin, no_more, no_entry, one_more_entry, all_done, some_value}
-use Rattle.cs_codec.proofs.EntryPainting.{Numbered, AreBelow, numbered_begins, numbered_more, zeros_below, below_more, cells_count, cells_hold, cells_are, all_append}
+use Rattle.cs_codec.proofs.EntryPainting.{Numbered, AreBelow, numbered_begins, numbered_more, zeros_below, below_more, cells_are, all_append}
 use Rattle.cs_codec.proofs.bitmap_reading.candidate.Goals as goal
 
 pub loop-at-init : goal.loop-at-init
@@ -78,10 +79,12 @@ returns-clause-found g c =
     let values = g.L.Column.cells c.loop-at.values in
     let numbers = c.loop-at.numbers.items in
     let below : (k : ℕ) → k < length numbers → get_or numbers k 0 < length values = λ k lt. (let at_most = c.loop-at.invariant.below k lt in search rules) in
-    let made : g.L.Column.cells c.push_at.new.self ≡ cells_at values numbers = search rules in
-    subst (λ z. IsOnlyCandidate g.C.Cell.bytes g.C.Cell.is_cell g.C.PartialEq.eq g.C.Ord.cmp c.args.bytes.now c.args.rows z) (sym made) (record {
-      rows_are = cells_count values numbers below ∙ size;
-      hold = cells_hold g.C.Cell.is_cell values numbers c.loop-at.invariant.hold;
-      only = λ xs h. cells_are g.C.PartialEq.eq (record { itself = g.met.C.Eq.laws.refl; exact = g.met.C.Cell.exact }) g.C.Ord.cmp g.met.C.Ord.matches_eq values numbers xs (size ∙ sym h.rows_are) below
-          (all_done g.C.Cell.bytes g.C.Cell.is_cell g.C.PartialEq.eq g.C.Ord.cmp c.args.bytes.now c.args.rows c.loop-at.at (Numbered values numbers) c.loop-at.invariant.far (omega arith) xs h);
-    })
+    let known : (xs : List g.row.C.Denot) → IsColumn (bitmaps_text g.C.Cell.bytes g.C.PartialEq.eq g.C.Ord.cmp) IsShort g.C.Cell.is_cell c.args.bytes.now c.args.rows xs → Numbered values numbers (distinct_values g.C.Ord.cmp xs) xs =
+    all_done g.C.Cell.bytes g.C.Cell.is_cell g.C.PartialEq.eq g.C.Ord.cmp c.args.bytes.now c.args.rows c.loop-at.at (Numbered values numbers) c.loop-at.invariant.far (omega arith) in
+    record {
+      rows_are = size;
+      below = below;
+      hold = c.loop-at.invariant.hold;
+      values_are = λ xs h. (known xs h).values_are;
+      only = λ xs h. cells_are g.C.PartialEq.eq (record { itself = g.met.C.Eq.laws.refl; exact = g.met.C.Cell.exact }) g.C.Ord.cmp g.met.C.Ord.matches_eq values numbers xs (size ∙ sym h.rows_are) below (known xs h);
+    }
