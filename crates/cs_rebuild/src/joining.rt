@@ -137,7 +137,7 @@ impl LostSegment<'_> {
         let catalog = self.store.catalog;
         let code = catalog.code(self.p, j);
         let kind = catalog.column_kind(self.p, j);
-        file.push_last(run.rt, code, kind, text)
+        file.push_pieces(run.rt, code, kind, text)
     }
 
     /// Puts the text of the column before the `next`-th into the file, and makes that of the `next`-th beside.

@@ -1,4 +1,4 @@
-//! A segment's file that grows, with its digest made beside: a digest is a chain, so it is begun before the last column stands.
+//! A segment's file that grows, with its digest made beside: a digest is a chain, so it takes each column as that is put.
 ghost use Rattle.std.specs.Prelude.{◌≡◌, ◌++◌, ◌<◌, ◌≤◌, ◌^◌, ℕ, List, length, take, IfOk, OnOk};
 ghost use Rattle.cs_schema.specs.CatalogData.{projection};
 ghost use Rattle.cs_segment.specs.SegmentFile.{sealed};
@@ -151,23 +151,6 @@ impl GrowingFile {
         self.extend(text)
     }
 
-    /// The same of a text that stands in pieces, one after the other. Each is let go of once it is put.
-    pub fn push_pieces(
-        &mut self,
-        code: Code,
-        kind: Kind,
-        text: Vec<Vec<u8>>,
-    ) -> Result<(), AllocError>
-        requires { length (joined text.items) < 2 ^ 32 }
-        ensures { OnOk result (self.new ≡ self.old ++ body_part code kind (joined text.items)) }
-    {
-        self.open_part(code, kind, length_of(text.as_slice()))?;
-        for piece in text {
-            self.extend(&piece)?;
-        }
-        Ok(())
-    }
-
     /// Puts bytes at the end while the digest takes them.
     fn extend_beside<R: Threads>(&mut self, rt: &R, bytes: &[u8]) -> Result<(), AllocError>
         ensures { OnOk result (self.new ≡ self.old ++ bytes.now) }
@@ -188,8 +171,9 @@ impl GrowingFile {
         Err(AllocError)
     }
 
-    /// As `push_pieces`, while the digest takes each piece: there is nothing else to do beside a digest of the last column.
-    pub fn push_last<R: Threads>(
+    /// As `push`, of a text that stands in pieces, one after the other, while the digest takes each. Each is let go of once it
+    /// is put.
+    pub fn push_pieces<R: Threads>(
         &mut self,
         rt: &R,
         code: Code,
@@ -204,21 +188,6 @@ impl GrowingFile {
             self.extend_beside(rt, &piece)?;
         }
         Ok(())
-    }
-
-    /// How many bytes the digest is behind the text.
-    pub fn behind(&self) -> usize
-        ensures { result ≤ length self.now }
-    {
-        self.text.len() - self.taken
-    }
-
-    /// Lets the digest catch up with the text, which stays: so there is less to do at the end.
-    pub fn catch_up(&mut self)
-        ensures { self.new ≡ self.old }
-    {
-        self.hasher.update(&self.text[self.taken..]);
-        self.taken = self.text.len();
     }
 
     /// The whole file: what stands there, and its digest.

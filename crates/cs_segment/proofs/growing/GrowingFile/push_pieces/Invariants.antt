@@ -3,4 +3,4 @@ use Rattle.cs_segment.specs.Growing.{joined}
 use Rattle.cs_segment.proofs.growing.GrowingFile.push_pieces.Given as goal
 
 abbrev pub invariant-loop-piece : goal.invariant-loop-piece
-invariant-loop-piece l = l.self ≡ l.initial.self ++ joined l.yielded
+invariant-loop-piece g l = l.self ≡ l.initial.self ++ joined l.yielded
