@@ -16,5 +16,6 @@ pub mod Leads
 pub mod Ties
 pub mod PassLemmas
 pub mod WordLemmas
+pub mod DealingLemmas
 pub mod Sides
 pub mod KeyOrder

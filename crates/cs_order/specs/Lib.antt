@@ -9,4 +9,5 @@ pub mod Leads
 pub mod Ties
 pub mod Passes
 pub mod Words
+pub mod Dealing
 pub mod Sides

@@ -1,17 +1,31 @@
 -- The stored places of rows.
-use Rattle.std.specs.Prelude.{ℕ, ◌≡◌, ◌<◌, List, map, length, slice_index, All}
+use Rattle.std.specs.Prelude.{ℕ, ◌≡◌, ◌<◌, ◌/◌, ◌%◌, List, [], map, length, slice_get, slice_index, slice_index_or, Some, All}
 use Rattle.cs_order.specs.declared.segments.ProjectionOrder.{ProjectionOrder}
-use Rattle.cs_order.specs.Numbers.{IsPlaceOf}
 
 -- the segments of each projection
 abbrev pub segment_lists : List ProjectionOrder → List (List (List ℕ))
 segment_lists = map (λ order. order.segments.items)
 
--- each row stands where its numbers say
+-- the number of a place is that of its segment times 1,048,576, the most rows that a segment has, and its index there
+abbrev pub segment_in : ℕ → ℕ
+segment_in place = place / 1048576
+
+abbrev pub index_in : ℕ → ℕ
+index_in place = place % 1048576
+
+-- of a segment with these rows it is the place where a row stands
+pub record IsThere (rows : List ℕ) (s row place : ℕ) : Type 0 where
+  pub segment : segment_in place ≡ s
+  pub index : slice_get rows (index_in place) ≡ Some row
+
+-- the row stands at a place of these segments
+abbrev pub IsPlaceOf : List (List ℕ) → ℕ → ℕ → Type 0
+IsPlaceOf lists row place = slice_get (slice_index_or lists (segment_in place) []) (index_in place) ≡ Some row
+
+-- each row stands where its number says
 pub record HasPlaces (rows : ℕ) (order : ProjectionOrder) : Type 0 where
-  pub segments : length order.segment_of.items ≡ rows
-  pub indexes : length order.index_of.items ≡ rows
-  pub places : (r : ℕ) → r < rows → IsPlaceOf order.segments.items r (slice_index order.segment_of.items r) (slice_index order.index_of.items r)
+  pub count : length order.places.items ≡ rows
+  pub places : (r : ℕ) → r < rows → IsPlaceOf order.segments.items r (slice_index order.places.items r)
 
 abbrev pub HavePlaces : ℕ → List ProjectionOrder → Type 0
 HavePlaces rows = All (HasPlaces rows)

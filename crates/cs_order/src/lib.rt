@@ -6,10 +6,12 @@
 #![tactic(auto)]
 
 mod by_key;
+mod dealing;
 mod fault;
 mod indexes;
 mod item;
 mod lead;
+mod leading_bits;
 mod parallel;
 mod passes;
 mod places;

@@ -20,8 +20,8 @@ use std::thread::Threads;
 /// The orders of all projections.
 ///
 /// Refuses rows of which two have one primary key, and else the least range that has too many rows.
-/// Keeps 10 bytes a row and projection. While it runs each row takes 8 bytes more, and 8 to 28 for each projection that is
-/// sorted.
+/// Keeps 8 bytes a row and projection. While it runs each row takes 8 bytes more, 2 for each projection, and 8 to 28 for each
+/// that is sorted.
 pub fn orders<R: Threads + Sync>(
     rt: &R,
     alloc: Global,

@@ -2,6 +2,7 @@
 ghost use Rattle.std.specs.Prelude.{◌≡◌, ◌<◌, length, [], slice_index_or};
 ghost use Rattle.cs_order.specs.Orders.{numbers_in, StandsAt};
 
+use crate::indexes::PLACES;
 use crate::segments::ProjectionOrder;
 use std::marker::Model;
 
@@ -40,8 +41,7 @@ impl Orders {
         requires row { row < self.now.rows }
         ensures { StandsAt self.now p row result.0 result.1 }
     {
-        let order = &self.projections[p as usize];
-        let row = row as usize;
-        (order.segment_of[row], order.index_of[row])
+        let place = self.projections[p as usize].places[row as usize];
+        ((place / PLACES) as u16, place % PLACES)
     }
 }
