@@ -21,11 +21,11 @@ IsCellThere image walked columns numbers j k = slice_get (image_column image.ima
 abbrev pub IsColumnThere : KindedImage → WalkedData → List ℕ → List ℕ → ℕ → Type 0
 IsColumnThere image walked columns numbers j = (k : ℕ) → k < length numbers → IsCellThere image walked columns numbers j k
 
--- cells for as many numbers, each the number of a cell in a column
-pub record AreBeside (cells column : List Value) (numbers : List ℕ) : Type 0 where
+-- cells, or ints, for as many numbers, each the number of one in a column
+pub record AreBeside {X : Type 0} (cells column : List X) (numbers : List ℕ) : Type 0 where
   pub count : length cells ≡ length numbers
   pub below : (k : ℕ) → k < length numbers → slice_index numbers k < length column
 
 -- from a start up to an end, cell k is that of the k-th number
-abbrev pub AreAlike : List Value → List Value → List ℕ → ℕ → ℕ → Type 0
+abbrev pub AreAlike : {X : Type 0} → List X → List X → List ℕ → ℕ → ℕ → Type 0
 AreAlike cells column numbers start end = (k : ℕ) → start ≤ k → k < end → slice_get cells k ≡ slice_get column (slice_index numbers k)

@@ -17,8 +17,22 @@ use cs_rows::Table;
 use cs_schema::{Catalog, Cells};
 use std::thread::{Threads, join};
 
-/// Whether a column has, from a start up to an end, the cells of another one at the rows of these numbers.
-fn has_cells(cells: &Cells, column: &Cells, numbers: &[u32], start: usize, end: usize) -> bool
+/// Whether ints are, from a start up to an end, those of a column at the rows of these numbers.
+fn has_ints(ints: &[i64], column: &[i64], numbers: &[u32], start: usize, end: usize) -> bool
+    requires beside { AreBeside ints.now column.now numbers.now }
+    requires within { end ≤ length numbers.now }
+    ensures { IsTrue result ↔ AreAlike ints.now column.now numbers.now start end }
+{
+    for k in start..end {
+        if ints[k] != column[numbers[k] as usize] {
+            return false;
+        }
+    }
+    true
+}
+
+/// Whether cells are, from a start up to an end, those of a column at the rows of these numbers.
+fn has_each(cells: &Cells, column: &Cells, numbers: &[u32], start: usize, end: usize) -> bool
     requires beside { AreBeside (values cells.now) (values column.now) numbers.now }
     requires within { end ≤ length numbers.now }
     ensures { IsTrue result ↔ AreAlike (values cells.now) (values column.now) numbers.now start end }
@@ -29,6 +43,19 @@ fn has_cells(cells: &Cells, column: &Cells, numbers: &[u32], start: usize, end: 
         }
     }
     true
+}
+
+/// Whether a column has, from a start up to an end, the cells of another one at the rows of these numbers. Of which kind they are
+/// is asked once, and not at each row.
+fn has_cells(cells: &Cells, column: &Cells, numbers: &[u32], start: usize, end: usize) -> bool
+    requires beside { AreBeside (values cells.now) (values column.now) numbers.now }
+    requires within { end ≤ length numbers.now }
+    ensures { IsTrue result ↔ AreAlike (values cells.now) (values column.now) numbers.now start end }
+{
+    match (cells, column) {
+        (Cells::Ints(ints), Cells::Ints(column)) => has_ints(ints, column, numbers, start, end),
+        _ => has_each(cells, column, numbers, start, end),
+    }
 }
 
 /// Whether the first cells of a column are those of another one at the rows of these numbers, each `part` of them compared
