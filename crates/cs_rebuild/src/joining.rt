@@ -33,6 +33,11 @@ fn text_room(column: &Cells, code: Code, rows: usize) -> usize {
     rows.saturating_mul(cell.saturating_add(run))
 }
 
+/// Whether each cell of a column is looked at for its text, so that it takes long to make.
+fn is_slow(code: Code) -> bool {
+    code == Code::Runs || code == Code::Bitmaps
+}
+
 /// Takes off what stands last.
 fn take_last<T>(rest: &mut Vec<T>) -> T
     requires { 1 ≤ length rest.old.items }
@@ -193,6 +198,66 @@ impl LostSegment<'_> {
         self.push(run, file, count - 1, text)
     }
 
+    /// Puts the columns before the last into a file that holds none, and makes the text of the last beside.
+    fn grow_beside<R: Threads + Sync, G: Gate + Sync>(
+        &self,
+        run: &Run<'_, R, G>,
+        file: &mut GrowingFile,
+        last: usize,
+    ) -> (Result<(), AllocError>, Result<Vec<Vec<u8>>, AllocError>)
+        requires last { last < length (projection self.now.store.now.catalog.now self.now.p).columns }
+        requires base { IsBase self.now.store.now.catalog.now self.now.p (base_at self.now.store.now.catalog.now self.now.p self.now.store.now.walked.rows self.now.numbers.now) }
+        ensures file { OnOk result.0 ((s : ℕ) → HoldsFirst self.now s 0 file.old → HoldsFirst self.now s last file.new) }
+        ensures text { IfOk result.1 (λ made. IsTextAt self.now last (joined made.items)) }
+    {
+        // of a closure over a struct of references `join` says nothing
+        join_mut(
+            run.rt,
+            &mut || -> Result<(), AllocError>
+                requires { (last < length (projection self.now.store.now.catalog.now self.now.p).columns) × IsBase self.now.store.now.catalog.now self.now.p (base_at self.now.store.now.catalog.now self.now.p self.now.store.now.walked.rows self.now.numbers.now) }
+                ensures { OnOk result ((s : ℕ) → HoldsFirst self.entry.now s 0 file.entry.now → HoldsFirst self.entry.now s last file.exit.now) }
+            { self.grow(run, file, last) },
+            &mut || -> Result<Vec<Vec<u8>>, AllocError>
+                requires { last < length (projection self.now.store.now.catalog.now self.now.p).columns }
+                ensures { IfOk result (λ made. IsTextAt self.entry.now last (joined made.items)) }
+            { self.text(run, last) },
+        )
+    }
+
+    /// Puts the columns up to the last one into a file that holds none. The last is made from the start, beside all others.
+    fn grow_beside_last<R: Threads + Sync, G: Gate + Sync>(
+        &self,
+        run: &Run<'_, R, G>,
+        file: &mut GrowingFile,
+        last: usize,
+    ) -> Result<(), AllocError>
+        requires last { last < length (projection self.now.store.now.catalog.now self.now.p).columns }
+        requires base { IsBase self.now.store.now.catalog.now self.now.p (base_at self.now.store.now.catalog.now self.now.p self.now.store.now.walked.rows self.now.numbers.now) }
+        ensures { OnOk result ((s : ℕ) → HoldsFirst self.now s 0 file.old → HoldsFirst self.now s (last + 1) file.new) }
+    {
+        let (grown, text) = self.grow_beside(run, file, last);
+        grown?;
+        self.push(run, file, last, text?)
+    }
+
+    /// Puts all columns into a file that holds none. The digest waits for no column: where the last one takes long to make, it
+    /// is made from the start.
+    fn grow_whole<R: Threads + Sync, G: Gate + Sync>(
+        &self,
+        run: &Run<'_, R, G>,
+        file: &mut GrowingFile,
+    ) -> Result<(), AllocError>
+        requires base { IsBase self.now.store.now.catalog.now self.now.p (base_at self.now.store.now.catalog.now self.now.p self.now.store.now.walked.rows self.now.numbers.now) }
+        ensures { OnOk result ((s : ℕ) → HoldsFirst self.now s 0 file.old → HoldsFirst self.now s (length (projection self.now.store.now.catalog.now self.now.p).columns) file.new) }
+    {
+        let catalog = self.store.catalog;
+        let last = catalog.width(self.p) - 1;
+        if is_slow(catalog.code(self.p, last)) {
+            return self.grow_beside_last(run, file, last);
+        }
+        self.grow(run, file, last + 1)
+    }
+
     /// The file of the segment. A column is let go of once its text stands in the file.
     pub fn file<R: Threads + Sync, G: Gate + Sync>(
         &self,
@@ -202,13 +267,11 @@ impl LostSegment<'_> {
         requires base { IsBase self.now.store.now.catalog.now self.now.p (base_at self.now.store.now.catalog.now self.now.p self.now.store.now.walked.rows self.now.numbers.now) }
         ensures { IfOk result (λ bytes. bytes.items ≡ segment_text self.now.store.now.catalog.now self.now.p s (base_at self.now.store.now.catalog.now self.now.p self.now.store.now.walked.rows self.now.numbers.now)) }
     {
-        let catalog = self.store.catalog;
-        let width = catalog.width(self.p);
         let rows = self.numbers.len() as u32;
-        let mut file = GrowingFile::begin(self.alloc, catalog, self.p, s, rows)?;
+        let mut file = GrowingFile::begin(self.alloc, self.store.catalog, self.p, s, rows)?;
         // else what stands there is copied each time that the file grows
         file.reserve(self.room())?;
-        self.grow(run, &mut file, width)?;
+        self.grow_whole(run, &mut file)?;
         file.finish()
     }
 }
