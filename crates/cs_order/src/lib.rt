@@ -2,13 +2,13 @@
 //!
 //! Promises that rows are refused just where a primary key stands twice, or else where a range has too
 //! many rows, the least of these; and else that each segment has the numbers of its rows in their
-//! order. Where a row stands in a projection takes two reads.
+//! order. Where a row stands in a projection takes one read.
 #![tactic(auto)]
 
+mod all_orders;
 mod by_key;
 mod dealing;
 mod fault;
-mod indexes;
 mod item;
 mod lead;
 mod leading_bits;
@@ -24,7 +24,7 @@ mod sorter;
 mod words;
 mod writing;
 
+pub use all_orders::Orders;
 pub use by_key::key_order;
 pub use fault::OrderFault;
 pub use parallel::orders;
-pub use places::Orders;

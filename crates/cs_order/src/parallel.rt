@@ -7,8 +7,8 @@ ghost use Rattle.cs_order.specs.Numbers.{AreAllRows};
 ghost use Rattle.cs_order.specs.Faults.{IsOrderFault};
 ghost use Rattle.cs_order.specs.Sides.{IsOrderOrFault};
 
+use crate::all_orders::Orders;
 use crate::fault::OrderFault;
-use crate::places::Orders;
 use crate::segments::{ProjectionOrder, ProjectionSorter};
 use crate::sorter::Sorter;
 use cs_rows::Table;

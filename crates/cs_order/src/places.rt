@@ -1,47 +1,47 @@
-//! Where each row stands.
-ghost use Rattle.std.specs.Prelude.{◌≡◌, ◌<◌, length, [], slice_index_or};
-ghost use Rattle.cs_order.specs.Orders.{numbers_in, StandsAt};
+//! Where each row stands: its segment and its index there, as one number.
+ghost use Rattle.std.specs.Prelude.{◌≡◌, [], ℕ, ◌<◌, ◌≤◌, IfOk, length, slice_index, slice_index_or, All, Contains};
+ghost use Rattle.cs_order.specs.Places.{IsThere};
 
-use crate::indexes::PLACES;
-use crate::segments::ProjectionOrder;
-use std::marker::Model;
+use crate::ranges::Segment;
+use std::alloc::{AllocError, Global};
 
-/// The rows of each segment of each projection, by their numbers.
-#[derive(Drop)]
-pub struct Orders {
-    pub(crate) rows: usize,
-    pub(crate) projections: Vec<ProjectionOrder>,
+/// How many places the number of a place keeps for each segment: as many as a segment has rows at most.
+pub const PLACES: u32 = 1_048_576;
+
+/// The place of each row.
+pub fn places(alloc: Global, segments: &[Segment], count: usize) -> Result<Vec<u32>, AllocError>
+    requires few { length segments.now ≤ 16 }
+    requires rows { All (λ rows. (length rows ≤ 1048576) × All (λ r. r < count) rows) segments.now }
+    ensures count { IfOk result (λ v. length v.items ≡ count) }
+    ensures places { IfOk result (λ v. (s r : ℕ) → s < length segments.now → Contains (slice_index_or segments.now s []) r → ((t : ℕ) → t < length segments.now → Contains (slice_index_or segments.now t []) r → t ≡ s) → IsThere (slice_index_or segments.now s []) s r (slice_index v.items r)) }
+{
+    let mut places = Vec::new(alloc);
+    places.resize(count, 0u32)?;
+    write_all(places.as_mut_slice(), segments);
+    Ok(places)
 }
 
-impl Model for Orders {
-    ghost use Rattle.cs_order.specs.Orders.{OrdersData};
-    ghost use Rattle.cs_order.specs.Places.{segment_lists, HavePlaces};
-
-    ghost Value = { OrdersData };
-
-    ghost view = { λ o. record { rows = o.rows; segments = segment_lists o.projections.items } };
-
-    ghost invariant = { λ o. HavePlaces o.rows o.projections.items };
-}
-
-impl Orders {
-    /// The numbers of a segment's rows, in the order of its projection.
-    pub fn segment(&self, p: u16, s: u16) -> &[u32]
-        requires projection { p < length self.now.segments }
-        requires segment { s < length (slice_index_or self.now.segments p []) }
-        ensures { result.now ≡ numbers_in self.now p s }
-    {
-        let order = &self.projections[p as usize];
-        order.segments[s as usize].rows()
+/// Writes at each row its place.
+fn write_all(places: &mut [u32], segments: &[Segment])
+    requires few { length segments.now ≤ 16 }
+    requires rows { All (λ rows. (length rows ≤ 1048576) × All (λ r. r < length places.old) rows) segments.now }
+    ensures { (s r : ℕ) → s < length segments.now → Contains (slice_index_or segments.now s []) r → ((t : ℕ) → t < length segments.now → Contains (slice_index_or segments.now t []) r → t ≡ s) → IsThere (slice_index_or segments.now s []) s r (slice_index places.new r) }
+{
+    for (s, segment) in segments.iter().enumerate() {
+        write_segment(places, s as u32, segment.rows());
     }
+}
 
-    /// The segment in which a row stands, and its index there.
-    pub fn place(&self, p: u16, row: u32) -> (u16, u32)
-        requires projection { p < length self.now.segments }
-        requires row { row < self.now.rows }
-        ensures { StandsAt self.now p row result.0 result.1 }
-    {
-        let place = self.projections[p as usize].places[row as usize];
-        ((place / PLACES) as u16, place % PLACES)
+/// Writes at each row of a segment its place.
+fn write_segment(places: &mut [u32], s: u32, rows: &[u32])
+    requires segment { s < 16 }
+    requires few { length rows.now ≤ 1048576 }
+    requires within { All (λ r. r < length places.old) rows.now }
+    ensures there { (r : ℕ) → Contains rows.now r → IsThere rows.now s r (slice_index places.new r) }
+    ensures others { (r : ℕ) → (Contains rows.now r → ⊥) → slice_index places.new r ≡ slice_index places.old r }
+{
+    let first = s * PLACES;
+    for (index, row) in rows.iter().enumerate() {
+        places[*row as usize] = first + index as u32;
     }
 }

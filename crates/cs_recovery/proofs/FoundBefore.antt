@@ -21,7 +21,8 @@ use Rattle.cs_rows.specs.WalkByRows.{Reached, Found, numbers_of, found_from, sou
 use Rattle.cs_rows.specs.OwnRows.{has_all, HasAll, is_found_before}
 use Rattle.cs_rows.specs.RangeByRows.{is_stray_row, row_from, fresh_row}
 use Rattle.cs_rows.specs.RowSteps.{row_at, kept_count, kept_rows, projection_kept}
-use Rattle.cs_rows.proofs.RepeatLemmas.{repeats_push, same_from_eq, eq_from_same}
+use Rattle.cs_rows.proofs.RepeatLemmas.{repeats_push}
+use Rattle.cs_rows.proofs.EqualCells.{same_from_eq, eq_from_same}
 use Rattle.cs_rows.proofs.RowLemmas.{some_any}
 use Rattle.cs_rows.proofs.SurvivingRows.{surviving_are}
 use Rattle.cs_rows.proofs.FoundRows.{if_fresh}
@@ -30,6 +31,8 @@ use Rattle.cs_schema.proofs.Lists.{in_map, map_in, range_in, in_append, flat_mor
 use Rattle.cs_recovery.proofs.RowLists.{filter_map_in, find_in}
 use Rattle.cs_recovery.proofs.WalkedRows.{in_flat_map, flat_map_in}
 use Rattle.cs_recovery.proofs.RowLevels.{IsKeptRow, in_rows, landing_kept, found_keeps, rows_at, next}
+use Rattle.cs_safety.proofs.Bounded.{and_first, and_second}
+use Rattle.cs_recovery.proofs.Judged.{all_fail}
 
 -- ---- rows of which some repeats are left out
 
@@ -84,15 +87,6 @@ module _ (C : CatalogData) where
 
 -- ---- lists
 
-nothing_passes : {X : Type 0} (p : X → Bool) (xs : List X) (x : X) → find p xs ≡ None → IsIn x xs → p x ≡ false
-nothing_passes p [] x e h = absurd h
-nothing_passes {X} p (y ∷ ys) x e h = go (p y) refl e h (λ f i. nothing_passes p ys x f i)
-  where
-    go : (b : Bool) → p y ≡ b → cond b (Some y) (find p ys) ≡ None → IsIn x (y ∷ ys) → (find p ys ≡ None → IsIn x ys → p x ≡ false) → p x ≡ false
-    go true k f i r = absurd (none-some y (sym f))
-    go false k f (inl a) r = ap p a ∙ k
-    go false k f (inr i) r = r f i
-
 -- rows are sought by their numbers
 find_by_number : (p : ℕ → Bool) (rs : List Reached) → find p (numbers_of rs) ≡ option_map (λ (r : Reached). r.0) (find (λ (r : Reached). p r.0) rs)
 find_by_number p [] = refl
@@ -101,14 +95,6 @@ find_by_number p (r ∷ rs) = go (p r.0) (find_by_number p rs)
     go : (b : Bool) → find p (numbers_of rs) ≡ option_map (λ (x : Reached). x.0) (find (λ (x : Reached). p x.0) rs) → cond b (Some r.0) (find p (numbers_of rs)) ≡ option_map (λ (x : Reached). x.0) (cond b (Some r) (find (λ (x : Reached). p x.0) rs))
     go true e = refl
     go false e = e
-
-and_left : (a b : Bool) → (a && b) ≡ true → a ≡ true
-and_left true b e = refl
-and_left false b e = e
-
-and_right : (a b : Bool) → (a && b) ≡ true → b ≡ true
-and_right true b e = e
-and_right false b e = absurd (true≢false (sym e))
 
 module _ (C : CatalogData) (L : Sites) (S : Contents) (keyed : C.key < length C.columns) where
   abbrev all_of : List Reached → List Row
@@ -214,7 +200,7 @@ module _ (C : CatalogData) (L : Sites) (S : Contents) (keyed : C.key < length C.
       go None f g = absurd (true≢false (sym g ∙ ap (λ (o : Option Reached). later (option_map (λ (r : Reached). r.0) o)) f))
       go (Some y) f g =
           let is : (nat_lt y.0 x.0 && has_all C y.0) ≡ true = sym (ap (λ (o : Option Reached). later (option_map (λ (r : Reached). r.0) o)) f) ∙ g in
-          record { at = y; source = f; less = ltb-true y.0 x.0 (and_left (nat_lt y.0 x.0) (has_all C y.0) is); all = and_right (nat_lt y.0 x.0) (has_all C y.0) is }
+          record { at = y; source = f; less = ltb-true y.0 x.0 (and_first (nat_lt y.0 x.0) (has_all C y.0) is); all = and_second (nat_lt y.0 x.0) (has_all C y.0) is }
 
   -- ---- keys
 
@@ -236,7 +222,7 @@ module _ (C : CatalogData) (L : Sites) (S : Contents) (keyed : C.key < length C.
         survives = subst (IsIn y) (sym (surviving_are C L S)) (flat_map_in (projection_kept C L S) (numbers_below (length C.projections)) y.0 y (range_in 0 (length C.projections) y.0 (omega arith) (omega (arith, k.exists))) (kept_in y k))
 
         go : (o : Option Found) → found_from C L S y.0 y.1 ≡ o → fresh_row C L S y ≡ Some (own_row C L S y)
-        go None e = absurd (true≢false (sym (ap is_none e) ∙ nothing_passes (is_stray_row C L S) (surviving_rows C L S) y sound survives))
+        go None e = absurd (true≢false (sym (ap is_none e) ∙ all_fail (is_stray_row C L S) (surviving_rows C L S) sound y survives))
         go (Some F) e = own_from C L S keyed y all F e
 
     left_before : (p : ℕ) (x : Reached) → IsIn x (projection_kept C L S p) → (F : Found) → found_from C L S x.0 x.1 ≡ Some F → is_found_before C (numbers_of F.reached) ≡ true → has_key C (cell (found_row C S F) C.key) (left_of (before p)) ≡ true

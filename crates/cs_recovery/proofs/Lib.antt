@@ -25,6 +25,7 @@ pub mod Read
 pub mod Restarts
 pub mod RowHome
 pub mod RowKinds
+pub mod RowLandings
 pub mod RowLevels
 pub mod FoundBefore
 pub mod RowLists
@@ -33,6 +34,7 @@ pub mod RowReadings
 pub mod RowSteps
 pub mod Stores
 pub mod Suffice
+pub mod SurvivingRows
 pub mod TableFacts
 pub mod TableClauses
 pub mod WalkedRows

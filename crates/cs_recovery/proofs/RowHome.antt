@@ -1,7 +1,7 @@
 -- Where files hold a table and a loss leaves each row, the walk by rows finds the rows of the table.
 use Rattle.std.proofs.Common.{◌≡◌, ℕ, zero, suc, ◌<◌, List, [], ◌∷◌, ◌++◌, map, refl, sym, ap, subst, ◌∙◌, Bool, true, false, not, cond, ◌||◌, ◌⊎◌, inl, inr, Option, Some, None, length, get_or, arith, Ok, Err, pos}
 use Rattle.std.specs.Prelude.{IsTrue}
-use Rattle.std.specs.List.{filter, filter_map, list_any, slice_get}
+use Rattle.std.specs.List.{filter_map, list_any, slice_get}
 use Rattle.std.specs.Option.{is_some, is_none, option_and_then, option_map_or}
 use Rattle.std.specs.Cmp.{Equal-is}
 use Rattle.std.specs.declared.cmp.Ordering.TheVariants.{Equal}
@@ -21,56 +21,22 @@ use Rattle.cs_schema.specs.Lists.{numbers_below}
 use Rattle.cs_delta.specs.Image.{image_rows}
 use Rattle.cs_safety.specs.Paths.{Step, Path, IsSuitable, holds_column}
 use Rattle.cs_safety.specs.Safety.{IsSafeByRows, with_row}
-use Rattle.cs_rows.specs.Walk.{Contents, At, entry_of, image_cell, segment_rows, projection_rows}
+use Rattle.cs_rows.specs.Walk.{Contents, At, entry_of, image_cell}
 use Rattle.cs_rows.specs.WalkByRows.{Reached, Found, numbers_of, Landing, landing, looked_at, is_stray_landing, row_landing, lost_landing, level, found, found_from, source_in, is_full, found_row, full_row, surviving_rows, without_repeats, walked_by_rows}
 use Rattle.cs_recovery.specs.Holding.{AreContentsOf}
 use Rattle.cs_order.specs.Tables.{table_of}
-use Rattle.cs_schema.proofs.Ascending.{false≢true, in_filter, filter_in, same_ascending, ascending_sorted, in_ascending, ascending_in}
+use Rattle.cs_schema.proofs.Ascending.{false≢true, same_ascending, ascending_sorted, in_ascending, ascending_in}
 use Rattle.cs_schema.proofs.RowOrder.{rows_of-are, tied_same, key_total}
 use Rattle.cs_schema.proofs.Lists.{in_at, in_append, in_map, map_in, in_range, range_in, append_left, append_right}
 use Rattle.cs_safety.proofs.Distances.{last_step, path_zero}
 use Rattle.cs_recovery.proofs.Walks.{IsKeyed, IsHome, has_index}
 use Rattle.cs_safety.proofs.AliveLemmas.{segment_below}
-use Rattle.cs_recovery.proofs.WalkedRows.{none_any, none_found, member_in, map-append, in_flat_map, flat_map_in}
+use Rattle.cs_recovery.proofs.WalkedRows.{none_any, none_found, member_in, map-append}
 use Rattle.cs_recovery.proofs.RowLists.{in_filter_map, filter_map_in, find_in, find_some, all_pass, passes_all, some_is, from_repeats, to_repeats}
 use Rattle.cs_recovery.proofs.RowSteps.{Landed, landing_home, image_cell_is}
-use Rattle.cs_recovery.proofs.RowLevels.{row_in, Looked, looks, in_level, in_rows, in_marks, rows_at, next, IsKeptRow, found_ends}
-
--- ---- the rows of surviving segments
-
-module _ (C : CatalogData) (L : Sites) (S : Contents) where
-  not_so : (b : Bool) → not b ≡ true → b ≡ false
-  not_so true e = false≢true e
-  not_so false e = refl
-
-  abbrev stays : ℕ → At → Bool
-  stays p at = not (lost C L p at.0)
-
-  abbrev of_projection : ℕ → List (ℕ × At)
-  of_projection p = map (λ (at : At). (p, at)) (filter (stays p) (projection_rows C S p))
-
-  pub surviving_kept : (x : Reached) → IsIn x (surviving_rows C L S) → IsKeptRow C L S x.0 x.1
-  surviving_kept x h =
-      let a = in_flat_map of_projection (numbers_below (length C.projections)) x h in
-      let p : ℕ = a.0 in
-      let b = in_map (λ (at : At). (p, at)) (filter (stays p) (projection_rows C S p)) x a.2 in
-      let c = in_filter (stays p) (projection_rows C S p) b.0 b.1 in
-      let d = in_flat_map (segment_rows S p) (numbers_below (segments C p)) b.0 c.0 in
-      let e = in_map (λ (i : ℕ). (d.0, i)) (numbers_below (length (S.image p d.0).pairs)) b.0 d.2 in
-      let lp = (in_range 0 (length C.projections) p a.1).1 in
-      let ls = (in_range 0 (segments C p) d.0 d.1).1 in
-      let li = (in_range 0 (length (S.image p d.0).pairs) e.0 e.1).1 in
-      let k : IsKeptRow C L S p (d.0, e.0) = record { exists = omega (arith, lp); segment = omega (arith, ls); kept = subst (λ (w : At). lost C L p w.0 ≡ false) e.2 (not_so (lost C L p b.0.0) c.1); position = omega (arith, li) } in
-      subst (λ (w : Reached). IsKeptRow C L S w.0 w.1) (sym b.2) (subst (IsKeptRow C L S p) (sym e.2) k)
-
-  pub kept_surviving : (p : ℕ) (at : At) → IsKeptRow C L S p at → IsIn (p, at) (surviving_rows C L S)
-  kept_surviving p at k =
-      let i : IsIn at (segment_rows S p at.0) = map_in (λ i. (at.0, i)) (numbers_below (length (S.image p at.0).pairs)) at.1 (range_in 0 (length (S.image p at.0).pairs) at.1 (omega arith) (omega (arith, k.position))) in
-      let s : IsIn at (projection_rows C S p) = flat_map_in (segment_rows S p) (numbers_below (segments C p)) at.0 at (range_in 0 (segments C p) at.0 (omega arith) (omega (arith, k.segment))) i in
-      let f : IsIn at (filter (stays p) (projection_rows C S p)) = filter_in (stays p) (projection_rows C S p) at s (ap not k.kept) in
-      flat_map_in of_projection (numbers_below (length C.projections)) p (p, at) (range_in 0 (length C.projections) p (omega arith) (omega (arith, k.exists))) (map_in (λ (at : At). (p, at)) (filter (stays p) (projection_rows C S p)) at f)
-
--- ---- the rows of a table
+use Rattle.cs_recovery.proofs.RowLevels.{Looked, looks, in_level, in_rows, in_marks, rows_at, next, IsKeptRow, found_ends}
+use Rattle.cs_recovery.proofs.RowLandings.{row_in}
+use Rattle.cs_recovery.proofs.SurvivingRows.{not_so, kept_surviving, surviving_kept}
 
 module _ (C : CatalogData) (cat : IsCatalog C) (L : Sites) (S : Contents) (T : List Row) (table : IsTable C T) (same : AreContentsOf C L S T) (keyed : (p s : ℕ) → Survives C L (FileName.Seg p s) → IsKeyed (S.image p s)) where
   abbrev Home : ℕ → Row → At → Type 0

@@ -27,7 +27,7 @@ use Rattle.cs_recovery.proofs.KeptKinds.{image_kinds}
 use Rattle.cs_recovery.proofs.Judged.{RowsKeepKinds}
 use Rattle.cs_recovery.proofs.RowLists.{in_filter_map, find_in, passes_all, some_is, from_repeats}
 use Rattle.cs_recovery.proofs.RowLevels.{IsKeptRow, AllKept, found_kept}
-use Rattle.cs_recovery.proofs.RowHome.{surviving_kept}
+use Rattle.cs_recovery.proofs.SurvivingRows.{surviving_kept}
 
 abbrev IsOkWalk : {A E : Type 0} → Result A E → Type 0
 IsOkWalk (Ok x) = Unit {0}

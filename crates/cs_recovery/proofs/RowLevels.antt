@@ -21,21 +21,7 @@ use Rattle.cs_schema.proofs.Lists.{in_append, in_map, in_range, append_right}
 use Rattle.cs_safety.proofs.Distances.{in_any, differs}
 use Rattle.cs_recovery.proofs.WalkedRows.{map-append}
 use Rattle.cs_recovery.proofs.RowLists.{in_filter_map, none_kept, any_fails, distinct_append}
-
-abbrev pub row_in : Landing → Option At
-row_in Landing.astray = None
-row_in Landing.in_lost = None
-row_in (Landing.at_row at) = Some at
-
-pub row_landed : (q : ℕ) (l : Landing) (x : Reached) → row_landing (q, l) ≡ Some x → (q ≡ x.0) × (l ≡ Landing.at_row x.1)
-row_landed q Landing.astray x e = absurd (none-some x e)
-row_landed q Landing.in_lost x e = absurd (none-some x e)
-row_landed q (Landing.at_row at) x e = let z = same_Some (q, at) x e in (ap (λ (w : Reached). w.0) z, ap (λ (w : Reached). Landing.at_row w.1) z)
-
-pub lost_landed : (q : ℕ) (l : Landing) (x : ℕ) → lost_landing (q, l) ≡ Some x → (q ≡ x) × (l ≡ Landing.in_lost)
-lost_landed q Landing.astray x e = absurd (none-some x e)
-lost_landed q Landing.in_lost x e = (same_Some q x e, refl)
-lost_landed q (Landing.at_row at) x e = absurd (none-some x e)
+use Rattle.cs_recovery.proofs.RowLandings.{row_in, row_landed, lost_landed}
 
 cond_none : {X : Type 0} (b : Bool) → ◌≡◌ {A = Option X} (cond b None None) None
 cond_none true = refl

@@ -23,7 +23,7 @@ use Rattle.cs_schema.proofs.Lists.{in_range, in_map}
 use Rattle.cs_recovery.proofs.Exact.{Layers}
 use Rattle.cs_recovery.proofs.RowLists.{filter_map_same, find_in, find_same, map_same, flat_map_same, filter_none, filter_flat_map}
 use Rattle.cs_recovery.proofs.RowLevels.{IsKeptRow, AllKept, kept_level, kept_start, found_kept, next}
-use Rattle.cs_recovery.proofs.RowHome.{surviving_kept}
+use Rattle.cs_recovery.proofs.SurvivingRows.{surviving_kept}
 
 module _ (C : CatalogData) (cat : IsCatalog C) (layers : Layers C) (F : FileContents) (L : Sites) (S S' : Contents) (r : Reads C F L S) (r' : Reads C F L S') where
   same_image : (p s : ℕ) → Survives C L (FileName.Seg p s) → S.image p s ≡ S'.image p s

@@ -10,7 +10,7 @@ use Rattle.std.proofs.lemmas.List.Folds.{list_any-append}
 use Rattle.cs_schema.specs.declared.cells.Value.{Value}
 use Rattle.cs_schema.specs.Values.{value_eq}
 use Rattle.cs_rows.specs.Repeats.{IsNear, is_repeat, AreRepeats}
-use Rattle.cs_rows.proofs.RepeatLemmas.{same_from_eq, eq_from_same}
+use Rattle.cs_rows.proofs.EqualCells.{same_from_eq, eq_from_same}
 
 -- ---- how close they lie
 

@@ -1,78 +1,30 @@
 -- Rows whose key stands in an earlier row, among rows sorted by their keys.
 use Rattle.std.proofs.Common.{◌≡◌, ◌≢◌, ℕ, zero, suc, ◌+◌, ◌-◌, ◌<◌, ◌≤◌, List, [], ◌∷◌, ◌++◌, length, map, take, set, get_or, refl, sym, ap, ◌∙◌, subst, arith, Bool, true, false, not, cond, ◌||◌, ⊎_elim, Some, true≢false, get_or-set_same, get_or-set_other, eqb, replicate}
-use Rattle.std.specs.Prelude.{All, Contains, slice_get, pos}
+use Rattle.std.specs.Prelude.{slice_get, pos}
 use Rattle.std.specs.declared.cmp.Ordering.{Ordering}
-use Rattle.std.specs.declared.cmp.Ordering.TheVariants.{Less, Equal, Greater}
-use Rattle.std.specs.Ordering.{ordering_then, ordering_reverse, nat_cmp, is_lt, is_eq}
-use Rattle.std.specs.Cmp.{IsTotalOrder, then_total, on_total, nat_cmp_total, nat_cmp_is, tied_itself}
-use Rattle.std.specs.List.{filter, list_any, range_with_len, IsDistinct}
+use Rattle.std.specs.declared.cmp.Ordering.TheVariants.{Less}
+use Rattle.std.specs.Ordering.{ordering_then, nat_cmp, is_lt, is_eq}
+use Rattle.std.specs.Cmp.{IsTotalOrder, then_total, on_total, nat_cmp_total, nat_cmp_is}
+use Rattle.std.specs.List.{filter, list_any, range_with_len}
 use Rattle.std.specs.List.Sorted.{IsPermutation, IsSorted}
 use Rattle.std.proofs.lemmas.Option.{slice_get-get_or, same_Some}
-use Rattle.std.proofs.lemmas.Bool.{cases_order, cases_lt, ne_eqb, eqb-false}
+use Rattle.std.proofs.lemmas.Bool.{cases_order, cases_lt, eqb-false}
 use Rattle.std.proofs.lemmas.List.{append-nil, take_more, take-map, get_or_default, get_or-take, get_or-map, length-set, length-take-le, length-map}
 use Rattle.std.proofs.lemmas.List.Elements.{filter-append}
 use Rattle.std.proofs.lemmas.List.Folds.{list_any_at, list_any_none}
-use Rattle.std.proofs.lemmas.List.FromFn.{length-range_with_len, get_or-range_with_len}
+use Rattle.std.proofs.lemmas.List.FromFn.{length-range_with_len}
 use Rattle.std.proofs.lemmas.List.Sorted.{sorted_far, ranks_by, All-permutation, Contains-permutation, length_permutation}
-use Rattle.std.proofs.lemmas.Map.Keys.{apart_from_distinct, IsDistinct-from_apart, IsDistinct-IsPermutation}
+use Rattle.std.proofs.lemmas.Map.Keys.{apart_from_distinct, IsDistinct-IsPermutation}
 use Rattle.cs_schema.specs.declared.cells.Value.{Value}
 use Rattle.cs_schema.specs.Values.{value_cmp, value_eq}
-use Rattle.cs_schema.specs.ValueOrder.{value_cmp_total, value_cmp-IsAntisymmetric}
+use Rattle.cs_schema.specs.ValueOrder.{value_cmp_total}
 use Rattle.cs_schema.specs.CatalogData.{CatalogData}
 use Rattle.cs_schema.specs.Rows.{Row, cell}
 use Rattle.cs_rows.specs.Repeats.{numbered_cmp, is_repeat, AreRepeats, unmarked}
 use Rattle.cs_rows.specs.WalkByRows.{without_repeats}
 use Rattle.cs_rows.proofs.KeptCells.{unmarked_push}
-
--- ---- equal cells
-
-is_Equal : (r : Ordering) → is_eq r ≡ true → r ≡ Equal
-is_Equal Less h = absurd (true≢false (sym h))
-is_Equal Equal h = refl
-is_Equal Greater h = absurd (true≢false (sym h))
-
-pub same_from_eq : (v w : Value) → value_eq v w ≡ true → v ≡ w
-same_from_eq v w h = value_cmp-IsAntisymmetric v w (is_Equal (value_cmp v w) h)
-
-tie : (v w : Value) → v ≡ w → value_cmp v w ≡ Equal
-tie v w e = subst (λ (x : Value). value_cmp v x ≡ Equal) e (tied_itself value_cmp_total v)
-
-pub eq_from_same : (v w : Value) → v ≡ w → value_eq v w ≡ true
-eq_from_same v w e = ap is_eq (tie v w e)
-
-not_less : (r s : Ordering) → is_lt (ordering_then r s) ≡ false → is_lt r ≡ false
-not_less Less s h = h
-not_less Equal s h = refl
-not_less Greater s h = refl
-
-both_ways : (x y : Value) → is_lt (value_cmp x y) ≡ false → is_lt (value_cmp y x) ≡ false → value_cmp x y ≡ Equal
-both_ways x y h k = go (value_cmp x y) (value_cmp y x) (value_cmp_total.antisymm x y) h k
-  where
-    go : (r s : Ordering) → r ≡ ordering_reverse s → is_lt r ≡ false → is_lt s ≡ false → r ≡ Equal
-    go r Less e f g = absurd (true≢false g)
-    go r Equal e f g = e
-    go r Greater e f g = absurd (true≢false (sym (ap is_lt e) ∙ f))
-
--- ---- distinct numbers
-
-flips : (x y : ℕ) → eqb x y ≡ eqb y x
-flips x y = ⊎_elim (λ (e : x ≡ y). rw e refl) (λ o. ⊎_elim (λ (h : x < y). ne_eqb x y (λ e. omega arith) ∙ sym (ne_eqb y x (λ e. omega arith))) (λ (h : y < x). ne_eqb x y (λ e. omega arith) ∙ sym (ne_eqb y x (λ e. omega arith))) o) (cases_order x y)
-
-distinct_range : (n : ℕ) → IsDistinct eqb (range_with_len 0 n)
-distinct_range n =
-    IsDistinct-from_apart eqb (range_with_len 0 n) (λ i j d h k.
-    let m : j < n = rw (length-range_with_len 0 n) at k in
-    let l : i < n = omega arith in
-    let ne : 0 + i ≡ 0 + j → ⊥ = λ e. omega arith in
-    rw (get_or-range_with_len 0 n i d l, get_or-range_with_len 0 n j d m) (ne_eqb (0 + i) (0 + j) ne))
-
-range_below : (n : ℕ) → All (λ (r : ℕ). r < n) (range_with_len 0 n)
-range_below n k d h =
-    let lt : k < n = rw (length-range_with_len 0 n) at h in
-    rw (get_or-range_with_len 0 n k d lt) (omega arith)
-
-range_has : (n r : ℕ) → r < n → Contains (range_with_len 0 n) r
-range_has n r h = (r, rw (length-range_with_len 0 n) h, get_or-range_with_len 0 n r r h ∙ (omega arith))
+use Rattle.cs_rows.proofs.EqualCells.{same_from_eq, tie, eq_from_same, not_less, both_ways}
+use Rattle.cs_rows.proofs.RangeNumbers.{flips, distinct_range, range_below, range_has}
 
 -- ---- sorted rows
 

@@ -20,8 +20,9 @@ HasAll C p = has_all C p ≡ true
 abbrev pub own_cells : CatalogData → Contents → List Reached → ℕ → List Value
 own_cells C S xs c = map (λ (x : Reached). image_cell C S x.0 c x.1) xs
 
--- A walk reached rows in these projections, and starts in the first. It reads its key in an earlier projection, one that has every
--- column: the walk from the row there comes before, and finds a row with that key.
+-- Whether an earlier walk finds the row of a walk that reached rows in these projections and started in the first of them. It
+-- does where the key is read in a projection before the first that has every column: the walk from the row there comes earlier,
+-- and finds a row with that key by itself.
 abbrev pub is_found_before : CatalogData → List ℕ → Bool
 is_found_before C [] = false
 is_found_before C (p ∷ ps) = option_map_or (λ q. nat_lt q p && has_all C q) (find (λ q. holds_column C q C.key) (p ∷ ps)) false

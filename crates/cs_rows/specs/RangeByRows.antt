@@ -25,6 +25,7 @@ fresh_row C L S x = option_and_then (λ (F : Found). if is_fresh C F then Some (
 abbrev pub surviving_between : CatalogData → Sites → Contents → ℕ → ℕ → List Reached
 surviving_between C L S start end = drop start (take end (surviving_rows C L S))
 
--- the full rows that the walks from some rows find, but for such, or the first of these that is astray
+-- the full rows that the walks from some rows find, without those that an earlier walk finds by itself; or the first of these
+-- rows whose walk goes astray
 abbrev pub found_among : CatalogData → Sites → Contents → List Reached → Result (List Row) Stray
 found_among C L S xs = option_map_or (λ (x : Reached). Err (x.0, x.1.0, x.1.1)) (find (is_stray_row C L S) xs) (Ok (filter_map (fresh_row C L S) xs))

@@ -1,7 +1,7 @@
 use Rattle.std.proofs.Common.{◌≡◌, ℕ, length, take}
 use Rattle.std.specs.Prelude.{Contains, slice_index}
 use Rattle.cs_order.specs.Places.{IsThere}
-use Rattle.cs_order.proofs.indexes.write_segment.Given as goal
+use Rattle.cs_order.proofs.places.write_segment.Given as goal
 
 abbrev pub invariant-loop-index : goal.invariant-loop-index
 invariant-loop-index l = record {

@@ -2,7 +2,7 @@ use Rattle.std.proofs.Common.{◌≡◌, ◌<◌, length, take, get_or, refl, �
 use Rattle.std.proofs.Math.Seq.{take-length}
 use Rattle.std.proofs.lemmas.List.{length-set}
 use Rattle.cs_order.proofs.Filling.{there_more, others_more}
-use Rattle.cs_order.proofs.indexes.write_segment.Goals as goal
+use Rattle.cs_order.proofs.places.write_segment.Goals as goal
 
 pub loop-index-preserved : goal.loop-index-preserved
 loop-index-preserved c =

@@ -1,7 +1,7 @@
 use Rattle.std.proofs.Common.{ℕ, ◌≡◌, ◌≤◌, ◌++◌, length, take, drop, ap, sym, ◌∙◌, arith}
 use Rattle.std.proofs.Math.Seq.{take-length}
 use Rattle.std.proofs.lemmas.List.{take-append-le}
-use Rattle.cs_order.proofs.indexes.places.Goals as goal
+use Rattle.cs_order.proofs.places.places.Goals as goal
 
 pub returns-clause-places : goal.returns-clause-places
 returns-clause-places c =

@@ -1,0 +1,7 @@
+use Rattle.std.proofs.Common.{◌≡◌, ◌*◌, length, take}
+use Rattle.sha2.specs.Sha256.{digest_bytes}
+use Rattle.cs_digests.proofs.finishing.bytes_of.Given as goal
+
+-- the bytes of the words so far
+abbrev pub invariant-words : goal.invariant-words
+invariant-words l = (length l.out ≡ 32) × (take (4 * l.i) l.out ≡ digest_bytes l.h l.i)

@@ -1,0 +1,6 @@
+use Rattle.std.proofs.Common.{refl}
+use Rattle.cs_digests.proofs.words.big_sigma1.Goals as goal
+
+pub returns : goal.returns
+returns c j h =
+    rw (c.xor-2.ensures j h, c.xor.ensures j h, c.rotate.ensures j h, c.rotate-2.ensures j h, c.rotate-3.ensures j h) refl
