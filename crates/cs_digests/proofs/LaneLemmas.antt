@@ -41,16 +41,3 @@ rotates x k low high =
 -- a word of a message stands in its lane
 pub word_there : (w : List (List ℕ)) (j k : ℕ) → k < length w → slice_index (words_of j w) k ≡ lane_at w k j
 word_there w j k h = get_or-map (λ (v : List ℕ). slice_index v j) w k [] 0 h
-
--- a list of eight words is that of its words
-pub eight_words : (h : List ℕ) → length h ≡ 8 → slice_index h 0 ∷ slice_index h 1 ∷ slice_index h 2 ∷ slice_index h 3 ∷ slice_index h 4 ∷ slice_index h 5 ∷ slice_index h 6 ∷ slice_index h 7 ∷ [] ≡ h
-eight_words (a ∷ b ∷ c ∷ d ∷ e ∷ f ∷ g ∷ h ∷ []) l = refl
-eight_words [] l = absurd (omega arith)
-eight_words (a ∷ []) l = absurd (omega arith)
-eight_words (a ∷ b ∷ []) l = absurd (omega arith)
-eight_words (a ∷ b ∷ c ∷ []) l = absurd (omega arith)
-eight_words (a ∷ b ∷ c ∷ d ∷ []) l = absurd (omega arith)
-eight_words (a ∷ b ∷ c ∷ d ∷ e ∷ []) l = absurd (omega arith)
-eight_words (a ∷ b ∷ c ∷ d ∷ e ∷ f ∷ []) l = absurd (omega arith)
-eight_words (a ∷ b ∷ c ∷ d ∷ e ∷ f ∷ g ∷ []) l = absurd (omega arith)
-eight_words (a ∷ b ∷ c ∷ d ∷ e ∷ f ∷ g ∷ h ∷ i ∷ xs) l = absurd (omega arith)

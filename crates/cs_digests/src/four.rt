@@ -29,7 +29,7 @@ fn in_step(t0: &[u8], t1: &[u8], t2: &[u8], t3: &[u8], blocks: usize) -> [u32x4;
     state
 }
 
-/// The digests of four messages, which take the least time where they are about as long as one another.
+/// The digests of four messages, in their order, which take the least time where they are about as long as one another.
 pub fn digests_of_four(t0: &[u8], t1: &[u8], t2: &[u8], t3: &[u8]) -> [[u8; 32]; 4]
     ensures { (j : ℕ) → j < 4 → slice_index_or result j [] ≡ sha256 (of_four t0.now t1.now t2.now t3.now j) }
 {
