@@ -1,5 +1,5 @@
 -- What the reading of one segment's files finds.
-use Rattle.std.specs.Prelude.{◌≡◌, ℕ, ◌-◌, ◌<◌, ◌≤◌, Bool, true, List, map, Option, Some, None, Vec, Result, IfOk, IfErr, length, slice_get, take, if◌then◌else◌}
+use Rattle.std.specs.Prelude.{◌≡◌, ℕ, ◌-◌, ◌<◌, ◌≤◌, Bool, true, List, map, Option, Some, None, Vec, Result, IfOk, IfErr, length, slice_get, slice_index_or, take, if◌then◌else◌}
 use Rattle.std.specs.Option.{option_map}
 use Rattle.std.specs.Global.{Global}
 use Rattle.std.specs.List.{filter}
@@ -43,6 +43,11 @@ IsSealedAt F segments at = (a : ℕ × ℕ) (bytes : List ℕ) → slice_get seg
 
 abbrev pub AreSealed : FileContents → List (ℕ × ℕ) → Type 0
 AreSealed F segments = (at : ℕ) → at < length segments → IsSealedAt F segments at
+
+-- groups of the numbers below a count, each from one number up to another, with each number below an end in one of them
+pub record AreGroups (count end : ℕ) (groups : List (ℕ × ℕ)) : Type 0 where
+  pub within : (i : ℕ) → i < length groups → ((slice_index_or groups i (0, 0)).0 ≤ (slice_index_or groups i (0, 0)).1) × ((slice_index_or groups i (0, 0)).1 ≤ count)
+  pub covered : (k : ℕ) → k < end → (i : ℕ) × (i < length groups) × ((slice_index_or groups i (0, 0)).0 ≤ k) × (k < (slice_index_or groups i (0, 0)).1)
 
 -- ---- one segment
 

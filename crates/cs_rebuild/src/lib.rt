@@ -21,6 +21,7 @@ mod counting;
 mod digests;
 mod encoding;
 mod files_of;
+mod groups;
 mod held;
 mod joined;
 mod joining;

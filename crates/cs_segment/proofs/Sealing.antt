@@ -1,5 +1,5 @@
 -- Sealed texts.
-use Rattle.std.proofs.Common.{◌≡◌, ℕ, ◌+◌, ◌-◌, List, length, take, drop, refl, sym, ap, ◌∙◌, arith, Option, Some, None, Bool, Bor}
+use Rattle.std.proofs.Common.{◌≡◌, ℕ, ◌+◌, ◌-◌, ◌++◌, true, List, length, take, drop, refl, sym, ap, ◌∙◌, arith, Option, Some, None, Bool, Bor}
 use Rattle.std.proofs.lemmas.List.{length-append, take_at, drop_at}
 use Rattle.sha2.specs.Sha256.{sha256}
 use Rattle.sha2.proofs.Facts256.{length-sha256}
@@ -28,3 +28,12 @@ sealed_or_not bytes (Some body) found none b e = record {
   none = λ f. absurd (let x = e in cc);
 }
 sealed_or_not bytes None found none b e = record { found = λ t. absurd (let x = e in cc); none = λ f. none }
+
+-- a text and its digest
+pub followed : (text end : List ℕ) → end ≡ sha256 text → IsSealed (text ++ end) true
+followed text end e =
+    let whole : text ++ end ≡ sealed text = ap (λ (d : List ℕ). text ++ d) e in
+    record {
+      found = λ t. whole ∙ ap sealed (body_of_sealed (text ++ end) text whole);
+      none = λ f. absurd (let x = f in cc);
+    }
