@@ -13,9 +13,11 @@ pub mod SampleColumns
 pub mod KeyLed
 pub mod KeyTurns
 pub mod Leads
+pub mod ApartInts
 pub mod Ties
 pub mod PassLemmas
 pub mod WordLemmas
 pub mod DealingLemmas
+pub mod HoleLemmas
 pub mod Sides
 pub mod KeyOrder

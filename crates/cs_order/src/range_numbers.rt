@@ -1,0 +1,64 @@
+//! The range of each row, counted from the cuts up to its cell of the first sort column.
+ghost use Rattle.std.specs.Prelude.{◌≡◌, ◌<◌, ◌≤◌, pos, length, map, slice_index, slice_index_or, EachIndex};
+ghost use Rattle.cs_schema.specs.declared.cells.Value.{Value};
+ghost use Rattle.cs_schema.specs.CatalogData.{projection};
+ghost use Rattle.cs_schema.specs.Ranges.{range_of};
+ghost use Rattle.cs_schema.specs.Rows.{cell};
+ghost use Rattle.cs_schema.specs.Values.{values};
+
+use crate::writing::write_each;
+use cs_schema::{Catalog, Cells};
+use std::marker::Sync;
+use std::thread::Threads;
+
+/// The most cuts that ranges of 16 bits can have.
+const MOST_CUTS: usize = 65_535;
+
+/// Writes the range of each row, by its cell of the first sort column.
+pub fn write_ranges<R: Threads + Sync>(
+    rt: &R,
+    catalog: &Catalog,
+    p: u16,
+    first: &Cells,
+    numbers: &mut [u16],
+)
+    requires projection { p < length catalog.now.projections }
+    requires long { length numbers.old ≡ length (values first.now) }
+    ensures long { length numbers.new ≡ length numbers.old }
+    ensures ranges { EachIndex numbers.new (λ r. range_of (projection catalog.now p).cuts (cell (values first.now) r) ≡ slice_index numbers.new r) }
+{
+    match (&catalog.projection(p).cuts, first) {
+        (Cells::Ints(cuts), Cells::Ints(ints)) if cuts.len() <= MOST_CUTS => {
+            write_int_ranges(rt, cuts, ints, numbers)
+        }
+        _ => write_each(rt, numbers, |row: usize, number: &mut u16| {
+            *number = catalog.segment_of_cell(p, first, row);
+        }),
+    }
+}
+
+/// Writes the range of each int. The kind of the cells is asked once, and not at each row.
+fn write_int_ranges<R: Threads + Sync>(rt: &R, cuts: &[i64], ints: &[i64], numbers: &mut [u16])
+    requires few { length cuts.now ≤ 65535 }
+    requires long { length numbers.old ≡ length ints.now }
+    ensures long { length numbers.new ≡ length numbers.old }
+    ensures ranges { EachIndex numbers.new (λ r. range_of (map Value.Int cuts.now) (Value.Int (slice_index_or ints.now r (pos 0))) ≡ slice_index numbers.new r) }
+{
+    write_each(rt, numbers, |row: usize, number: &mut u16| {
+        *number = range_of_int(cuts, &ints[row]);
+    });
+}
+
+/// How many cuts are up to an int.
+fn range_of_int(cuts: &[i64], int: &i64) -> u16
+    requires { length cuts.now ≤ 65535 }
+    ensures { result ≡ range_of (map Value.Int cuts.now) (Value.Int int.now) }
+{
+    let mut range = 0;
+    for at in 0..cuts.len() {
+        if cuts[at].cmp(int).is_le() {
+            range += 1;
+        }
+    }
+    range
+}
