@@ -46,10 +46,11 @@ fn agrees(catalog: &Catalog, loss: Loss, q: u16, entry: (u16, u32), place: (u16,
     if entry.0 != place.0 {
         return false;
     }
-    if place.1 != 0 && catalog.lost(q, place.0, loss) {
-        return entry.1 >= 1;
+    // the catalog is asked of few: most entries are the very place
+    if entry.1 == place.1 {
+        return true;
     }
-    entry.1 == place.1
+    place.1 != 0 && entry.1 >= 1 && catalog.lost(q, place.0, loss)
 }
 
 /// Whether a join index has the expected entries at the keys above one number, up to another.

@@ -1,10 +1,11 @@
 //! The entries of join indexes after a recovery: for each key of a segment the place of its row in another projection.
-ghost use Rattle.std.specs.Prelude.{◌≡◌, ◌<◌, ℕ, false, true, length, Some, MatchOption};
+ghost use Rattle.std.specs.Prelude.{◌≡◌, ◌<◌, ℕ, false, true, IsTrue, length, Some, MatchOption};
 ghost use Rattle.std.specs.List.{slice_get};
 ghost use Rattle.std.proofs.Props.{props};
 ghost use Rattle.cs_schema.specs.CatalogData.{HasSegment, segments};
 ghost use Rattle.cs_schema.specs.Losses.{lost};
 ghost use Rattle.cs_schema.specs.Order.{rows_of};
+ghost use Rattle.cs_safety.specs.Safety.{IsAlive};
 ghost use Rattle.cs_delta.specs.Image.{position_of_key};
 ghost use Rattle.cs_rows.specs.Survivors.{images_of, image_at};
 ghost use Rattle.cs_order.specs.Orders.{numbers_in, row_at};
@@ -13,6 +14,7 @@ ghost use Rattle.cs_rebuild.specs.OnStore.{held_on, table_on};
 
 use crate::ordered_store::OrderedStore;
 use cs_delta::Image;
+use cs_safety::alive;
 
 /// The entries of a join index. What is the same for each key is looked up once, as there may be a million keys.
 #[derive(Drop)]
@@ -26,11 +28,14 @@ pub struct Entries<'a> {
     /// The image of the segment, where it isn't lost.
     kept: Option<&'a Image>,
     targets: &'a [Option<Image>],
+    /// Whether no segment of the target is lost.
+    whole: bool,
     ghost segment: { HasSegment store.now.catalog.now p s },
     ghost target: { q < length store.now.catalog.now.projections },
     ghost numbers_are: { numbers.now ≡ numbers_in store.now.orders p s },
     ghost kept_is: { MatchOption kept (lost store.now.catalog.now store.now.loss p s ≡ true) (λ m. (lost store.now.catalog.now store.now.loss p s ≡ false) × (image_at store.now.survivors.now p s ≡ Some m.now)) } by { Prim.hlevel props },
     ghost targets_are: { targets.now ≡ images_of store.now.survivors.now q },
+    ghost whole_is: { IsTrue whole → IsAlive store.now.catalog.now store.now.loss q },
     ghost targets_count: { length (images_of store.now.survivors.now q) ≡ segments store.now.survivors.now.catalog q },
 }
 
@@ -65,6 +70,7 @@ impl<'a> Entries<'a> {
             numbers: store.orders.segment(p, s),
             kept: kept_image(store, p, s),
             targets: store.survivors.images(q as usize),
+            whole: alive(store.catalog, store.loss, q),
         }
     }
 
@@ -97,6 +103,18 @@ impl<'a> Entries<'a> {
         }
     }
 
+    /// Whether a segment of the target is lost. Where none is, the catalog isn't asked.
+    #[inline(always)]
+    fn is_lost(&self, t: u16) -> bool
+        requires { t < segments self.now.store.now.catalog.now self.now.q }
+        ensures { result ≡ lost self.now.store.now.catalog.now self.now.store.now.loss self.now.q t }
+    {
+        if self.whole {
+            return false;
+        }
+        self.store.catalog.lost(self.q, t, self.store.loss)
+    }
+
     /// The place of a walked row in the projection: its segment, and the key that it has there.
     #[inline(always)]
     pub fn place(&self, row: u32) -> (u16, u32)
@@ -105,9 +123,8 @@ impl<'a> Entries<'a> {
         ensures exists { result.0 < segments self.now.store.now.catalog.now self.now.q }
         ensures there { (i : ℕ) × (slice_get (rows_of self.now.store.now.catalog.now (table_on self.now.store.now) self.now.q result.0) i ≡ Some (row_at self.now.store.now.walked.rows row)) }
     {
-        let store = self.store;
-        let (t, index) = store.orders.place(self.q, row);
-        if store.catalog.lost(self.q, t, store.loss) {
+        let (t, index) = self.store.orders.place(self.q, row);
+        if self.is_lost(t) {
             return (t, index + 1);
         }
         match &self.targets[t as usize] {

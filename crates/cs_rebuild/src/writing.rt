@@ -3,8 +3,8 @@ ghost use Rattle.std.specs.Prelude.{◌≡◌, ◌⊎◌, ◌++◌, All, Some, m
 ghost use Rattle.cs_schema.specs.declared.file_name.FileName.{FileName as NameData};
 ghost use Rattle.cs_store.specs.FileSet.{contents_of};
 ghost use Rattle.cs_store.specs.declared.fault.Fault.{Fault as FaultData};
-ghost use Rattle.cs_rebuild.specs.OnStore.{IsSound, written_on};
-ghost use Rattle.cs_rebuild.specs.LostFiles.{lost_names};
+ghost use Rattle.cs_rebuild.specs.OnStore.{written_on};
+ghost use Rattle.cs_rebuild.specs.LostFiles.{affected_joins, join_name, lost_names};
 
 use crate::affected_joins::joins_after;
 use crate::ordered_store::OrderedStore;
@@ -13,26 +13,28 @@ use crate::sound_store::SoundStore;
 use cs_board::Gate;
 use cs_schema::FileName;
 use cs_store::{Fault, FileSet};
-use std::alloc::AllocError;
+use std::alloc::{AllocError, Global};
 use std::marker::Sync;
 use std::thread::Threads;
 
-/// The files of the lost segments, which are made, and of the affected join indexes, put together.
-fn write_files<R: Threads + Sync, G: Gate + Sync>(
-    run: &Run<'_, R, G>,
+/// The files of the lost segments and the affected join indexes, which are made, put together.
+pub fn put_together(
+    alloc: Global,
     store: &OrderedStore<'_>,
     lost: Vec<(FileName, Vec<u8>)>,
+    joins: Vec<(FileName, Vec<u8>)>,
 ) -> Result<FileSet, AllocError>
-    requires sound { IsSound store.now }
-    requires names { map (λ file. file.0) lost.items ≡ lost_names store.now.catalog.now store.now.loss }
-    requires texts { All (λ file. written_on store.now file.0 ≡ Some file.1.items) lost.items }
+    requires lost_names { map (λ file. file.0) lost.items ≡ lost_names store.now.catalog.now store.now.loss }
+    requires lost_texts { All (λ file. written_on store.now file.0 ≡ Some file.1.items) lost.items }
+    requires join_names { map (λ file. file.0) joins.items ≡ map join_name (affected_joins store.now.catalog.now store.now.loss) }
+    requires join_texts { All (λ file. written_on store.now file.0 ≡ Some file.1.items) joins.items }
     ensures { IfOk result (λ out. (n : NameData) → contents_of out n ≡ written_on store.now n) }
 {
     let _rules = store.catalog.projection_count();
     let mut made = lost;
-    let mut joins = joins_after(run, store)?;
+    let mut joins = joins;
     made.append(&mut joins)?;
-    let mut files = FileSet::new(run.alloc)?;
+    let mut files = FileSet::new(alloc)?;
     while let Some((name, bytes)) = made.pop() {
         files.put(name, bytes)?;
     }
@@ -50,7 +52,12 @@ pub fn recovered_files<R: Threads + Sync, G: Gate + Sync>(
     ensures ok { IfOk result (λ out. (n : NameData) → contents_of out n ≡ written_on store.now n) }
     ensures err { IfErr result (λ fault. fault ≡ FaultData.Memory) }
 {
-    match write_files(run, store.ordered(), lost) {
+    let store = store.ordered();
+    let joins = match joins_after(run, store) {
+        Ok(joins) => joins,
+        Err(_) => return Err(Fault::Memory),
+    };
+    match put_together(run.alloc, store, lost, joins) {
         Ok(files) => Ok(files),
         Err(_) => Err(Fault::Memory),
     }

@@ -3,14 +3,14 @@ use Rattle.cs_rows.specs.Survivors.{contents_of as held_by}
 use Rattle.cs_order.specs.Tables.{table_of}
 use Rattle.cs_recovery.specs.Expected.{written}
 use Rattle.cs_rebuild.proofs.ListedFiles.{IsLeftOrWritten}
-use Rattle.cs_rebuild.proofs.writing.write_files.Given as goal
+use Rattle.cs_rebuild.proofs.writing.put_together.Given as goal
 
 -- each name is that of a file that is left to put, or written
 abbrev pub invariant-loop-name : goal.invariant-loop-name
-invariant-loop-name g l = record {
+invariant-loop-name l = record {
   texts : All (λ file. written l.store.catalog.now l.store.loss (held_by l.store.survivors.now) (table_of l.store.catalog.now l.store.walked.rows) file.0 ≡ Some file.1.items) l.made.items;
   left : IsLeftOrWritten (λ file. file.0) (written l.store.catalog.now l.store.loss (held_by l.store.survivors.now) (table_of l.store.catalog.now l.store.walked.rows)) l.made.items l.files;
 }
 
 abbrev pub decreases-loop-name : goal.decreases-loop-name
-decreases-loop-name g l = length l.made.items
+decreases-loop-name l = length l.made.items

@@ -8,22 +8,22 @@ use Rattle.cs_rebuild.specs.LostFiles.{lost_names, join_name, affected_joins}
 use Rattle.cs_rebuild.proofs.Keeping.{no_rest}
 use Rattle.cs_rebuild.proofs.WrittenFiles.{one_put}
 use Rattle.cs_rebuild.proofs.ListedFiles.{all_left, all_names, last_taken, one_less_left, none_left}
-use Rattle.cs_rebuild.proofs.writing.write_files.Goals as goal
+use Rattle.cs_rebuild.proofs.writing.put_together.Goals as goal
 
 pub loop-name-init : goal.loop-name-init
-loop-name-init g c =
+loop-name-init c =
     let x = c.args.store.now in
     let C = x.catalog.now in
     let all = written C x.loss (held_by x.survivors.now) (table_of C x.walked.rows) in
     let joined = c.in_ok-append.ensures.items in
-    let names = ap (map (λ file. file.0)) joined ∙ map-append (λ file. file.0) c.args.lost.items c.in_ok-joins.joins.items ∙ ap (λ l. l ++ map (λ file. file.0) c.in_ok-joins.joins.items) c.requires.names ∙ ap (λ l. lost_names C x.loss ++ l) c.in_ok-joins.ensures.names in
+    let names = ap (map (λ file. file.0)) joined ∙ map-append (λ file. file.0) c.args.lost.items c.args.joins.items ∙ ap (λ l. l ++ map (λ file. file.0) c.args.joins.items) c.requires.lost_names ∙ ap (λ l. lost_names C x.loss ++ l) c.requires.join_names in
     record {
-      texts = subst (All (λ file. all file.0 ≡ Some file.1.items)) (sym joined) (All-append (λ file. all file.0 ≡ Some file.1.items) c.args.lost.items c.in_ok-joins.joins.items c.requires.texts c.in_ok-joins.ensures.texts);
+      texts = subst (All (λ file. all file.0 ≡ Some file.1.items)) (sym joined) (All-append (λ file. all file.0 ≡ Some file.1.items) c.args.lost.items c.args.joins.items c.requires.lost_texts c.requires.join_texts);
       left = all_left (λ file. file.0) all (lost_names C x.loss ++ map join_name (affected_joins C x.loss)) c.append.new.self.items c.in_ok-files.files c.in_ok-files.ensures names (all_names C x.loss c.projection_count-rules.ensures.rules (held_by x.survivors.now) (table_of C x.walked.rows));
     }
 
 pub loop-name-preserved : goal.loop-name-preserved
-loop-name-preserved g c =
+loop-name-preserved c =
     let x = c.args.store.now in
     let C = x.catalog.now in
     let all = written C x.loss (held_by x.survivors.now) (table_of C x.walked.rows) in
@@ -38,7 +38,7 @@ loop-name-preserved g c =
     }
 
 pub returns : goal.returns
-returns g c =
+returns c =
     let x = c.args.store.now in
     let C = x.catalog.now in
     let none = (no_rest _ c.pop.result c.in_default.not-Some c.pop.ensures.cases).0 in
