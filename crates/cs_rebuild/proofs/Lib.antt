@@ -1,4 +1,5 @@
 pub mod AnchoredRows
+pub mod AnchorImages
 pub mod AppendedColumns
 pub mod CellsAlike
 pub mod Compared

@@ -23,6 +23,7 @@ mod encoding;
 mod files_of;
 mod groups;
 mod held;
+mod in_turn;
 mod joined;
 mod joining;
 mod lending;
