@@ -129,20 +129,6 @@ fn make_file<R: Threads + Sync, G: Gate + Sync>(
     }
 }
 
-/// By what each of so many lost files is made, all of them at once: the workers are shared among the segments. What encodes is
-/// ahead of the digests, on which the end waits, and these want processors too.
-fn share_of<'a, R, G>(run: &Run<'a, R, G>, files: usize) -> Run<'a, R, G> {
-    // each segment has a delta
-    let segments = (files / 2).clamp(1, 64) as u32;
-    Run {
-        rt: run.rt,
-        alloc: run.alloc,
-        workers: (run.workers / segments).clamp(1, 64),
-        cut: run.cut,
-        gate: run.gate,
-    }
-}
-
 /// The files of the lost segments and of their deltas, with their names. Each is made in a thread where one is free: one thread
 /// makes the digest of a file, which is most of the work.
 pub fn lost_files<R: Threads + Sync, G: Gate + Sync>(
@@ -153,7 +139,6 @@ pub fn lost_files<R: Threads + Sync, G: Gate + Sync>(
     ensures texts { IfOk result (λ made. All (λ file. written_on store.now file.0 ≡ Some file.1.items) made.items) }
 {
     let files = listed_files(run.alloc, store)?;
-    let share = &share_of(run, files.len());
     files
         .into_par_iter()
         // a file is worth a thread
@@ -162,7 +147,7 @@ pub fn lost_files<R: Threads + Sync, G: Gate + Sync>(
             |file: LostFile| -> Result<(FileName, Vec<u8>), AllocError>
                 requires file { IsToWrite store.now file }
                 ensures { IfOk result (λ made. IsFileOf store.entry.now (name_of file) made.0 made.1.items) }
-            { make_file(share, store, file) },
+            { make_file(run, store, file) },
         )
         .collect::<Result<Vec<(FileName, Vec<u8>)>, AllocError>>(run.rt, run.alloc)?
 }

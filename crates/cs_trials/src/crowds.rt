@@ -1,6 +1,6 @@
 //! Gates that hold workers until so many are at work at once, also where rows are walked along joins and joins are verified,
-//! and count the pieces. A lost segment's columns are encoded one after the other, by its share of the workers: so where a column
-//! has fewer pieces than there are workers, or two segments are lost, the rounds before these alone are held.
+//! and count the pieces. A lost segment's columns are encoded one after the other: so where a column has fewer pieces than there
+//! are workers, the rounds before these alone are held.
 ghost use Rattle.std.specs.Prelude.{◌≤◌};
 
 use crate::answers::{Written, expect_written};
@@ -120,8 +120,8 @@ const OF_JOINED: [Trial; 2] = [
 const OF_THREE_ORDERS: [Trial; 5] = [
     (AS_IT_IS, 1, 4, 1, FIRST, 4 + 4 + 4 + 8, 6 + 4 + 6),
     (BY_ROWS, 1, 4, 1, FIRST, 4 + 8 + 4 + 8, 6 + 12 + 6),
-    (AS_IT_IS, 2, 2, 1, FIRST, 20, 16),
-    (BY_ROWS, 2, 2, 1, FIRST, 24, 24),
+    (AS_IT_IS, 2, 2, 1, ALL, 20, 16),
+    (BY_ROWS, 2, 2, 1, ALL, 24, 24),
     (AS_IT_IS, 2, 2, 2, FIRST, 14, 14),
 ];
 
