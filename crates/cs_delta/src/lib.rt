@@ -27,5 +27,5 @@ pub use item::{Item, ItemRow};
 pub use item_cell::ItemCell;
 pub use layer::Layer;
 pub use layer_cells::CellContent;
-pub use reading::read_delta;
+pub use reading::{read_delta, read_delta_text};
 pub use writing::write_empty_delta;

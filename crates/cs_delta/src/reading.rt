@@ -1,6 +1,7 @@
 //! Deltas read from their files.
 ghost use Rattle.std.specs.Prelude.{◌≡◌, ◌<◌, ◌↔◌, ◌==◌, ◌++◌, length, IfOk, IfSome, IfNone, OnOk, IsTrue};
 ghost use Rattle.std.specs.List.{IsDistinct, filter_map, flat_map};
+ghost use Rattle.cs_segment.specs.SegmentFile.{sealed};
 ghost use Rattle.cs_delta.specs.DeltaFile.{DeltaData, IsDeltaFile, inserted_key};
 ghost use Rattle.cs_delta.specs.Reading.{BeginsWithCounts, NoCounts, BeginsWithHead, NoHead};
 
@@ -114,23 +115,20 @@ fn read_head(bytes: &[u8], p: u16, s: u16) -> Option<(Head, &[u8])>
     Some((head, rest))
 }
 
-/// The delta that the bytes are the file of, in either version. `Damaged` where they are no delta's.
-pub fn read_delta(
+/// The delta that the text is the file of, in either version, with the digest that the text has. `Damaged` where it is no delta's.
+pub fn read_delta_text(
     alloc: Global,
     catalog: &Catalog,
     p: u16,
     s: u16,
-    bytes: &[u8],
+    text: &[u8],
 ) -> Result<Delta, FileFault>
     requires { p < length catalog.now.projections }
-    ensures found { IfOk result (IsDeltaFile catalog.now p s bytes.now) }
-    ensures refused { result ≡ Err FileFault.Damaged → (d : DeltaData) → IsDeltaFile catalog.now p s bytes.now d → ⊥ }
-    ensures only { IfOk result (λ delta. (d : DeltaData) → IsDeltaFile catalog.now p s bytes.now d → d ≡ delta) }
+    ensures found { IfOk result (IsDeltaFile catalog.now p s (sealed text.now)) }
+    ensures refused { result ≡ Err FileFault.Damaged → (d : DeltaData) → IsDeltaFile catalog.now p s (sealed text.now) d → ⊥ }
+    ensures only { IfOk result (λ delta. (d : DeltaData) → IsDeltaFile catalog.now p s (sealed text.now) d → d ≡ delta) }
 {
-    let Some(body) = unseal(bytes) else {
-        return Err(FileFault::Damaged);
-    };
-    let Some((head, parts)) = read_head(body, p, s) else {
+    let Some((head, parts)) = read_head(text, p, s) else {
         return Err(FileFault::Damaged);
     };
     let reader = DeltaReader {
@@ -153,4 +151,23 @@ pub fn read_delta(
         top: head.top,
         layers,
     })
+}
+
+/// The delta that the bytes are the file of, in either version. `Damaged` where they are no delta's.
+pub fn read_delta(
+    alloc: Global,
+    catalog: &Catalog,
+    p: u16,
+    s: u16,
+    bytes: &[u8],
+) -> Result<Delta, FileFault>
+    requires { p < length catalog.now.projections }
+    ensures found { IfOk result (IsDeltaFile catalog.now p s bytes.now) }
+    ensures refused { result ≡ Err FileFault.Damaged → (d : DeltaData) → IsDeltaFile catalog.now p s bytes.now d → ⊥ }
+    ensures only { IfOk result (λ delta. (d : DeltaData) → IsDeltaFile catalog.now p s bytes.now d → d ≡ delta) }
+{
+    let Some(text) = unseal(bytes) else {
+        return Err(FileFault::Damaged);
+    };
+    read_delta_text(alloc, catalog, p, s, text)
 }

@@ -1,1 +1,3 @@
 pub mod LaneLemmas
+pub mod BlockLemmas
+pub mod ChainLemmas

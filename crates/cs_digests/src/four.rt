@@ -1,45 +1,51 @@
-//! The digests of four messages: side by side as far as the shortest goes, and then one after the other.
-ghost use Rattle.std.specs.Prelude.{◌≡◌, ℕ, [], ◌*◌, ◌<◌, ◌≤◌, length, slice_index_or};
-ghost use Rattle.sha2.specs.Sha256.{hash_after, initial_hash_256, sha256};
+//! Blocks of four messages taken in side by side.
+ghost use Rattle.std.specs.Prelude.{◌≡◌, ℕ, ◌*◌, ◌+◌, ◌<◌, ◌≤◌, length, map};
+ghost use Rattle.sha2.specs.Sha256.{hash_after, initial_hash_256};
 ghost use Rattle.cs_digests.specs.Lanes.{lane, of_four};
 
-use crate::constants::INITIAL_HASH;
-use crate::finishing::{BLOCK, finish};
-use crate::lanes::{all_lanes, lane_of};
+use crate::chain::Chain;
+use crate::finishing::BLOCK;
+use crate::lanes::{beside, lane_of};
 use crate::rounds::compress;
 use std::simd::u32x4;
 
-/// The hash values of the messages after so many blocks of each.
-fn in_step(t0: &[u8], t1: &[u8], t2: &[u8], t3: &[u8], blocks: usize) -> [u32x4; 8]
-    requires { (blocks * 64 ≤ length t0.now) × (blocks * 64 ≤ length t1.now) × (blocks * 64 ≤ length t2.now) × (blocks * 64 ≤ length t3.now) }
-    ensures { (j : ℕ) → j < 4 → lane j result ≡ hash_after initial_hash_256 (of_four t0.now t1.now t2.now t3.now j) blocks }
+/// The hash values of four messages after so many blocks more of each.
+fn in_step(c0: Chain<'_>, c1: Chain<'_>, c2: Chain<'_>, c3: Chain<'_>, blocks: usize) -> [u32x4; 8]
+    requires { ((c0.done + blocks) * 64 ≤ length c0.text.now) × ((c1.done + blocks) * 64 ≤ length c1.text.now) × ((c2.done + blocks) * 64 ≤ length c2.text.now) × ((c3.done + blocks) * 64 ≤ length c3.text.now) }
+    ensures first { lane 0 result ≡ hash_after initial_hash_256 c0.entry.text.now (c0.entry.done + blocks) }
+    ensures second { lane 1 result ≡ hash_after initial_hash_256 c1.entry.text.now (c1.entry.done + blocks) }
+    ensures third { lane 2 result ≡ hash_after initial_hash_256 c2.entry.text.now (c2.entry.done + blocks) }
+    ensures fourth { lane 3 result ≡ hash_after initial_hash_256 c3.entry.text.now (c3.entry.done + blocks) }
 {
-    let mut state = all_lanes(INITIAL_HASH);
+    let mut state = beside(c0.hash, c1.hash, c2.hash, c3.hash);
     for i in 0..blocks {
-        let at = BLOCK * i;
-        let end = at + BLOCK;
+        let (a0, a1) = (BLOCK * (c0.done + i), BLOCK * (c1.done + i));
+        let (a2, a3) = (BLOCK * (c2.done + i), BLOCK * (c3.done + i));
         compress(
             &mut state,
-            &t0[at..end],
-            &t1[at..end],
-            &t2[at..end],
-            &t3[at..end],
+            &c0.text[a0..a0 + BLOCK],
+            &c1.text[a1..a1 + BLOCK],
+            &c2.text[a2..a2 + BLOCK],
+            &c3.text[a3..a3 + BLOCK],
         );
     }
     state
 }
 
-/// The digests of four messages, in their order, which take the least time where they are about as long as one another.
-pub fn digests_of_four(t0: &[u8], t1: &[u8], t2: &[u8], t3: &[u8]) -> [[u8; 32]; 4]
-    ensures { (j : ℕ) → j < 4 → slice_index_or result j [] ≡ sha256 (of_four t0.now t1.now t2.now t3.now j) }
+/// The places of four messages.
+pub type Four = (usize, usize, usize, usize);
+
+/// Takes in as many blocks of each of four messages as the shortest of them has left.
+pub fn advance(chains: &mut [Chain<'_>], four: Four)
+    requires { (four.0 < length chains.now) × (four.1 < length chains.now) × (four.2 < length chains.now) × (four.3 < length chains.now) }
+    ensures { map (λ c. c.text.now) chains.new ≡ map (λ c. c.text.now) chains.old }
 {
-    let least = t0.len().min(t1.len()).min(t2.len()).min(t3.len());
-    let blocks = least / BLOCK;
-    let state = in_step(t0, t1, t2, t3, blocks);
-    [
-        finish(lane_of(&state, 0), t0, blocks),
-        finish(lane_of(&state, 1), t1, blocks),
-        finish(lane_of(&state, 2), t2, blocks),
-        finish(lane_of(&state, 3), t3, blocks),
-    ]
+    let (p0, p1, p2, p3) = four;
+    let (c0, c1, c2, c3) = (chains[p0], chains[p1], chains[p2], chains[p3]);
+    let blocks = c0.left().min(c1.left()).min(c2.left()).min(c3.left());
+    let state = in_step(c0, c1, c2, c3, blocks);
+    chains[p0] = c0.after(blocks, lane_of(&state, 0));
+    chains[p1] = c1.after(blocks, lane_of(&state, 1));
+    chains[p2] = c2.after(blocks, lane_of(&state, 2));
+    chains[p3] = c3.after(blocks, lane_of(&state, 3));
 }

@@ -1,10 +1,12 @@
-//! The SHA-256 digests of four messages at once (FIPS 180-4).
+//! The SHA-256 digests of several messages, four at a time (FIPS 180-4).
 //!
 //! A digest is a chain: each step needs the one before it. Four chains go through the same steps, so a step of all four is one
 //! operation on vectors of four words, one lane for each message.
 #![tactic(auto)]
 
+mod chain;
 mod constants;
+mod digests;
 mod finishing;
 mod four;
 mod lanes;
@@ -13,4 +15,4 @@ mod rounds;
 mod tests;
 mod words;
 
-pub use four::digests_of_four;
+pub use digests::digests_of;

@@ -1,6 +1,6 @@
 //! Digests of known messages: those of the standard's examples, and others made by another implementation.
 
-use crate::digests_of_four;
+use crate::digests_of;
 use std::alloc::Global;
 use std::process::Abort;
 
@@ -52,6 +52,12 @@ const LONG: [[u8; 32]; 4] = [
     ],
 ];
 
+/// Of 10,000 times "e".
+const APART: [u8; 32] = [
+    0xb9, 0x63, 0x0c, 0x1e, 0xb8, 0xce, 0x08, 0xb5, 0x08, 0xcf, 0x9e, 0x69, 0x6a, 0xfe, 0x2d, 0xb2,
+    0xdb, 0x55, 0xd8, 0x93, 0xb3, 0x36, 0xa8, 0xdf, 0xad, 0xe7, 0xd4, 0xb0, 0x5c, 0xce, 0xa0, 0x2a,
+];
+
 /// A byte so many times.
 fn repeated(rt: &impl Abort, alloc: Global, byte: u8, count: usize) -> Vec<u8> {
     let mut text = Vec::new(alloc);
@@ -59,11 +65,22 @@ fn repeated(rt: &impl Abort, alloc: Global, byte: u8, count: usize) -> Vec<u8> {
     text
 }
 
+/// The digests of messages are these.
+fn have(rt: &impl Abort, alloc: Global, texts: &[&[u8]], digests: &[[u8; 32]]) {
+    let made = digests_of(alloc, texts).expect(rt, "digests");
+    assert_eq!(rt; made.as_slice(), digests);
+}
+
+#[test]
+fn no_message(rt: HostRuntime) {
+    have(&rt, rt.alloc(), &[], &[]);
+}
+
 #[test]
 fn short_messages(rt: HostRuntime) {
     let a = repeated(&rt, rt.alloc(), b'a', 119);
     let two_blocks = b"abcdbcdecdefdefgefghfghighijhijkijkljklmklmnlmnomnopnopq";
-    assert_eq!(rt; digests_of_four(b"", b"abc", two_blocks, &a), SHORT);
+    have(&rt, rt.alloc(), &[b"", b"abc", two_blocks, &a], &SHORT);
 }
 
 #[test]
@@ -72,5 +89,33 @@ fn messages_side_by_side(rt: HostRuntime) {
     let b = repeated(&rt, rt.alloc(), b'b', 1000);
     let c = repeated(&rt, rt.alloc(), b'c', 1000);
     let d = repeated(&rt, rt.alloc(), b'd', 1063);
-    assert_eq!(rt; digests_of_four(&a, &b, &c, &d), LONG);
+    have(&rt, rt.alloc(), &[&a, &b, &c, &d], &LONG);
+}
+
+#[test]
+fn seven_messages_and_one_apart(rt: HostRuntime) {
+    let e = repeated(&rt, rt.alloc(), b'e', 10_000);
+    let a = repeated(&rt, rt.alloc(), b'a', 1000);
+    let b = repeated(&rt, rt.alloc(), b'b', 1000);
+    let c = repeated(&rt, rt.alloc(), b'c', 1000);
+    let d = repeated(&rt, rt.alloc(), b'd', 1063);
+    let short = repeated(&rt, rt.alloc(), b'a', 119);
+    let texts: [&[u8]; 8] = [&e, &d, &a, &b, &c, &short, b"abc", b""];
+    let digests = [
+        APART, LONG[3], LONG[0], LONG[1], LONG[2], SHORT[3], SHORT[1], SHORT[0],
+    ];
+    have(&rt, rt.alloc(), &texts, &digests);
+}
+
+#[test]
+fn two_messages_beside_themselves(rt: HostRuntime) {
+    let a = repeated(&rt, rt.alloc(), b'a', 1000);
+    let b = repeated(&rt, rt.alloc(), b'b', 1000);
+    let short = repeated(&rt, rt.alloc(), b'a', 119);
+    have(
+        &rt,
+        rt.alloc(),
+        &[&a, &b, &short],
+        &[LONG[0], LONG[1], SHORT[3]],
+    );
 }

@@ -6,5 +6,5 @@ pub mod reading;
 pub mod writing;
 
 pub use index::JoinIndex;
-pub use reading::read_jix;
+pub use reading::{read_jix, read_jix_text};
 pub use writing::write_jix;

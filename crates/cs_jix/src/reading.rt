@@ -2,6 +2,7 @@
 ghost use Rattle.std.specs.Prelude.{◌≡◌, ◌≤◌, ◌<◌, ◌*◌, ◌+◌, ◌++◌, ℕ, List, length, IfOk, IfSome, IfNone, Err, ◌^◌, IsTrue};
 ghost use Rattle.std.specs.List.{zip, list_all};
 ghost use Rattle.cs_schema.specs.Lists.{IsIn};
+ghost use Rattle.cs_segment.specs.SegmentFile.{sealed};
 ghost use Rattle.cs_jix.specs.JoinIndex.{Place, IsJoinIndexFile};
 ghost use Rattle.cs_jix.specs.Entries.{join_head, entry_text, entries_text, is_allowed, FitEntry};
 
@@ -70,15 +71,18 @@ fn read_entries(
     Ok((segments, keys))
 }
 
-/// The join index whose file the bytes are.
-pub fn read_jix(alloc: Global, p: u16, s: u16, q: u16, bytes: &[u8]) -> Result<JoinIndex, FileFault>
-    ensures found { IfOk result (IsJoinIndexFile p s q bytes.now) }
-    ensures refused { result ≡ Err FileFault.Damaged → (entries : List Place) → IsJoinIndexFile p s q bytes.now entries → ⊥ }
-    ensures only { IfOk result (λ join. (entries : List Place) → IsJoinIndexFile p s q bytes.now entries → entries ≡ join) }
+/// The join index whose file the text is with the digest that it has.
+pub fn read_jix_text(
+    alloc: Global,
+    p: u16,
+    s: u16,
+    q: u16,
+    text: &[u8],
+) -> Result<JoinIndex, FileFault>
+    ensures found { IfOk result (IsJoinIndexFile p s q (sealed text.now)) }
+    ensures refused { result ≡ Err FileFault.Damaged → (entries : List Place) → IsJoinIndexFile p s q (sealed text.now) entries → ⊥ }
+    ensures only { IfOk result (λ join. (entries : List Place) → IsJoinIndexFile p s q (sealed text.now) entries → entries ≡ join) }
 {
-    let Some(text) = unseal(bytes) else {
-        return Err(FileFault::Damaged);
-    };
     let front = head(p, s, q);
     let Some(rest) = after(text, front.as_slice()) else {
         return Err(FileFault::Damaged);
@@ -94,4 +98,16 @@ pub fn read_jix(alloc: Global, p: u16, s: u16, q: u16, bytes: &[u8]) -> Result<J
         return Err(FileFault::Damaged);
     }
     Ok(JoinIndex::from_parts(segments, keys))
+}
+
+/// The join index whose file the bytes are.
+pub fn read_jix(alloc: Global, p: u16, s: u16, q: u16, bytes: &[u8]) -> Result<JoinIndex, FileFault>
+    ensures found { IfOk result (IsJoinIndexFile p s q bytes.now) }
+    ensures refused { result ≡ Err FileFault.Damaged → (entries : List Place) → IsJoinIndexFile p s q bytes.now entries → ⊥ }
+    ensures only { IfOk result (λ join. (entries : List Place) → IsJoinIndexFile p s q bytes.now entries → entries ≡ join) }
+{
+    let Some(text) = unseal(bytes) else {
+        return Err(FileFault::Damaged);
+    };
+    read_jix_text(alloc, p, s, q, text)
 }

@@ -1,5 +1,6 @@
 -- What the reading of one segment's files finds.
-use Rattle.std.specs.Prelude.{◌≡◌, ℕ, ◌-◌, ◌<◌, ◌≤◌, Bool, true, List, map, Option, Some, None, Vec, Result, IfOk, IfErr, length, slice_get, slice_index_or, take, if◌then◌else◌}
+use Rattle.std.specs.Prelude.{◌≡◌, ℕ, ◌-◌, ◌<◌, ◌≤◌, Bool, true, List, map, Option, Some, None, Vec, Result, IfOk, IfErr, length, slice_get, take, if◌then◌else◌}
+use Rattle.std.specs.Borrow.{Bor}
 use Rattle.std.specs.Option.{option_map}
 use Rattle.std.specs.Global.{Global}
 use Rattle.std.specs.List.{filter}
@@ -8,7 +9,8 @@ use Rattle.cs_schema.specs.declared.file_name.FileName.{FileName}
 use Rattle.cs_store.specs.declared.fault.Fault.{Fault}
 use Rattle.cs_store.specs.Fault.{MemoryOr}
 use Rattle.cs_schema.specs.CatalogData.{CatalogData, has_join}
-use Rattle.cs_schema.specs.FileNames.{FileContents, HasName, name_cmp, projection_of, segment_of}
+use Rattle.cs_schema.specs.FileNames.{FileContents, HasName, Survives, name_cmp, projection_of, segment_of}
+use Rattle.cs_schema.specs.Losses.{Sites}
 use Rattle.cs_schema.specs.Lists.{IsIn, numbers_below}
 use Rattle.cs_segment.specs.declared.fault.FileFault.{FileFault as ReadFault}
 use Rattle.cs_segment.specs.SegmentFile.{IsSegmentFile, Base, sealed}
@@ -27,27 +29,21 @@ use Rattle.cs_rebuild.specs.declared.reading.SegmentFiles.{SegmentFiles}
 abbrev pub sealed_anew : List ℕ → List ℕ
 sealed_anew bytes = sealed (take (length bytes - 32) bytes)
 
--- a segment's file as it is read: where its digest isn't compared, its text with the digest that it has
+-- a file as it is read: where its digest isn't compared, its text with the digest that it has
 abbrev pub read_bytes : Bool → List ℕ → List ℕ
 read_bytes compared bytes = if compared then bytes else sealed_anew bytes
 
--- the files as they are read, where the digests of segments are compared or not
+-- the files as they are read, where digests are compared or not
 abbrev pub as_read : Bool → FileContents → FileContents
-as_read compared F (FileName.Seg p s) = option_map (read_bytes compared) (F (FileName.Seg p s))
-as_read compared F (FileName.Del p s) = F (FileName.Del p s)
-as_read compared F (FileName.Jix p s q) = F (FileName.Jix p s q)
+as_read compared F n = option_map (read_bytes compared) (F n)
 
--- the file of the segment at this place, where it is there, has the digest of its text
-abbrev pub IsSealedAt : FileContents → List (ℕ × ℕ) → ℕ → Type 0
-IsSealedAt F segments at = (a : ℕ × ℕ) (bytes : List ℕ) → slice_get segments at ≡ Some a → F (FileName.Seg a.0 a.1) ≡ Some bytes → bytes ≡ sealed_anew bytes
+-- each surviving file that is there has the digest of its text
+abbrev pub AreSealed : CatalogData → Sites → FileContents → Type 0
+AreSealed C L F = (n : FileName) (bytes : List ℕ) → Survives C L n → F n ≡ Some bytes → bytes ≡ sealed_anew bytes
 
-abbrev pub AreSealed : FileContents → List (ℕ × ℕ) → Type 0
-AreSealed F segments = (at : ℕ) → at < length segments → IsSealedAt F segments at
-
--- groups of the numbers below a count, each from one number up to another, with each number below an end in one of them
-pub record AreGroups (count end : ℕ) (groups : List (ℕ × ℕ)) : Type 0 where
-  pub within : (i : ℕ) → i < length groups → ((slice_index_or groups i (0, 0)).0 ≤ (slice_index_or groups i (0, 0)).1) × ((slice_index_or groups i (0, 0)).1 ≤ count)
-  pub covered : (k : ℕ) → k < end → (i : ℕ) × (i < length groups) × ((slice_index_or groups i (0, 0)).0 ≤ k) × (k < (slice_index_or groups i (0, 0)).1)
+-- among these are the files under some names, those that are there
+abbrev pub AreThere : FileContents → List FileName → List (Bor (List ℕ)) → Type 0
+AreThere F names there = (n : FileName) (bytes : List ℕ) → IsIn n names → F n ≡ Some bytes → (f : Bor (List ℕ)) × IsIn f there × (f.now ≡ bytes)
 
 -- ---- one segment
 

@@ -20,7 +20,7 @@ use std::marker::Sync;
 use std::thread::Threads;
 
 /// Whether the loss affects a join index: its segment is lost, or a segment of its target.
-fn is_affected(store: &OrderedStore<'_>, p: u16, s: u16, q: u16) -> bool
+pub fn is_affected(store: &OrderedStore<'_>, p: u16, s: u16, q: u16) -> bool
     requires segment { HasSegment store.now.catalog.now p s }
     requires target { q < length store.now.catalog.now.projections }
     ensures { result ≡ is_affected store.now.catalog.now store.now.loss p s q }

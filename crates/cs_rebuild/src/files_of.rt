@@ -7,19 +7,20 @@ ghost use Rattle.cs_schema.specs.declared.file_name.FileName.{FileName as NameDa
 ghost use Rattle.cs_store.specs.declared.fault.Fault.{Fault as FaultData};
 ghost use Rattle.cs_store.specs.FileSet.{contents_of};
 ghost use Rattle.cs_store.specs.Fault.{MemoryOr};
-ghost use Rattle.cs_jix.specs.JoinIndex.{Place};
+ghost use Rattle.cs_delta.specs.DeltaFile.{DeltaData, IsDeltaFile};
+ghost use Rattle.cs_jix.specs.JoinIndex.{Place, IsJoinIndexFile};
 ghost use Rattle.cs_recovery.specs.Contents.{IsJoinOf};
 ghost use Rattle.cs_segment.specs.SegmentData.{IsSegmentOf};
-ghost use Rattle.cs_segment.specs.SegmentFile.{Base, IsSegmentFile};
+ghost use Rattle.cs_segment.specs.SegmentFile.{Base, IsSegmentFile, sealed};
 ghost use Rattle.cs_rebuild.specs.Reading.{file_refusal, IsRefused, HoldsBase, HoldsChanges, IsKindedImageOf, IsFirstBadOf, IsFirstBadJoin, IsBaseRead, AreOthersRead, AreSoundFiles, AreFilesOf, as_read, joins_of, read_bytes};
 
 use crate::reading::SegmentFiles;
-use cs_delta::{Delta, Image, merge_owned, read_delta};
-use cs_jix::{JoinIndex, read_jix};
+use cs_delta::{Delta, Image, merge_owned, read_delta, read_delta_text};
+use cs_jix::{JoinIndex, read_jix, read_jix_text};
 use cs_schema::{Catalog, FileName};
 use cs_segment::fault::FileFault;
 use cs_segment::seal::DIGEST;
-use cs_segment::{Segment, par_read_segment, par_read_text};
+use cs_segment::{Segment, par_read_segment, par_read_text, read_text};
 use cs_store::{Fault, FileSet};
 use std::alloc::Global;
 use std::thread::{Threads, join_mut};
@@ -54,8 +55,10 @@ pub(crate) struct SegmentSource<'a> {
     pub(crate) alloc: Global,
     pub(crate) catalog: &'a Catalog,
     pub(crate) files: &'a FileSet,
-    /// Whether the digest of the segment file is compared: else its text is read whatever the digest is.
+    /// Whether digests are compared: else texts are read whatever their digests are.
     pub(crate) compared: bool,
+    /// Whether a large file is read by threads of its own.
+    pub(crate) in_threads: bool,
     pub(crate) p: u16,
     pub(crate) s: u16,
     ghost exists: { HasSegment catalog.now p s },
@@ -92,7 +95,45 @@ impl SegmentSource<'_> {
             return par_read_segment(rt, self.alloc, self.catalog, self.p, self.s, bytes);
         }
         let text = &bytes[..bytes.len().saturating_sub(DIGEST)];
-        par_read_text(rt, self.alloc, self.catalog, self.p, self.s, text)
+        self.segment_of(rt, text)
+    }
+
+    /// The segment whose file is this text and its digest.
+    fn segment_of<R: Threads>(&self, rt: &R, text: &[u8]) -> Result<Segment, FileFault>
+        ensures found { IfOk result (IsSegmentOf self.now.catalog.now self.now.p self.now.s (sealed text.now)) }
+        ensures refused { result ≡ Err FileFault.Damaged → (b : Base) → IsSegmentFile self.now.catalog.now self.now.p self.now.s (sealed text.now) b → ⊥ }
+        ensures only { IfOk result (λ segment. (b : Base) → IsSegmentFile self.now.catalog.now self.now.p self.now.s (sealed text.now) b → b ≡ segment.base) }
+    {
+        if self.in_threads {
+            return par_read_text(rt, self.alloc, self.catalog, self.p, self.s, text);
+        }
+        read_text(self.alloc, self.catalog, self.p, self.s, text)
+    }
+
+    /// The delta of which the bytes are the file.
+    fn delta_in(&self, bytes: &[u8]) -> Result<Delta, FileFault>
+        ensures found { IfOk result (IsDeltaFile self.now.catalog.now self.now.p self.now.s (read_bytes self.now.compared bytes.now)) }
+        ensures refused { result ≡ Err FileFault.Damaged → (d : DeltaData) → IsDeltaFile self.now.catalog.now self.now.p self.now.s (read_bytes self.now.compared bytes.now) d → ⊥ }
+        ensures only { IfOk result (λ delta. (d : DeltaData) → IsDeltaFile self.now.catalog.now self.now.p self.now.s (read_bytes self.now.compared bytes.now) d → d ≡ delta) }
+    {
+        if self.compared {
+            return read_delta(self.alloc, self.catalog, self.p, self.s, bytes);
+        }
+        let text = &bytes[..bytes.len().saturating_sub(DIGEST)];
+        read_delta_text(self.alloc, self.catalog, self.p, self.s, text)
+    }
+
+    /// The join index to a projection of which the bytes are the file.
+    fn join_in(&self, q: u16, bytes: &[u8]) -> Result<JoinIndex, FileFault>
+        ensures found { IfOk result (IsJoinIndexFile self.now.p self.now.s q (read_bytes self.now.compared bytes.now)) }
+        ensures refused { result ≡ Err FileFault.Damaged → (entries : List Place) → IsJoinIndexFile self.now.p self.now.s q (read_bytes self.now.compared bytes.now) entries → ⊥ }
+        ensures only { IfOk result (λ join. (entries : List Place) → IsJoinIndexFile self.now.p self.now.s q (read_bytes self.now.compared bytes.now) entries → entries ≡ join) }
+    {
+        if self.compared {
+            return read_jix(self.alloc, self.p, self.s, q, bytes);
+        }
+        let text = &bytes[..bytes.len().saturating_sub(DIGEST)];
+        read_jix_text(self.alloc, self.p, self.s, q, text)
     }
 
     /// Reads the segment file.
@@ -121,7 +162,7 @@ impl SegmentSource<'_> {
             Ok(bytes) => bytes,
             Err(fault) => return Err(fault),
         };
-        match read_delta(self.alloc, self.catalog, self.p, self.s, bytes) {
+        match self.delta_in(bytes) {
             Ok(delta) => Ok(delta),
             Err(fault) => Err(refusal(name, fault)),
         }
@@ -141,7 +182,7 @@ impl SegmentSource<'_> {
             Ok(bytes) => bytes,
             Err(fault) => return Err(fault),
         };
-        match read_jix(self.alloc, self.p, self.s, q, bytes) {
+        match self.join_in(q, bytes) {
             Ok(join) => Ok(join),
             Err(fault) => Err(refusal(name, fault)),
         }
@@ -201,7 +242,7 @@ impl SegmentSource<'_> {
         }
     }
 
-    /// What the files hold, each whether or not another can be read. Those beside a large segment file are read by a thread
+    /// What the files hold, each whether or not another can be read. Those beside a large segment file may be read by a thread
     /// of their own.
     fn read_each<R: Threads>(
         &self,
@@ -214,7 +255,7 @@ impl SegmentSource<'_> {
         ensures base { IsBaseRead self.now.catalog.now (as_read self.now.compared (contents_of self.now.files.now)) self.now.p self.now.s result.1 }
         ensures rules { IsCatalog self.now.catalog.now }
     {
-        if !self.is_large() {
+        if !self.in_threads || !self.is_large() {
             let base = self.read_base(rt);
             return (self.read_others(), base);
         }

@@ -1,63 +1,102 @@
-//! Groups of segments whose files are about as long as one another: the digests of four are made at once.
-ghost use Rattle.std.specs.Prelude.{◌<◌, ◌≤◌, ◌+◌, IfOk, length};
-ghost use Rattle.cs_rebuild.specs.Reading.{AreGroups};
+//! Files dealt into groups that are about as long as one another, each for a thread that tells of its files' digests.
+ghost use Rattle.std.specs.Prelude.{◌≡◌, ◌<◌, ◌≤◌, ℕ, List, Some, true, IsTrue, IfOk, length, slice_index_or};
+ghost use Rattle.std.specs.Borrow.{Bor};
+ghost use Rattle.std.specs.List.{slice_get};
+ghost use Rattle.cs_schema.specs.Lists.{IsIn};
+ghost use Rattle.cs_segment.specs.Bodies.{IsSealed};
 
-use cs_schema::FileName;
-use cs_store::FileSet;
+use cs_segment::seal::are_sealed;
+use rayon::prelude::*;
 use std::alloc::{AllocError, Global};
+use std::marker::Sync;
+use std::thread::Threads;
 
-/// How many digests are made at once.
-pub const FOUR: usize = 4;
-
-/// The length of a segment's file, 0 where it is not there.
-fn length_of(files: &FileSet, segment: (u16, u16)) -> usize {
-    let (p, s) = segment;
-    match files.get(FileName::Seg { p, s }) {
-        Some(bytes) => bytes.len(),
-        None => 0,
+/// The place of the least of some numbers.
+fn least(numbers: &[usize]) -> usize
+    requires { 0 < length numbers.now }
+    ensures { result < length numbers.now }
+{
+    let mut found = 0;
+    for i in 1..numbers.len() {
+        if numbers[i] < numbers[found] {
+            found = i;
+        }
     }
+    found
 }
 
-/// Whether the files of four segments, from one on, are alike in length: the digests of all four take as long as the longest.
-fn are_alike(files: &FileSet, segments: &[(u16, u16)], at: usize) -> bool
-    requires { at + 4 ≤ length segments.now }
+/// The group of each file, of so many: the one that is the shortest so far.
+fn groups_of(alloc: Global, files: &[&[u8]], count: usize) -> Result<Vec<usize>, AllocError>
+    requires { 0 < count }
+    ensures each { IfOk result (λ groups. length groups.items ≡ length files.now) }
+    ensures below { IfOk result (λ groups. (k : ℕ) → k < length files.now → slice_index_or groups.items k 0 < count) }
 {
-    let mut least = usize::MAX;
-    let mut most = 0;
-    for k in at..at + FOUR {
-        let length = length_of(files, segments[k]);
-        least = least.min(length);
-        most = most.max(length);
-    }
-    least >= most - most / 16
-}
-
-/// Where the group that begins at a segment ends.
-fn end_of_group(files: &FileSet, segments: &[(u16, u16)], at: usize) -> usize
-    requires { at < length segments.now }
-    ensures { (at < result) × (result ≤ length segments.now) }
-{
-    if segments.len() - at >= FOUR && are_alike(files, segments, at) {
-        at + FOUR
-    } else {
-        at + 1
-    }
-}
-
-/// The groups of segments one after the other, each from one segment up to another: four alike, or one alone.
-pub fn groups_of(
-    alloc: Global,
-    files: &FileSet,
-    segments: &[(u16, u16)],
-) -> Result<Vec<(usize, usize)>, AllocError>
-    ensures { IfOk result (λ groups. AreGroups (length segments.now) (length segments.now) groups.items) }
-{
-    let mut groups = Vec::new(alloc);
-    let mut at = 0;
-    while at < segments.len() {
-        let end = end_of_group(files, segments, at);
-        groups.push((at, end))?;
-        at = end;
+    let mut lengths: Vec<usize> = Vec::new(alloc);
+    lengths.resize(count, 0)?;
+    let mut groups = Vec::with_capacity(alloc, files.len())?;
+    for file in files {
+        let group = least(&lengths);
+        lengths[group] = lengths[group].wrapping_add(file.len());
+        groups.push(group)?;
     }
     Ok(groups)
+}
+
+/// The files of one group, in their order.
+fn files_in<'a>(
+    alloc: Global,
+    files: &[&'a [u8]],
+    groups: &[usize],
+    group: usize,
+) -> Result<Vec<&'a [u8]>, AllocError>
+    requires { length groups.now ≡ length files.now }
+    ensures { IfOk result (λ own. (k : ℕ) (f : Bor (List ℕ)) → slice_get files.now k ≡ Some f → slice_index_or groups.now k 0 ≡ group → IsIn f own.items) }
+{
+    let mut own = Vec::new(alloc);
+    for i in 0..files.len() {
+        if groups[i] != group {
+            continue;
+        }
+        own.push(files[i])?;
+    }
+    Ok(own)
+}
+
+/// Whether each file of one group is a sealed text. For want of memory it isn't told.
+fn has_sealed(alloc: Global, files: &[&[u8]], groups: &[usize], group: usize) -> bool
+    requires { length groups.now ≡ length files.now }
+    ensures { IsTrue result → (k : ℕ) (f : Bor (List ℕ)) → slice_get files.now k ≡ Some f → slice_index_or groups.now k 0 ≡ group → IsSealed f.now true }
+{
+    match files_in(alloc, files, groups, group) {
+        Ok(own) => are_sealed(alloc, own.as_slice()),
+        Err(_) => false,
+    }
+}
+
+/// Whether each of some files is a sealed text, told by so many threads: in the least time where the longest files stand first.
+/// For want of memory it isn't told.
+pub fn are_sealed_at_once<R: Threads + Sync>(
+    rt: &R,
+    alloc: Global,
+    files: &[&[u8]],
+    at_once: usize,
+) -> bool
+    requires { 0 < at_once }
+    ensures { IsTrue result → (f : Bor (List ℕ)) → IsIn f files.now → IsSealed f.now true }
+{
+    let Ok(list) = groups_of(alloc, files, at_once) else {
+        return false;
+    };
+    let groups = list.as_slice();
+    (0..at_once)
+        .into_par_iter()
+        // a group is worth a thread
+        .with_min_len(1)
+        .all(
+            rt,
+            |group: usize| -> bool
+                requires { length groups.now ≡ length files.now }
+                ensures { IsTrue result → (k : ℕ) (f : Bor (List ℕ)) → slice_get files.entry.now k ≡ Some f → slice_index_or groups.entry.now k 0 ≡ group → IsSealed f.now true }
+            { has_sealed(alloc, files, groups, group) },
+        )
 }

@@ -199,7 +199,7 @@ pub fn verify_joins<R: Threads + Sync, G: Gate + Sync>(
         store,
         joins,
     };
-    match run.round(Round::Joins, &work) {
+    match run.comparing(store).round(Round::Joins, &work) {
         Ok(_done) => Ok(()),
         Err(fault) => Err(fault),
     }

@@ -16,6 +16,7 @@ mod building;
 mod column_pieces;
 mod columns;
 mod columns_of_rows;
+mod comparers;
 mod comparing;
 mod counting;
 mod digests;

@@ -127,7 +127,7 @@ pub fn verify_images<R: Threads + Sync, G: Gate + Sync>(
         segments,
         in_turn: projection_in_turn(run.alloc, store),
     };
-    match run.round(Round::Images, &work) {
+    match run.comparing(store).round(Round::Images, &work) {
         Ok(_done) => Ok(()),
         Err(fault) => Err(fault),
     }

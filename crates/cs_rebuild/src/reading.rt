@@ -44,8 +44,9 @@ struct FilesWork<'w, 'a, R> {
     alloc: Global,
     catalog: &'a Catalog,
     files: &'w FileSet,
-    /// Whether the digests of segments are compared.
+    /// Whether digests are compared.
     compared: bool,
+    workers: u32,
     segments: &'w [(u16, u16)],
     ghost rules: { IsCatalog catalog.now } by { IsCatalog-prop catalog.now },
     ghost few: { length segments.now ≤ 128 },
@@ -67,11 +68,14 @@ impl<R: Threads> Tasks for FilesWork<'_, '_, R> {
 
     fn task(&self, i: u32) -> Result<SegmentFiles, Fault> {
         let (p, s) = self.segments[i as usize];
+        let left = self.segments.len() - i as usize;
         let source = SegmentSource {
             alloc: self.alloc,
             catalog: self.catalog,
             files: self.files,
             compared: self.compared,
+            // else the other workers have work of their own
+            in_threads: left <= self.workers as usize,
             p,
             s,
         };
@@ -106,7 +110,7 @@ impl<'a, R> FilesWork<'_, 'a, R> {
 }
 
 /// What the files of surviving segments hold, or the refusal of the least bad one; where digests aren't compared, as if each
-/// segment file had the digest of its text.
+/// file had the digest of its text.
 fn read_segments<'a, R: Threads + Sync, G: Gate + Sync>(
     run: &Run<'_, R, G>,
     catalog: &'a Catalog,
@@ -128,6 +132,7 @@ fn read_segments<'a, R: Threads + Sync, G: Gate + Sync>(
         catalog,
         files,
         compared,
+        workers: run.workers,
         segments: segments.as_slice(),
     };
     match run.round(Round::Files, &work) {
@@ -151,7 +156,7 @@ pub fn read_store<'a, R: Threads + Sync, G: Gate + Sync>(
     read_segments(run, catalog, loss, files, true)
 }
 
-/// The same, as if the digest of each segment file were that of its text: `are_sealed` tells whether they are, beside this.
+/// The same, as if the digest of each file were that of its text: `release_sealed` tells whether they are, beside this.
 pub fn read_texts<'a, R: Threads + Sync, G: Gate + Sync>(
     run: &Run<'_, R, G>,
     catalog: &'a Catalog,

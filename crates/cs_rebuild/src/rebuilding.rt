@@ -2,7 +2,6 @@
 ghost use Rattle.std.specs.Prelude.{◌≡◌, false, IsTrue, Some};
 ghost use Rattle.cs_schema.specs.FileNames.{FileContents};
 ghost use Rattle.cs_store.specs.FileSet.{Files, contents_of};
-ghost use Rattle.cs_recovery.specs.Verdicts.{surviving_segments};
 ghost use Rattle.cs_safety.specs.Safety.{IsSafe};
 ghost use Rattle.cs_rebuild.specs.Answers.{IsReadOf, IsRecovery};
 ghost use Rattle.cs_rebuild.specs.Held.{held_files};
@@ -42,7 +41,7 @@ fn rebuild_read<R: Threads + Sync, G: Gate + Sync>(
     }
 }
 
-/// The same, of files that are read without a look at the digests of segments, and then let go of.
+/// The same, of files that are read without a look at their digests, and then let go of.
 fn rebuild_texts<R: Threads + Sync, G: Gate + Sync>(
     run: &Run<'_, R, G>,
     catalog: &Catalog,
@@ -68,7 +67,7 @@ fn rebuild_beside<R: Threads + Sync, G: Gate + Sync>(
 ) -> (bool, Result<FileSet, Fault>)
     requires safe { IsSafe catalog.now loss }
     requires held { (F : Files) × (held_files files.old ≡ Some F) × (held_files shared.old ≡ Some F) }
-    ensures sealed { IsTrue result.0 → (F : Files) → held_files files.old ≡ Some F → AreSealed (contents_of F) (surviving_segments catalog.now loss) }
+    ensures sealed { IsTrue result.0 → (F : Files) → held_files files.old ≡ Some F → AreSealed catalog.now loss (contents_of F) }
     ensures kept { result.0 ≡ false → files.new ≡ files.old }
     ensures answer { (F : Files) → held_files shared.old ≡ Some F → IsRecovery catalog.now (as_read false (contents_of F)) loss result.1 }
 {
@@ -77,7 +76,7 @@ fn rebuild_beside<R: Threads + Sync, G: Gate + Sync>(
         run.rt,
         &mut || -> bool
             requires { (F : Files) × held_files files.now ≡ Some F }
-            ensures sealed { IsTrue result → (F : Files) → held_files files.entry.now ≡ Some F → AreSealed (contents_of F) (surviving_segments catalog.entry.now loss) }
+            ensures sealed { IsTrue result → (F : Files) → held_files files.entry.now ≡ Some F → AreSealed catalog.entry.now loss (contents_of F) }
             ensures kept { result ≡ false → files.exit.now ≡ files.entry.now }
         { release_sealed(run, catalog, loss, files) },
         &mut || -> Result<FileSet, Fault>

@@ -1,6 +1,7 @@
 -- Sealed texts.
-use Rattle.std.proofs.Common.{◌≡◌, ℕ, ◌+◌, ◌-◌, ◌++◌, true, List, length, take, drop, refl, sym, ap, ◌∙◌, arith, Option, Some, None, Bool, Bor}
-use Rattle.std.proofs.lemmas.List.{length-append, take_at, drop_at}
+use Rattle.std.proofs.Common.{◌≡◌, ℕ, ◌+◌, ◌-◌, ◌<◌, ◌++◌, true, List, length, map, get_or, take, drop, refl, sym, ap, ◌∙◌, arith, Option, Some, None, Bool, Bor}
+use Rattle.std.proofs.lemmas.List.{get_or-map, length-append, take_at, drop_at}
+use Rattle.std.proofs.lemmas.Simd.{map-map}
 use Rattle.sha2.specs.Sha256.{sha256}
 use Rattle.sha2.proofs.Facts256.{length-sha256}
 use Rattle.std.specs.Prelude.{IfSome, IfNone}
@@ -37,3 +38,12 @@ followed text end e =
       found = λ t. whole ∙ ap sealed (body_of_sealed (text ++ end) text whole);
       none = λ f. absurd (let x = f in cc);
     }
+
+-- the digests of files' texts, in the files' order
+pub digest_at : (files texts : List (Bor (List ℕ))) (digests : List (List ℕ)) (i : ℕ) (f : Bor (List ℕ)) (d : List ℕ) → map (λ t. t.now) texts ≡ map (λ f. take (length f.now - 32) f.now) files
+    → digests ≡ map (λ t. sha256 t.now) texts → i < length files → get_or digests i d ≡ sha256 (take (length (get_or files i f).now - 32) (get_or files i f).now)
+digest_at files texts digests i f d are made inside =
+    let text = λ (b : Bor (List ℕ)). b.now in
+    let body = λ (b : Bor (List ℕ)). take (length b.now - 32) b.now in
+    let all = made ∙ sym (map-map sha256 text texts) ∙ ap (map sha256) are ∙ map-map sha256 body files in
+    ap (λ l. get_or l i d) all ∙ get_or-map (λ (b : Bor (List ℕ)). sha256 (body b)) files i f d inside

@@ -18,5 +18,5 @@ pub mod writing;
 pub use fault::FileFault;
 pub use growing::GrowingFile;
 pub use parallel::{par_read_segment, par_read_text};
-pub use segment::{Segment, read_segment};
+pub use segment::{Segment, read_segment, read_text};
 pub use writing::write_segment;

@@ -26,10 +26,15 @@ fn read_first<R: Threads>(
     requires { count ≤ length reader.now.bodies.now }
     ensures { AreFirstRead reader.now.catalog.now reader.now.p reader.now.rows (map (λ body. body.now) reader.now.bodies.now) count result }
 {
+    let mut columns = Vec::new(reader.alloc);
     if count == 0 {
-        return Ok(Vec::new(reader.alloc));
+        return Ok(columns);
     }
     let last = count - 1;
+    if last == 0 {
+        columns.push(reader.column(last)?)?;
+        return Ok(columns);
+    }
     // of a closure over a struct of references `join` says nothing
     let (cells, before) = join_mut(
         rt,
@@ -42,7 +47,7 @@ fn read_first<R: Threads>(
             ensures { AreFirstRead reader.entry.now.catalog.now reader.entry.now.p reader.entry.now.rows (map (λ body. body.now) reader.entry.now.bodies.now) last result }
         { read_first(rt, reader, last) },
     );
-    let mut columns = before?;
+    columns = before?;
     columns.push(cells?)?;
     Ok(columns)
 }
@@ -134,7 +139,7 @@ fn read_front<R: Threads>(
     read_columns(rt, alloc, catalog, p, s, front)
 }
 
-/// The segment whose file is this text and its digest. A long text is read in several threads.
+/// The segment whose file is this text and its digest, as `read_text` gives it. A long text is read in several threads.
 pub fn par_read_text<R: Threads>(
     rt: &R,
     alloc: Global,

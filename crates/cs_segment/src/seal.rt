@@ -1,12 +1,14 @@
 //! The digest at the end of a file.
-ghost use Rattle.std.specs.Prelude.{◌≡◌, ◌++◌, ℕ, List, true, IsTrue, OnOk, OnErr, IfSome, IfNone};
+ghost use Rattle.std.specs.Prelude.{◌≡◌, ◌++◌, ◌-◌, ℕ, List, true, length, map, take, IsTrue, IfOk, OnOk, OnErr, IfSome, IfNone};
+ghost use Rattle.std.specs.Borrow.{Bor};
 ghost use Rattle.sha2.specs.Sha256.{sha256};
+ghost use Rattle.cs_schema.specs.Lists.{IsIn};
 ghost use Rattle.cs_segment.specs.SegmentFile.{sealed};
 ghost use Rattle.cs_segment.specs.Bodies.{IsSealed};
 
-use cs_digests::digests_of_four;
+use cs_digests::digests_of;
 use sha2::{Digest, Sha256};
-use std::alloc::AllocError;
+use std::alloc::{AllocError, Global};
 
 /// The length of a digest.
 pub const DIGEST: usize = 32;
@@ -44,45 +46,48 @@ pub fn is_sealed(bytes: &[u8]) -> bool
     unseal(bytes).is_some()
 }
 
-/// The text and the digest behind it, where the bytes are long enough.
-fn parts_of(bytes: &[u8]) -> Option<(&[u8], &[u8])>
-    ensures { IfSome result (λ parts. bytes.now ≡ parts.0.now ++ parts.1.now) }
+/// What stands before the last bytes of a file, which should be its digest.
+fn text_of(bytes: &[u8]) -> &[u8]
+    ensures { result.now ≡ take (length bytes.now - 32) bytes.now }
 {
-    if bytes.len() < DIGEST {
-        None
-    } else {
-        Some(bytes.split_at(bytes.len() - DIGEST))
-    }
+    &bytes[..bytes.len().saturating_sub(DIGEST)]
 }
 
-/// Whether a text is followed by its digest.
-fn is_followed(text: &[u8], end: &[u8], digest: &[u8; 32]) -> bool
-    requires { digest.now ≡ sha256 text.now }
-    ensures { IsTrue result → IsSealed (text.now ++ end.now) true }
+/// What stands before the last bytes of each file.
+fn texts_of<'a>(alloc: Global, files: &[&'a [u8]]) -> Result<Vec<&'a [u8]>, AllocError>
+    ensures { IfOk result (λ texts. map (λ t. t.now) texts.items ≡ map (λ f. take (length f.now - 32) f.now) files.now) }
 {
+    let mut texts = Vec::with_capacity(alloc, files.len())?;
+    for file in files {
+        texts.push(text_of(file))?;
+    }
+    Ok(texts)
+}
+
+/// Whether a file ends in the digest of the text before it.
+fn ends_in(bytes: &[u8], digest: &[u8; 32]) -> bool
+    requires { digest.now ≡ sha256 (take (length bytes.now - 32) bytes.now) }
+    ensures { IsTrue result → IsSealed bytes.now true }
+{
+    let (_, end) = bytes.split_at(bytes.len().saturating_sub(DIGEST));
     end == digest.as_slice()
 }
 
-/// Whether each of four bytes is a sealed text. In half the time that the digests of four take one after the other, where they
-/// are about as long as one another.
-pub fn are_four_sealed(b0: &[u8], b1: &[u8], b2: &[u8], b3: &[u8]) -> bool
-    ensures { IsTrue result → IsSealed b0.now true × IsSealed b1.now true × IsSealed b2.now true × IsSealed b3.now true }
+/// Whether each of the files is a sealed text, told of four at a time (`cs_digests`): in the least time where the longest stand
+/// first. For want of memory it isn't told.
+pub fn are_sealed(alloc: Global, files: &[&[u8]]) -> bool
+    ensures { IsTrue result → (f : Bor (List ℕ)) → IsIn f files.now → IsSealed f.now true }
 {
-    let Some((t0, e0)) = parts_of(b0) else {
+    let Ok(texts) = texts_of(alloc, files) else {
         return false;
     };
-    let Some((t1, e1)) = parts_of(b1) else {
+    let Ok(digests) = digests_of(alloc, &texts) else {
         return false;
     };
-    let Some((t2, e2)) = parts_of(b2) else {
-        return false;
-    };
-    let Some((t3, e3)) = parts_of(b3) else {
-        return false;
-    };
-    let [d0, d1, d2, d3] = digests_of_four(t0, t1, t2, t3);
-    is_followed(t0, e0, &d0)
-        && is_followed(t1, e1, &d1)
-        && is_followed(t2, e2, &d2)
-        && is_followed(t3, e3, &d3)
+    for i in 0..files.len() {
+        if !ends_in(files[i], &digests[i]) {
+            return false;
+        }
+    }
+    true
 }

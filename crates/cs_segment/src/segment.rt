@@ -2,7 +2,7 @@
 ghost use Rattle.std.specs.Prelude.{◌≡◌, ℕ, ◌<◌, ◌≤◌, List, map, length, IfOk, IfSome, IfNone};
 ghost use Rattle.cs_schema.specs.declared.cells.Value.{Value};
 ghost use Rattle.cs_schema.specs.Values.{values, kind_of};
-ghost use Rattle.cs_segment.specs.SegmentFile.{Base, IsSegmentFile, code_number, kind_number};
+ghost use Rattle.cs_segment.specs.SegmentFile.{Base, IsSegmentFile, code_number, kind_number, sealed};
 ghost use Rattle.cs_schema.specs.CatalogRules.{IsCatalog};
 ghost use Rattle.cs_segment.specs.Parts.{BeginsWithHead};
 ghost use Rattle.cs_segment.specs.Bodies.{HoldsBodies, HoldsColumns, HoldsNone};
@@ -121,6 +121,28 @@ pub(crate) fn read_columns(
     };
     let columns = reader.columns()?;
     Ok((rows, columns))
+}
+
+/// The segment whose file is this text and its digest.
+pub fn read_text(
+    alloc: Global,
+    catalog: &Catalog,
+    p: u16,
+    s: u16,
+    text: &[u8],
+) -> Result<Segment, FileFault>
+    requires { p < length catalog.now.projections }
+    ensures found { IfOk result (IsSegmentOf catalog.now p s (sealed text.now)) }
+    ensures refused { result ≡ Err FileFault.Damaged → (b : Base) → IsSegmentFile catalog.now p s (sealed text.now) b → ⊥ }
+    ensures only { IfOk result (λ segment. (b : Base) → IsSegmentFile catalog.now p s (sealed text.now) b → b ≡ segment.base) }
+{
+    let (rows, columns) = read_columns(alloc, catalog, p, s, text)?;
+    Ok(Segment {
+        p,
+        s,
+        rows,
+        columns,
+    })
 }
 
 /// The segment that the bytes are the file of.

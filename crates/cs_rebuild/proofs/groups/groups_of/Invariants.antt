@@ -1,9 +1,11 @@
-use Rattle.std.proofs.Common.{◌≤◌, ◌-◌, length}
-use Rattle.cs_rebuild.specs.Reading.{AreGroups}
+use Rattle.std.proofs.Common.{◌≡◌, ℕ, ◌<◌, length}
+use Rattle.std.specs.Prelude.{slice_index_or}
 use Rattle.cs_rebuild.proofs.groups.groups_of.Given as goal
 
-abbrev pub invariant-loop-at : goal.invariant-loop-at
-invariant-loop-at l = AreGroups (length l.segments) l.at l.groups.items × (l.at ≤ length l.segments)
-
-abbrev pub decreases-loop-at : goal.decreases-loop-at
-decreases-loop-at l = length l.segments - l.at
+-- the groups so far
+abbrev pub invariant-loop-file : goal.invariant-loop-file
+invariant-loop-file l = record {
+  count : length l.lengths.items ≡ l.fn.count;
+  each : length l.groups.items ≡ l.file-index;
+  below : (k : ℕ) → k < length l.groups.items → slice_index_or l.groups.items k 0 < l.fn.count;
+}

@@ -11,6 +11,6 @@ returns g t c =
     let before = rw c.in_ok-columns.was at c.join_mut-cells.ensures.1.met.1.found in
     let whole : last + 1 ≡ c.args.count = omega (arith, c.if-count-eq0.false) in
     record {
-      found = one_more_read r.catalog.now r.p r.rows bodies c.in_ok-columns.columns.items _ c.in_ok-cells.field-0 last c.args.count before cells whole c.in_ok-push.ensures.items;
+      found = one_more_read r.catalog.now r.p r.rows bodies c.in_ok-columns.columns.items _ c.in_ok-cells.field-0 last c.args.count before cells whole c.in_ok-push-2.ensures.items;
       refused = λ e. absurd cc;
     }

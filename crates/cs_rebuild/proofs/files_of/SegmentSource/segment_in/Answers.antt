@@ -24,17 +24,17 @@ returns-then-self-clause-only g c =
 pub returns-clause-found : goal.returns-clause-found
 returns-clause-found g c =
     let x = c.args.self.now in
-    subst (λ t. IfOk c.par_read_text.result (IsSegmentOf x.catalog.now x.p x.s (read_bytes t c.args.bytes.now))) (sym c.if-self.false)
-    (subst (λ n. IfOk c.par_read_text.result (IsSegmentOf x.catalog.now x.p x.s (sealed (take n c.args.bytes.now)))) c.saturating_sub.ensures c.par_read_text.ensures.found)
+    subst (λ t. IfOk c.segment_of.result (IsSegmentOf x.catalog.now x.p x.s (read_bytes t c.args.bytes.now))) (sym c.if-self.false)
+    (subst (λ n. IfOk c.segment_of.result (IsSegmentOf x.catalog.now x.p x.s (sealed (take n c.args.bytes.now)))) c.saturating_sub.ensures c.segment_of.ensures.found)
 
 pub returns-clause-refused : goal.returns-clause-refused
 returns-clause-refused g c =
     let x = c.args.self.now in
-    subst (λ t. c.par_read_text.result ≡ Err FileFault.Damaged → (b : Base) → IsSegmentFile x.catalog.now x.p x.s (read_bytes t c.args.bytes.now) b → ⊥) (sym c.if-self.false)
-    (subst (λ n. c.par_read_text.result ≡ Err FileFault.Damaged → (b : Base) → IsSegmentFile x.catalog.now x.p x.s (sealed (take n c.args.bytes.now)) b → ⊥) c.saturating_sub.ensures c.par_read_text.ensures.refused)
+    subst (λ t. c.segment_of.result ≡ Err FileFault.Damaged → (b : Base) → IsSegmentFile x.catalog.now x.p x.s (read_bytes t c.args.bytes.now) b → ⊥) (sym c.if-self.false)
+    (subst (λ n. c.segment_of.result ≡ Err FileFault.Damaged → (b : Base) → IsSegmentFile x.catalog.now x.p x.s (sealed (take n c.args.bytes.now)) b → ⊥) c.saturating_sub.ensures c.segment_of.ensures.refused)
 
 pub returns-clause-only : goal.returns-clause-only
 returns-clause-only g c =
     let x = c.args.self.now in
-    subst (λ t. IfOk c.par_read_text.result (λ segment. (b : Base) → IsSegmentFile x.catalog.now x.p x.s (read_bytes t c.args.bytes.now) b → b ≡ segment.base)) (sym c.if-self.false)
-    (subst (λ n. IfOk c.par_read_text.result (λ segment. (b : Base) → IsSegmentFile x.catalog.now x.p x.s (sealed (take n c.args.bytes.now)) b → b ≡ segment.base)) c.saturating_sub.ensures c.par_read_text.ensures.only)
+    subst (λ t. IfOk c.segment_of.result (λ segment. (b : Base) → IsSegmentFile x.catalog.now x.p x.s (read_bytes t c.args.bytes.now) b → b ≡ segment.base)) (sym c.if-self.false)
+    (subst (λ n. IfOk c.segment_of.result (λ segment. (b : Base) → IsSegmentFile x.catalog.now x.p x.s (sealed (take n c.args.bytes.now)) b → b ≡ segment.base)) c.saturating_sub.ensures c.segment_of.ensures.only)
