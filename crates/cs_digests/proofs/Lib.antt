@@ -1,3 +1,5 @@
 pub mod LaneLemmas
 pub mod BlockLemmas
 pub mod ChainLemmas
+pub mod HashLemmas
+pub mod TakenLemmas

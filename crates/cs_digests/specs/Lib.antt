@@ -1,1 +1,3 @@
 pub mod Lanes
+pub mod Keys
+pub mod Growing

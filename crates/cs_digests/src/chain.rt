@@ -4,7 +4,6 @@ ghost use Rattle.sha2.specs.Sha256.{hash_after, initial_hash_256, sha256};
 
 use crate::constants::INITIAL_HASH;
 use crate::finishing::{BLOCK, finish};
-use sha2::{Digest, Sha256};
 
 /// A message, and the hash value after some of its blocks.
 #[derive(Clone, Copy, Drop)]
@@ -54,9 +53,6 @@ impl<'a> Chain<'a> {
     pub fn digest(&self) -> [u8; 32]
         ensures { result ≡ sha256 self.now.text.now }
     {
-        if self.done == 0 {
-            return Sha256::digest(self.text);
-        }
         finish(self.hash, self.text, self.done)
     }
 }

@@ -7,6 +7,7 @@ use crate::chain::Chain;
 use crate::finishing::BLOCK;
 use crate::lanes::{beside, lane_of};
 use crate::rounds::compress;
+use crate::words::all;
 use std::simd::u32x4;
 
 /// The hash values of four messages after so many blocks more of each.
@@ -18,11 +19,13 @@ fn in_step(c0: Chain<'_>, c1: Chain<'_>, c2: Chain<'_>, c3: Chain<'_>, blocks: u
     ensures fourth { lane 3 result ≡ hash_after initial_hash_256 c3.entry.text.now (c3.entry.done + blocks) }
 {
     let mut state = beside(c0.hash, c1.hash, c2.hash, c3.hash);
+    let mut words = [all(0); 64];
     for i in 0..blocks {
         let (a0, a1) = (BLOCK * (c0.done + i), BLOCK * (c1.done + i));
         let (a2, a3) = (BLOCK * (c2.done + i), BLOCK * (c3.done + i));
         compress(
             &mut state,
+            &mut words,
             &c0.text[a0..a0 + BLOCK],
             &c1.text[a1..a1 + BLOCK],
             &c2.text[a2..a2 + BLOCK],

@@ -1,28 +1,8 @@
 //! The hash values of four messages, one lane each.
-ghost use Rattle.std.specs.Prelude.{◌≡◌, ℕ, ◌<◌, length};
-ghost use Rattle.sha2.specs.Sha256.{compress};
+ghost use Rattle.std.specs.Prelude.{◌≡◌, ◌<◌};
 ghost use Rattle.cs_digests.specs.Lanes.{lane};
 
-use crate::rounds::compress;
-use crate::words::all;
 use std::simd::u32x4;
-
-/// The same hash value for each message.
-pub fn all_lanes(h: [u32; 8]) -> [u32x4; 8]
-    ensures { (j : ℕ) → j < 4 → lane j result ≡ h }
-{
-    let [a, b, c, d, e, f, g, h] = h;
-    [
-        all(a),
-        all(b),
-        all(c),
-        all(d),
-        all(e),
-        all(f),
-        all(g),
-        all(h),
-    ]
-}
 
 /// The hash values of four messages.
 pub fn beside(h0: [u32; 8], h1: [u32; 8], h2: [u32; 8], h3: [u32; 8]) -> [u32x4; 8]
@@ -62,14 +42,4 @@ pub fn lane_of(state: &[u32x4; 8], j: usize) -> [u32; 8]
         state[6].to_array()[j],
         state[7].to_array()[j],
     ]
-}
-
-/// Runs the rounds over a block of one message, and adds what comes of them to its hash value.
-pub fn compress_one(hash: &mut [u32; 8], block: &[u8])
-    requires { length block.now ≡ 64 }
-    ensures { hash.new ≡ compress hash.old block.now }
-{
-    let mut state = all_lanes(*hash);
-    compress(&mut state, block, block, block, block);
-    *hash = lane_of(&state, 0);
 }

@@ -1,6 +1,6 @@
 //! Digests of known messages: those of the standard's examples, and others made by another implementation.
 
-use crate::digests_of;
+use crate::{GrowingDigest, digest_of, digests_of};
 use std::alloc::Global;
 use std::process::Abort;
 
@@ -118,4 +118,34 @@ fn two_messages_beside_themselves(rt: HostRuntime) {
         &[&a, &b, &short],
         &[LONG[0], LONG[1], SHORT[3]],
     );
+}
+
+#[test]
+fn messages_alone(rt: HostRuntime) {
+    let two_blocks = b"abcdbcdecdefdefgefghfghighijhijkijkljklmklmnlmnomnopnopq";
+    assert_eq!(&rt; digest_of(b""), SHORT[0]);
+    assert_eq!(&rt; digest_of(b"abc"), SHORT[1]);
+    assert_eq!(&rt; digest_of(two_blocks), SHORT[2]);
+    let e = repeated(&rt, rt.alloc(), b'e', 10_000);
+    assert_eq!(&rt; digest_of(&e), APART);
+}
+
+#[test]
+fn a_message_that_grows(rt: HostRuntime) {
+    let mut digest = GrowingDigest::new();
+    digest.take_in(b"");
+    digest.take_more(b"abcdbcdecdefdefgefghfghighijhi");
+    digest.take_in(b"abcdbcdecdefdefgefghfghighijhi");
+    digest.take_more(b"jkijkljklmklmnlmnomnopnopq");
+    let whole = b"abcdbcdecdefdefgefghfghighijhijkijkljklmklmnlmnomnopnopq";
+    assert_eq!(&rt; digest.digest(whole), SHORT[2]);
+}
+
+#[test]
+fn a_message_that_grows_by_blocks(rt: HostRuntime) {
+    let a = [b'a'; 119];
+    let mut digest = GrowingDigest::new();
+    digest.take_in(b"");
+    digest.take_more(&a);
+    assert_eq!(&rt; digest.digest(&a), SHORT[3]);
 }

@@ -1,9 +1,9 @@
 -- The pieces of a lost segment's columns, the texts that are written of them, and the file that takes these.
-use Rattle.std.specs.Prelude.{◌≡◌, ℕ, ◌^◌, ◌<◌, List, length}
+use Rattle.std.specs.Prelude.{◌≡◌, ℕ, ◌-◌, ◌^◌, ◌<◌, List, length}
 use Rattle.cs_schema.specs.declared.kinds.Code.{Code}
 use Rattle.cs_schema.specs.declared.kinds.Kind.{Kind}
 use Rattle.cs_schema.specs.declared.cells.Value.{Value}
-use Rattle.cs_schema.specs.CatalogData.{code_at, kind_at}
+use Rattle.cs_schema.specs.CatalogData.{projection, code_at, kind_at}
 use Rattle.cs_codec.specs.ColumnText.{column_text, FitsColumn}
 use Rattle.cs_piece.specs.declared.pieces.Piece.{Piece}
 use Rattle.cs_piece.specs.Pieces.{IsPieceOf}
@@ -33,3 +33,12 @@ IsTextAt work j text = IsColumnText (code_at work.store.now.catalog.now work.p j
 -- the file holds so many columns, the first ones, and nothing behind them
 abbrev pub HoldsFirst : LostSegment → ℕ → ℕ → List ℕ → Type 0
 HoldsFirst work s count file = file ≡ text_before work.store.now.catalog.now work.p s (base_at work.store.now.catalog.now work.p work.store.now.walked.rows work.numbers.now) count
+
+-- the number of the last column
+abbrev pub last_column : LostSegment → ℕ
+last_column work = length (projection work.store.now.catalog.now work.p).columns - 1
+
+-- the file holds the columns before the last, and this is the text of the last
+pub record IsBegun (work : LostSegment) (s : ℕ) (file text : List ℕ) : Type 0 where
+  pub holds : HoldsFirst work s (last_column work) file
+  pub text_is : IsTextAt work (last_column work) text

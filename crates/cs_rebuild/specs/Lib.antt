@@ -14,4 +14,5 @@ pub mod Reading
 pub mod Rounds
 pub mod Writing
 pub mod LostFiles
+pub mod Begun
 pub mod OnStore

@@ -151,7 +151,8 @@ fn is_led<R: Threads>(
 /// The comparing of some join indexes with the places of their rows.
 #[derive(Drop)]
 struct JoinedWork<'a, R> {
-    shares: Shares<'a, R>,
+    rt: &'a R,
+    workers: u32,
     store: &'a OrderedStore<'a>,
     joins: &'a [(u16, u16, u16)],
     ghost few: { length joins.now ≤ 1024 },
@@ -173,7 +174,9 @@ impl<R: Threads> Tasks for JoinedWork<'_, R> {
 
     fn task(&self, i: u32) -> Result<(), Fault> {
         let (p, s, q) = self.joins[i as usize];
-        if is_led(&self.shares, self.store, p, s, q) {
+        let left = self.joins.len() - i as usize;
+        let shares = Shares::new(self.rt, left, self.workers);
+        if is_led(&shares, self.store, p, s, q) {
             Ok(())
         } else {
             Err(Fault::Misled { p, s, q })
@@ -195,11 +198,12 @@ pub fn verify_joins<R: Threads + Sync, G: Gate + Sync>(
     ensures err { IfErr result (λ fault. MemoryOr fault (misled store.now.catalog.now store.now.loss (held_on store.now) (table_on store.now) ≡ Some fault)) }
 {
     let work = JoinedWork {
-        shares: Shares::new(run.rt, joins.len(), run.workers),
+        rt: run.rt,
+        workers: run.workers,
         store,
         joins,
     };
-    match run.comparing(store).round(Round::Joins, &work) {
+    match run.round(Round::Joins, &work) {
         Ok(_done) => Ok(()),
         Err(fault) => Err(fault),
     }

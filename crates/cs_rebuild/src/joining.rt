@@ -7,7 +7,7 @@ ghost use Rattle.cs_piece.specs.Pieces.{IsPieceOf};
 ghost use Rattle.cs_segment.specs.Growing.{joined};
 ghost use Rattle.cs_segment.specs.SegmentFile.{IsBase, segment_text};
 ghost use Rattle.cs_rebuild.specs.Encoding.{values_at, base_at};
-ghost use Rattle.cs_rebuild.specs.Joining.{ArePiecesOf, HoldsFirst, IsTextAt};
+ghost use Rattle.cs_rebuild.specs.Joining.{ArePiecesOf, HoldsFirst, IsBegun, IsTextAt};
 
 use crate::columns::table_column;
 use crate::encoding::LostSegment;
@@ -175,7 +175,31 @@ impl LostSegment<'_> {
         )
     }
 
-    /// Puts the columns before the `count`-th into a file that holds none. The digest takes each while the next is made.
+    /// Puts the columns before the `last`-th into a file that holds none, and makes the text of the `last`-th. The digest takes
+    /// each while the next is made.
+    fn grow_up_to<R: Threads + Sync, G: Gate + Sync>(
+        &self,
+        run: &Run<'_, R, G>,
+        file: &mut GrowingFile,
+        last: usize,
+    ) -> Result<Vec<Vec<u8>>, AllocError>
+        requires last { last < length (projection self.now.store.now.catalog.now self.now.p).columns }
+        requires base { IsBase self.now.store.now.catalog.now self.now.p (base_at self.now.store.now.catalog.now self.now.p self.now.store.now.walked.rows self.now.numbers.now) }
+        ensures file { OnOk result ((s : ℕ) → HoldsFirst self.now s 0 file.old → HoldsFirst self.now s last file.new) }
+        ensures text { IfOk result (λ made. IsTextAt self.now last (joined made.items)) }
+    {
+        // columns are few
+        let _width = self.store.catalog.width(self.p);
+        let mut text = self.text(run, 0)?;
+        for next in 1..last + 1 {
+            let (put, made) = self.push_beside(run, file, next, text);
+            put?;
+            text = made?;
+        }
+        Ok(text)
+    }
+
+    /// Puts the columns before the `count`-th into a file that holds none.
     fn grow<R: Threads + Sync, G: Gate + Sync>(
         &self,
         run: &Run<'_, R, G>,
@@ -189,12 +213,7 @@ impl LostSegment<'_> {
         if count == 0 {
             return Ok(());
         }
-        let mut text = self.text(run, 0)?;
-        for next in 1..count {
-            let (put, made) = self.push_beside(run, file, next, text);
-            put?;
-            text = made?;
-        }
+        let text = self.grow_up_to(run, file, count - 1)?;
         self.push(run, file, count - 1, text)
     }
 
@@ -224,54 +243,59 @@ impl LostSegment<'_> {
         )
     }
 
-    /// Puts the columns up to the last one into a file that holds none. The last is made from the start, beside all others.
-    fn grow_beside_last<R: Threads + Sync, G: Gate + Sync>(
+    /// Puts the columns before the last into a file that holds none, and makes the text of the last: from the start, where that
+    /// takes long, so that the digest waits for no column.
+    fn grow_to_last<R: Threads + Sync, G: Gate + Sync>(
         &self,
         run: &Run<'_, R, G>,
         file: &mut GrowingFile,
         last: usize,
-    ) -> Result<(), AllocError>
+    ) -> Result<Vec<Vec<u8>>, AllocError>
         requires last { last < length (projection self.now.store.now.catalog.now self.now.p).columns }
         requires base { IsBase self.now.store.now.catalog.now self.now.p (base_at self.now.store.now.catalog.now self.now.p self.now.store.now.walked.rows self.now.numbers.now) }
-        ensures { OnOk result ((s : ℕ) → HoldsFirst self.now s 0 file.old → HoldsFirst self.now s (last + 1) file.new) }
+        ensures file { OnOk result ((s : ℕ) → HoldsFirst self.now s 0 file.old → HoldsFirst self.now s last file.new) }
+        ensures text { IfOk result (λ made. IsTextAt self.now last (joined made.items)) }
     {
-        let (grown, text) = self.grow_beside(run, file, last);
-        grown?;
-        self.push(run, file, last, text?)
-    }
-
-    /// Puts all columns into a file that holds none. The digest waits for no column: where the last one takes long to make, it
-    /// is made from the start.
-    fn grow_whole<R: Threads + Sync, G: Gate + Sync>(
-        &self,
-        run: &Run<'_, R, G>,
-        file: &mut GrowingFile,
-    ) -> Result<(), AllocError>
-        requires base { IsBase self.now.store.now.catalog.now self.now.p (base_at self.now.store.now.catalog.now self.now.p self.now.store.now.walked.rows self.now.numbers.now) }
-        ensures { OnOk result ((s : ℕ) → HoldsFirst self.now s 0 file.old → HoldsFirst self.now s (length (projection self.now.store.now.catalog.now self.now.p).columns) file.new) }
-    {
-        let catalog = self.store.catalog;
-        let last = catalog.width(self.p) - 1;
-        if is_slow(catalog.code(self.p, last)) {
-            return self.grow_beside_last(run, file, last);
+        if is_slow(self.store.catalog.code(self.p, last)) {
+            let (grown, text) = self.grow_beside(run, file, last);
+            grown?;
+            return text;
         }
-        self.grow(run, file, last + 1)
+        self.grow_up_to(run, file, last)
     }
 
-    /// The file of the segment. A column is let go of once its text stands in the file.
-    pub fn file<R: Threads + Sync, G: Gate + Sync>(
+    /// The file of the segment up to its last column, and the text of that column: all that is left to do needs no worker. A
+    /// column is let go of once its text stands in the file.
+    pub fn begin<R: Threads + Sync, G: Gate + Sync>(
         &self,
         run: &Run<'_, R, G>,
         s: u16,
-    ) -> Result<Vec<u8>, AllocError>
+    ) -> Result<(GrowingFile, Vec<Vec<u8>>), AllocError>
         requires base { IsBase self.now.store.now.catalog.now self.now.p (base_at self.now.store.now.catalog.now self.now.p self.now.store.now.walked.rows self.now.numbers.now) }
-        ensures { IfOk result (λ bytes. bytes.items ≡ segment_text self.now.store.now.catalog.now self.now.p s (base_at self.now.store.now.catalog.now self.now.p self.now.store.now.walked.rows self.now.numbers.now)) }
+        ensures { IfOk result (λ begun. IsBegun self.now s begun.0 (joined begun.1.items)) }
     {
+        let catalog = self.store.catalog;
         let rows = self.numbers.len() as u32;
-        let mut file = GrowingFile::begin(self.alloc, self.store.catalog, self.p, s, rows)?;
+        let mut file = GrowingFile::begin(self.alloc, catalog, self.p, s, rows)?;
         // else what stands there is copied each time that the file grows
         file.reserve(self.room())?;
-        self.grow_whole(run, &mut file)?;
+        let text = self.grow_to_last(run, &mut file, catalog.width(self.p) - 1)?;
+        Ok((file, text))
+    }
+
+    /// The file of the segment that was begun.
+    pub fn end<R: Threads + Sync, G: Gate + Sync>(
+        &self,
+        run: &Run<'_, R, G>,
+        file: GrowingFile,
+        text: Vec<Vec<u8>>,
+    ) -> Result<Vec<u8>, AllocError>
+        requires base { IsBase self.now.store.now.catalog.now self.now.p (base_at self.now.store.now.catalog.now self.now.p self.now.store.now.walked.rows self.now.numbers.now) }
+        requires begun { (s : ℕ) × IsBegun self.now s file (joined text.items) }
+        ensures { (s : ℕ) → IsBegun self.now s file (joined text.items) → IfOk result (λ bytes. bytes.items ≡ segment_text self.now.store.now.catalog.now self.now.p s (base_at self.now.store.now.catalog.now self.now.p self.now.store.now.walked.rows self.now.numbers.now)) }
+    {
+        let mut file = file;
+        self.push(run, &mut file, self.store.catalog.width(self.p) - 1, text)?;
         file.finish()
     }
 }

@@ -74,7 +74,8 @@ fn is_placed_among<R: Threads>(
 /// The comparing of some images with the table's rows.
 #[derive(Drop)]
 struct PlacedWork<'a, R> {
-    shares: Shares<'a, R>,
+    rt: &'a R,
+    workers: u32,
     store: &'a OrderedStore<'a>,
     segments: &'a [(u16, u16)],
     /// The projection whose images have the rows of the table, one after the other, where there is one.
@@ -99,7 +100,9 @@ impl<R: Threads> Tasks for PlacedWork<'_, R> {
 
     fn task(&self, i: u32) -> Result<(), Fault> {
         let (p, s) = self.segments[i as usize];
-        if is_placed_among(&self.shares, self.store, self.in_turn, p, s) {
+        let left = self.segments.len() - i as usize;
+        let shares = Shares::new(self.rt, left, self.workers);
+        if is_placed_among(&shares, self.store, self.in_turn, p, s) {
             Ok(())
         } else {
             Err(Fault::Misplaced { p, s })
@@ -122,12 +125,13 @@ pub fn verify_images<R: Threads + Sync, G: Gate + Sync>(
     ensures err { IfErr result (λ fault. MemoryOr fault (misplaced store.now.catalog.now store.now.loss (held_on store.now) (table_on store.now) ≡ Some fault)) }
 {
     let work = PlacedWork {
-        shares: Shares::new(run.rt, segments.len(), run.workers),
+        rt: run.rt,
+        workers: run.workers,
         store,
         segments,
         in_turn: projection_in_turn(run.alloc, store),
     };
-    match run.comparing(store).round(Round::Images, &work) {
+    match run.round(Round::Images, &work) {
         Ok(_done) => Ok(()),
         Err(fault) => Err(fault),
     }

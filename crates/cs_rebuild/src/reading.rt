@@ -1,5 +1,6 @@
 //! Reading what survives of a store.
 ghost use Rattle.std.specs.Prelude.{◌≡◌, ◌<◌, ◌≤◌, ℕ, false, length, map, Err, IfOk, IfErr};
+ghost use Rattle.std.specs.List.Sorted.{IsPermutation};
 ghost use Rattle.cs_schema.specs.CatalogData.{HasSegment};
 ghost use Rattle.cs_schema.specs.CatalogRules.{IsCatalog};
 ghost use Rattle.cs_schema.specs.FileNames.{FileContents};
@@ -12,6 +13,7 @@ ghost use Rattle.cs_board.specs.Pieces.{AnswersInOrder};
 ghost use Rattle.cs_recovery.proofs.CatalogFacts.{IsCatalog-prop};
 ghost use Rattle.cs_recovery.specs.Verdicts.{IsVerdict, surviving_segments};
 ghost use Rattle.cs_schema.specs.Losses.{Sites};
+ghost use Rattle.cs_rebuild.specs.Rounds.{IsFirstFault};
 ghost use Rattle.cs_rebuild.specs.Steps.{AreRead, IsBadFile};
 ghost use Rattle.cs_rebuild.specs.Reading.{FilesFaultAt, FilesAnswerAt, AreFilesOf, IsKept, AreOthersKept, as_read, joins_of};
 ghost use Rattle.cs_rebuild.specs.WorkLaws.{one_files_fault};
@@ -24,9 +26,10 @@ use cs_board::{Gate, Round};
 use cs_delta::Image;
 use cs_jix::JoinIndex;
 use cs_rows::Survivors;
-use cs_schema::{Catalog, Loss};
+use cs_schema::{Catalog, FileName, Loss};
 use cs_store::{Fault, FileSet};
 use std::alloc::Global;
+use std::cmp::Reverse;
 use std::marker::Sync;
 use std::thread::Threads;
 
@@ -93,7 +96,7 @@ impl<'a, R> FilesWork<'_, 'a, R> {
     fn keep_all(&self, all: Vec<SegmentFiles>) -> Result<Survivors<'a>, Fault>
         requires count { length all.items ≡ length self.now.segments.now }
         requires each { AnswersInOrder (FilesAnswerAt self.now.catalog.now (as_read self.now.compared (contents_of self.now.files.now)) self.now.segments.now) all.items }
-        ensures ok { IfOk result (λ kept. (L : Sites) → self.now.segments.now ≡ surviving_segments self.now.catalog.now L → AreRead self.now.catalog.now (as_read self.now.compared (contents_of self.now.files.now)) L kept) }
+        ensures ok { IfOk result (λ kept. (L : Sites) → ((a : ℕ × ℕ) → IsIn a (surviving_segments self.now.catalog.now L) → IsIn a self.now.segments.now) → AreRead self.now.catalog.now (as_read self.now.compared (contents_of self.now.files.now)) L kept) }
         ensures err { IfErr result (λ fault. fault ≡ FaultData.Memory) }
     {
         let mut survivors = match Survivors::new(self.alloc, self.catalog) {
@@ -106,6 +109,35 @@ impl<'a, R> FilesWork<'_, 'a, R> {
             keep(&mut survivors, p, s, held);
         }
         Ok(survivors)
+    }
+}
+
+/// What the files of some segments hold, read in this order, or the refusal of the first of them that has one.
+fn read_in_order<'a, R: Threads + Sync, G: Gate + Sync>(
+    run: &Run<'_, R, G>,
+    catalog: &'a Catalog,
+    files: &FileSet,
+    compared: bool,
+    segments: &[(u16, u16)],
+) -> Result<Survivors<'a>, Fault>
+    requires few { length segments.now ≤ 128 }
+    requires exist { (a : ℕ × ℕ) → IsIn a segments.now → HasSegment catalog.now a.0 a.1 }
+    ensures ok { IfOk result (λ kept. (L : Sites) → ((a : ℕ × ℕ) → IsIn a (surviving_segments catalog.now L) → IsIn a segments.now) → AreRead catalog.now (as_read compared (contents_of files.now)) L kept) }
+    ensures err { IfErr result (λ fault. MemoryOr fault (IsFirstFault (FilesFaultAt catalog.now (as_read compared (contents_of files.now)) segments.now) (length segments.now) fault)) }
+{
+    let _rules = catalog.projection_count();
+    let work = FilesWork {
+        rt: run.rt,
+        alloc: run.alloc,
+        catalog,
+        files,
+        compared,
+        workers: run.workers,
+        segments,
+    };
+    match run.round(Round::Files, &work) {
+        Ok(all) => work.keep_all(all),
+        Err(fault) => Err(fault),
     }
 }
 
@@ -122,23 +154,28 @@ fn read_segments<'a, R: Threads + Sync, G: Gate + Sync>(
     ensures bad { IfErr result (λ fault. MemoryOr fault (IsBadFile catalog.now (as_read compared (contents_of files.now)) loss fault)) }
     ensures rules { IsCatalog catalog.now }
 {
-    let segments = match surviving_segments(run.alloc, catalog, loss) {
-        Ok(segments) => segments,
-        Err(_) => return Err(Fault::Memory),
-    };
-    let work = FilesWork {
-        rt: run.rt,
-        alloc: run.alloc,
-        catalog,
-        files,
-        compared,
-        workers: run.workers,
-        segments: segments.as_slice(),
-    };
-    match run.round(Round::Files, &work) {
-        Ok(all) => work.keep_all(all),
-        Err(fault) => Err(fault),
+    match surviving_segments(run.alloc, catalog, loss) {
+        Ok(segments) => read_in_order(run, catalog, files, compared, segments.as_slice()),
+        Err(_) => Err(Fault::Memory),
     }
+}
+
+/// How many bytes the file of a segment has, where it is there.
+fn file_length(files: &FileSet, segment: (u16, u16)) -> usize {
+    let (p, s) = segment;
+    match files.get(FileName::Seg { p, s }) {
+        Some(bytes) => bytes.len(),
+        None => 0,
+    }
+}
+
+/// Puts the segments with the longest files first.
+fn longest_first(files: &FileSet, segments: &mut Vec<(u16, u16)>)
+    ensures { IsPermutation segments.old.items segments.new.items }
+{
+    segments.sort_unstable_by_key(|segment: &(u16, u16)| -> Reverse<usize> {
+        Reverse(file_length(files, *segment))
+    });
 }
 
 /// What the files that survive a loss hold, or the refusal of the least bad one.
@@ -166,6 +203,18 @@ pub fn read_texts<'a, R: Threads + Sync, G: Gate + Sync>(
     ensures ok { IfOk result (AreRead catalog.now (as_read false (contents_of files.now)) loss) }
     ensures err { IfErr result (λ fault. MemoryOr fault (IsVerdict catalog.now (as_read false (contents_of files.now)) loss (Err fault))) }
 {
+    let mut segments = match surviving_segments(run.alloc, catalog, loss) {
+        Ok(segments) => segments,
+        Err(_) => return Err(Fault::Memory),
+    };
+    // else the last workers have long files left while the others have none
+    longest_first(files, &mut segments);
+    match read_in_order(run, catalog, files, false, segments.as_slice()) {
+        Ok(survivors) => return Ok(survivors),
+        Err(Fault::Memory) => return Err(Fault::Memory),
+        Err(_) => {}
+    }
+    // the order of names tells which is the least bad one
     read_segments(run, catalog, loss, files, false)
 }
 

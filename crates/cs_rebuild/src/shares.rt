@@ -17,9 +17,9 @@ pub struct Shares<'a, R> {
 }
 
 impl<'a, R> Shares<'a, R> {
-    /// For so many files and workers: none is cut where enough of them are compared at once.
-    pub fn new(rt: &'a R, files: usize, workers: u32) -> Self {
-        let at_once = files.min(workers as usize);
+    /// For so many files that are left, and so many workers: none is cut where enough of them are compared at once.
+    pub fn new(rt: &'a R, left: usize, workers: u32) -> Self {
+        let at_once = left.min(workers as usize);
         let parts = if at_once < ENOUGH_THREADS {
             ENOUGH_THREADS
         } else {

@@ -1,16 +1,16 @@
 //! A segment's file that grows, with its digest made beside: a digest is a chain, so it takes each column as that is put.
-ghost use Rattle.std.specs.Prelude.{◌≡◌, ◌++◌, ◌<◌, ◌≤◌, ◌^◌, ℕ, List, length, take, IfOk, OnOk};
+ghost use Rattle.std.specs.Prelude.{◌≡◌, ◌++◌, ◌<◌, ◌^◌, ℕ, List, length, IfOk, OnOk};
 ghost use Rattle.cs_schema.specs.CatalogData.{projection};
 ghost use Rattle.cs_segment.specs.SegmentFile.{sealed};
 ghost use Rattle.cs_segment.specs.Parts.{head_text};
 ghost use Rattle.cs_segment.specs.Bodies.{body_part, part_front};
 ghost use Rattle.cs_segment.specs.Growing.{joined};
-ghost use Rattle.sha2.specs.Hashers.{Holds256};
+ghost use Rattle.cs_digests.specs.Growing.{HasTaken, HasTakenAll};
 
 use crate::seal::DIGEST;
 use crate::segment::{code_number, kind_number};
+use cs_digests::GrowingDigest;
 use cs_schema::{Catalog, Code, Kind};
-use sha2::{Digest, Sha256};
 use std::alloc::{AllocError, Global};
 use std::marker::Model;
 use std::thread::{Threads, join_mut};
@@ -22,9 +22,7 @@ const WORTH_THREADS: usize = 65_536;
 #[derive(Drop)]
 pub struct GrowingFile {
     text: Vec<u8>,
-    /// How many bytes of the text the hasher has taken.
-    taken: usize,
-    hasher: Sha256,
+    digest: GrowingDigest,
 }
 
 impl Model for GrowingFile {
@@ -32,11 +30,11 @@ impl Model for GrowingFile {
 
     ghost Value = { List ℕ };
 
-    ghost use Rattle.cs_segment.specs.Growing.{text_of, HasTaken};
+    ghost use Rattle.cs_segment.specs.Growing.{text_of, IsDigested};
 
     ghost view = { text_of };
 
-    ghost invariant = { HasTaken };
+    ghost invariant = { IsDigested };
 }
 
 /// The head of a segment's file.
@@ -72,27 +70,27 @@ fn length_of(text: &[Vec<u8>]) -> usize
     length
 }
 
-/// Puts bytes at the end of a text, of which a hasher has taken the first ones, while the hasher takes them and what was left.
+/// Puts bytes at the end of a text while its digest takes them, and what was left.
 fn extend_both<R: Threads>(
     rt: &R,
     text: &mut Vec<u8>,
-    hasher: &mut Sha256,
-    taken: usize,
+    digest: &mut GrowingDigest,
     bytes: &[u8],
 ) -> Result<(), AllocError>
-    requires { taken ≤ length text.old.items }
+    requires { HasTaken digest.old text.old.items }
     ensures text { OnOk result (text.new.items ≡ text.old.items ++ bytes.now) }
-    ensures hasher { Holds256 hasher.old (take taken text.old.items) → Holds256 hasher.new (text.old.items ++ bytes.now) }
+    ensures digest { HasTaken digest.new (text.old.items ++ bytes.now) }
 {
-    hasher.update(&text[taken..]);
+    digest.take_in(text);
     let (put, _) = join_mut(
         rt,
         &mut || -> Result<(), AllocError>
             ensures { OnOk result (text.exit.now.items ≡ text.entry.now.items ++ bytes.entry.now) }
         { text.extend_from_slice(bytes) },
         &mut || -> ()
-            ensures { (m : List ℕ) → Holds256 hasher.entry.now m → Holds256 hasher.exit.now (m ++ bytes.entry.now) }
-        { hasher.update(bytes) },
+            requires { (m : List ℕ) × HasTakenAll digest.now m }
+            ensures { (m : List ℕ) → HasTakenAll digest.entry.now m → HasTaken digest.exit.now (m ++ bytes.entry.now) }
+        { digest.take_more(bytes) },
     );
     put
 }
@@ -111,8 +109,7 @@ impl GrowingFile {
     {
         Ok(GrowingFile {
             text: head_of(alloc, catalog, p, s, rows)?,
-            taken: 0,
-            hasher: Sha256::new(),
+            digest: GrowingDigest::new(),
         })
     }
 
@@ -158,17 +155,12 @@ impl GrowingFile {
         if bytes.len() < WORTH_THREADS {
             return self.extend(bytes);
         }
-        match extend_both(rt, &mut self.text, &mut self.hasher, self.taken, bytes) {
-            Ok(()) => {
-                self.taken = self.text.len();
-                return Ok(());
-            }
-            Err(_) => {}
+        let put = extend_both(rt, &mut self.text, &mut self.digest, bytes);
+        if put.is_err() {
+            // the digest took what does not stand there
+            self.digest = GrowingDigest::new();
         }
-        // the digest took what does not stand there
-        self.hasher = Sha256::new();
-        self.taken = 0;
-        Err(AllocError)
+        put
     }
 
     /// As `push`, of a text that stands in pieces, one after the other, while the digest takes each. Each is let go of once it
@@ -194,16 +186,10 @@ impl GrowingFile {
     pub fn finish(self) -> Result<Vec<u8>, AllocError>
         ensures { IfOk result (λ out. out.items ≡ sealed self) }
     {
-        let GrowingFile {
-            text,
-            taken,
-            hasher,
-        } = self;
+        let GrowingFile { text, digest } = self;
         let mut text = text;
-        let mut hasher = hasher;
-        hasher.update(&text[taken..]);
-        let digest = hasher.finalize();
-        text.extend_from_slice(&digest)?;
+        let end = digest.digest(&text);
+        text.extend_from_slice(&end)?;
         Ok(text)
     }
 }

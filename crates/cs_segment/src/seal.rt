@@ -6,8 +6,7 @@ ghost use Rattle.cs_schema.specs.Lists.{IsIn};
 ghost use Rattle.cs_segment.specs.SegmentFile.{sealed};
 ghost use Rattle.cs_segment.specs.Bodies.{IsSealed};
 
-use cs_digests::digests_of;
-use sha2::{Digest, Sha256};
+use cs_digests::{digest_of, digests_of};
 use std::alloc::{AllocError, Global};
 
 /// The length of a digest.
@@ -18,7 +17,7 @@ pub fn seal(bytes: &mut Vec<u8>) -> Result<(), AllocError>
     ensures ok { OnOk result (bytes.new.items ≡ sealed bytes.old.items) }
     ensures err { OnErr result (bytes.new.items ≡ bytes.old.items) }
 {
-    let digest = Sha256::digest(bytes.as_slice());
+    let digest = digest_of(bytes);
     bytes.extend_from_slice(&digest)
 }
 
@@ -31,7 +30,7 @@ pub fn unseal(bytes: &[u8]) -> Option<&[u8]>
         return None;
     }
     let (body, end) = bytes.split_at(bytes.len() - DIGEST);
-    let digest = Sha256::digest(body);
+    let digest = digest_of(body);
     if end == digest.as_slice() {
         Some(body)
     } else {

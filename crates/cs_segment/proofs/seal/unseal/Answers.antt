@@ -13,5 +13,5 @@ returns-else-eq-clause-none c = λ body e.
     let same = body_of_sealed c.args.bytes.now body e in
     let digest = digest_of_sealed c.args.bytes.now body e in
     let ends : c.split_at.result.1.now ≡ c.as_slice.result.now =
-    c.split_at.ensures.back ∙ sym digest ∙ ap sha256 (same ∙ sym c.split_at.ensures.front) ∙ sym c.digest-digest.ensures ∙ sym c.as_slice.ensures in
+    c.split_at.ensures.back ∙ sym digest ∙ ap sha256 (same ∙ sym c.split_at.ensures.front) ∙ sym c.digest_of-digest.ensures ∙ sym c.as_slice.ensures in
     false≢true (c.if-eq.ensures ∙ (bytes_eq-Decides c.split_at.result.1.now c.as_slice.result.now).1 ends)

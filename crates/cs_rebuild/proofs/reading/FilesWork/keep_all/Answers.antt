@@ -37,7 +37,7 @@ stays C F v w a b new others old =
     }
 
 -- where what the files of each surviving segment hold is kept, all is read
-all_read : (C : CatalogData) → IsCatalog C → (F : FileContents) (L : Sites) (segments : List (ℕ × ℕ)) → segments ≡ surviving_segments C L → (v : SurvivorsData) → v.catalog ≡ C
+all_read : (C : CatalogData) → IsCatalog C → (F : FileContents) (L : Sites) (segments : List (ℕ × ℕ)) → ((a : ℕ × ℕ) → IsIn a (surviving_segments C L) → IsIn a segments) → (v : SurvivorsData) → v.catalog ≡ C
     → ((k : ℕ) (a : ℕ × ℕ) → slice_get segments k ≡ Some a → IsKept C F v a) → AreRead C F L v
 all_read C cat F L segments are v catalog kept = record {
   reads = record {
@@ -50,7 +50,7 @@ all_read C cat F L segments are v catalog kept = record {
 }
   where
     kept_at : (p s : ℕ) → Survives C L (FileName.Seg p s) → IsKept C F v (p, s)
-    kept_at p s h = let k = place_in segments (p, s) (subst (IsIn (p, s)) (sym are) (in_survivors C L p s h)) in kept k.0 (p, s) k.1
+    kept_at p s h = let k = place_in segments (p, s) (are (p, s) (in_survivors C L p s h)) in kept k.0 (p, s) k.1
 
     declared : (p s q : ℕ) → Survives C L (FileName.Jix p s q) → IsIn q (joins_of C p)
     declared p s q h =
