@@ -1,5 +1,5 @@
 -- The stored places of rows.
-use Rattle.std.specs.Prelude.{ℕ, ◌≡◌, ◌<◌, ◌/◌, ◌%◌, List, [], map, length, slice_get, slice_index, slice_index_or, Some, All}
+use Rattle.std.specs.Prelude.{ℕ, ◌≡◌, ◌<◌, ◌≤◌, ◌/◌, ◌%◌, List, [], map, length, slice_get, slice_index, slice_index_or, Some, All, Contains}
 use Rattle.cs_order.specs.declared.segments.ProjectionOrder.{ProjectionOrder}
 
 -- the segments of each projection
@@ -22,10 +22,16 @@ pub record IsThere (rows : List ℕ) (s row place : ℕ) : Type 0 where
 abbrev pub IsPlaceOf : List (List ℕ) → ℕ → ℕ → Type 0
 IsPlaceOf lists row place = slice_get (slice_index_or lists (segment_in place) []) (index_in place) ≡ Some row
 
--- each row stands where its number says
+-- the row stands in one of these segments
+abbrev pub IsAmong : List (List ℕ) → ℕ → Type 0
+IsAmong lists row = ((s : ℕ) → s < length lists → Contains (slice_index_or lists s []) row → ⊥) → ⊥
+
+-- each row stands in a segment, and where its number says, which it needn't have
 pub record HasPlaces (rows : ℕ) (order : ProjectionOrder) : Type 0 where
-  pub count : length order.places.items ≡ rows
-  pub places : (r : ℕ) → r < rows → IsPlaceOf order.segments.items r (slice_index order.places.items r)
+  pub few : length order.segments.items ≤ 16
+  pub short : All (λ list. length list ≤ 1048576) order.segments.items
+  pub each : (r : ℕ) → r < rows → IsAmong order.segments.items r
+  pub places : (r : ℕ) → r < rows → r < length order.places.items → IsPlaceOf order.segments.items r (slice_index order.places.items r)
 
 abbrev pub HavePlaces : ℕ → List ProjectionOrder → Type 0
 HavePlaces rows = All (HasPlaces rows)

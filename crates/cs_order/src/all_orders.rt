@@ -1,8 +1,10 @@
 //! Where each row stands.
-ghost use Rattle.std.specs.Prelude.{◌≡◌, ◌<◌, length, [], slice_index_or};
+ghost use Rattle.std.specs.Prelude.{◌≡◌, ◌<◌, ◌≤◌, All, Contains, Some, None, IfSome, length, [], slice_get, slice_index_or};
 ghost use Rattle.cs_order.specs.Orders.{numbers_in, StandsAt};
+ghost use Rattle.cs_order.specs.Places.{IsAmong};
 
 use crate::places::PLACES;
+use crate::ranges::Segment;
 use crate::segments::ProjectionOrder;
 use std::marker::Model;
 
@@ -35,13 +37,47 @@ impl Orders {
         order.segments[s as usize].rows()
     }
 
-    /// The segment in which a row stands, and its index there.
+    /// The segment in which a row stands, and its index there. It is one look where join indexes lead to the projection, and else
+    /// a search.
     pub fn place(&self, p: u16, row: u32) -> (u16, u32)
         requires projection { p < length self.now.segments }
         requires row { row < self.now.rows }
         ensures { StandsAt self.now p row result.0 result.1 }
     {
-        let place = self.projections[p as usize].places[row as usize];
+        let order = &self.projections[p as usize];
+        if row as usize >= order.places.len() {
+            return find_row(&order.segments, row);
+        }
+        let place = order.places[row as usize];
         ((place / PLACES) as u16, place % PLACES)
     }
+}
+
+/// The index of a row, where it is there.
+fn index_of(rows: &[u32], row: u32) -> Option<u32>
+    requires { length rows.now ≤ 1048576 }
+    ensures found { IfSome result (λ index. slice_get rows.now index ≡ Some row) }
+    ensures none { result ≡ None → Contains rows.now row → ⊥ }
+{
+    for (index, at) in rows.iter().enumerate() {
+        if *at == row {
+            return Some(index as u32);
+        }
+    }
+    None
+}
+
+/// The segment in which a row stands, and its index there.
+fn find_row(segments: &[Segment], row: u32) -> (u16, u32)
+    requires few { length segments.now ≤ 16 }
+    requires short { All (λ rows. length rows ≤ 1048576) segments.now }
+    requires there { IsAmong segments.now row }
+    ensures { slice_get (slice_index_or segments.now result.0 []) result.1 ≡ Some row }
+{
+    for s in 0..segments.len() {
+        if let Some(index) = index_of(segments[s].rows(), row) {
+            return (s as u16, index);
+        }
+    }
+    unreachable!()
 }

@@ -23,6 +23,7 @@ mod rising;
 pub mod samples;
 mod segments;
 mod sort;
+mod sort_items;
 mod sorter;
 mod words;
 mod writing;

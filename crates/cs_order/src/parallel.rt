@@ -10,7 +10,7 @@ ghost use Rattle.cs_order.specs.Sides.{IsOrderOrFault};
 use crate::all_orders::Orders;
 use crate::fault::OrderFault;
 use crate::segments::{ProjectionOrder, ProjectionSorter};
-use crate::sorter::Sorter;
+use crate::sorter::{Sorter, listed_or};
 use cs_rows::Table;
 use cs_schema::Catalog;
 use rayon::prelude::*;
@@ -42,11 +42,12 @@ pub fn orders<R: Threads + Sync>(
         catalog,
     };
     let all = sorter.all_rows()?;
-    let by_key = sorter.sort_by_key(&all)?;
-    if sorter.key_stands_twice(&by_key) {
+    let sorted = sorter.sort_by_key(&all)?;
+    let by_key = listed_or(&sorted, &all);
+    if sorter.key_stands_twice(by_key) {
         return Err(OrderFault::Twice);
     }
-    let mut made = made_orders(&sorter, &all, &by_key)?;
+    let mut made = made_orders(&sorter, &all, by_key)?;
     let mut projections = Vec::new(alloc);
     for _p in 0..catalog.projection_count() {
         // they are few: so it takes no time that those behind move up

@@ -6,7 +6,7 @@ use rayon::current_num_threads;
 use std::thread::{Threads, for_each_mut};
 
 /// How many places are worth a thread of their own.
-const SHARE: usize = 32_768;
+const SHARE: usize = 65_536;
 
 /// Calls `f` at each place of a list, with the place: in one thread where the list is short.
 pub fn write_each<R: Threads + Sync, T: Send, F: Fn(usize, &mut T) + Sync>(

@@ -1,12 +1,15 @@
 //! A source whose files were read ahead, side by side.
 ghost use Rattle.std.specs.Prelude.{◌≡◌, IfOk};
+ghost use Rattle.std.specs.List.Sorted.{IsPermutation};
 ghost use Rattle.cs_reading.specs.Ahead.{Says, SaysAll};
 
+use crate::dealing::dealt;
 use crate::shared::SharedSource;
 use cs_schema::{Catalog, FileName, Loss};
 use cs_store::{Source, StoreFault};
 use rayon::prelude::*;
 use std::alloc::{AllocError, Global};
+use std::cmp::Reverse;
 use std::marker::Sync;
 use std::thread::Threads;
 
@@ -37,14 +40,21 @@ pub fn read_ahead<'a, R: Threads + Sync, S: SharedSource>(
     ensures behind { IfOk result (λ ahead. ahead.source.now ≡ source.now) }
     ensures said { IfOk result (λ ahead. SaysAll S.answers S.fails source.now ahead.reads.items) }
 {
-    let mut names = catalog.surviving(alloc, loss)?;
-    names.reverse();
-    let reads = read_all(rt, alloc, names.as_slice(), source)?;
+    let names = dealt(alloc, &catalog.surviving(alloc, loss)?)?;
+    let mut reads = read_all(rt, alloc, &names, source)?;
+    last_first(&mut reads);
     Ok(ReadAhead {
         source,
         reads,
         faults: 0,
     })
+}
+
+/// Puts what was read into the order of names, the last one first.
+fn last_first(reads: &mut Vec<Answer>)
+    ensures { IsPermutation reads.old.items reads.new.items }
+{
+    reads.sort_unstable_by_key(|read: &Answer| -> Reverse<FileName> { Reverse(read.name) });
 }
 
 /// What the reads of these names came to, in their order.

@@ -2,6 +2,7 @@
 #![tactic(auto)]
 
 mod ahead;
+mod dealing;
 mod loading;
 mod shared;
 

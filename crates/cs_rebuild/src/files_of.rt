@@ -25,8 +25,8 @@ use cs_store::{Fault, FileSet};
 use std::alloc::Global;
 use std::thread::{Threads, join_mut};
 
-/// How many bytes of a segment's file are worth the start of a thread.
-const WORTH_THREADS: usize = 65_536;
+/// How many bytes of a segment's file are worth the start of threads.
+const WORTH_THREADS: usize = 524_288;
 
 /// The bytes under a name, which has to be there.
 fn bytes_of(files: &FileSet, name: FileName) -> Result<&[u8], Fault>
@@ -104,7 +104,7 @@ impl SegmentSource<'_> {
         ensures refused { result ≡ Err FileFault.Damaged → (b : Base) → IsSegmentFile self.now.catalog.now self.now.p self.now.s (sealed text.now) b → ⊥ }
         ensures only { IfOk result (λ segment. (b : Base) → IsSegmentFile self.now.catalog.now self.now.p self.now.s (sealed text.now) b → b ≡ segment.base) }
     {
-        if self.in_threads {
+        if self.in_threads && text.len() >= WORTH_THREADS {
             return par_read_text(rt, self.alloc, self.catalog, self.p, self.s, text);
         }
         read_text(self.alloc, self.catalog, self.p, self.s, text)

@@ -2,7 +2,7 @@
 ghost use Rattle.std.specs.Prelude.{◌<◌, ◌≤◌};
 
 /// How many cells or entries are worth the start of a thread.
-const WORTH_THREADS: usize = 16_384;
+const WORTH_THREADS: usize = 65_536;
 
 /// How many threads are enough for the processors that a machine mostly has.
 const ENOUGH_THREADS: usize = 4;

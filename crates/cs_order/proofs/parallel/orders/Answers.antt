@@ -7,7 +7,7 @@ use Rattle.std.specs.List.Sorted.{IsPermutation}
 use denote.Param.Send.{sendable}
 use Rattle.cs_order.specs.declared.segments.ProjectionOrder.{ProjectionOrder}
 use Rattle.cs_order.specs.Tables.{table_of}
-use Rattle.cs_order.specs.Numbers.{AreSegmentsOf}
+use Rattle.cs_order.specs.Numbers.{AreSegmentsOf, listed_or}
 use Rattle.cs_order.specs.Faults.{IsOrderFault}
 use Rattle.cs_order.specs.Places.{HasPlaces, segment_lists}
 use Rattle.cs_order.specs.Sides.{IsOrderOrFault}
@@ -24,8 +24,10 @@ made_orders-requires g c = (
   record {
     once = sym c.key_stands_twice.ensures ∙ c.if-key_stands_twice.false;
     all_is = c.deref-3.ensures.value ∙ c.in_ok-all.ensures;
-    by_key_is = rw c.deref-4.ensures.value (subst (λ l. IsPermutation l c.in_ok-by_key.by_key.items) (c.deref.ensures.value ∙ c.in_ok-all.ensures) c.in_ok-by_key.ensures.permutation);
-    sorted = rw c.deref-4.ensures.value c.in_ok-by_key.ensures.sorted;
+    by_key_is =
+        rw (c.listed_or-by_key.ensures, c.deref-2.ensures.value)
+        (subst (λ l. IsPermutation l (listed_or c.in_ok-sorted.sorted c.in_ok-all.all.items)) c.in_ok-all.ensures (rw c.deref.ensures.value at c.in_ok-sorted.ensures.permutation));
+    sorted = rw (c.listed_or-by_key.ensures, c.deref-2.ensures.value) (rw c.deref.ensures.value at c.in_ok-sorted.ensures.sorted);
   },
 )
 
