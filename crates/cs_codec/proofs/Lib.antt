@@ -6,6 +6,7 @@ pub mod BitmapEntries
 pub mod BitmapSteps
 pub mod RunReading
 pub mod RunColumns
+pub mod RunEnds
 pub mod RunColumnReading
 pub mod ColumnRanges
 pub mod RiseLists

@@ -17,6 +17,7 @@ mod numbered;
 pub mod numbers;
 pub mod plain;
 mod run_reading;
+mod run_writing;
 pub mod runs;
 
 pub use cell::Cell;

@@ -64,6 +64,22 @@ fn runs_merge_where_pieces_join_with_ample_memory(rt: HostRuntime) {
     assert!(rt; are_made(text_of(alloc, whole), &[1, 97, 0, 0, 0, 1, 0, 0, 0, 2]));
 }
 
+/// The piece of runs of one text.
+fn run_of(alloc: Global, bytes: &[u8]) -> Result<Piece, CodecFault> {
+    let one = read_column(alloc, Code::Plain, Kind::Text, bytes, 1)?;
+    Ok(encode_piece(alloc, Code::Runs, &one)?)
+}
+
+#[test]
+fn runs_stand_apart_where_they_have_other_values_with_ample_memory(rt: HostRuntime) {
+    let alloc = rt.alloc();
+    let left = run_of(alloc, &[1, 97]).expect(&rt, "the left piece");
+    let same = run_of(alloc, &[1, 97]).expect(&rt, "one with its value");
+    let other = run_of(alloc, &[1, 98]).expect(&rt, "one with another value");
+    assert!(rt; left.stands_apart(&other));
+    assert!(rt; !left.stands_apart(&same));
+}
+
 fn do_join(left: Piece, right: Piece) -> bool {
     left.can_join(&right)
 }

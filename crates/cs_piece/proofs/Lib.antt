@@ -2,3 +2,4 @@ pub mod Variants
 pub mod ShortTexts
 pub mod ColumnParts
 pub mod PieceLemmas
+pub mod RunPieces

@@ -1,12 +1,12 @@
 //! Pieces: parts of columns, whose code and kind are known as the program runs.
-ghost use Rattle.std.specs.Prelude.{◌<◌, ℕ, IfOk, List, length, slice_index};
+ghost use Rattle.std.specs.Prelude.{◌<◌, ℕ, IfOk, IsTrue, List, length, slice_index};
 ghost use Rattle.cs_codec.specs.Columns.{cells_at};
 ghost use Rattle.cs_schema.specs.declared.cells.Value.{Value};
 ghost use Rattle.cs_schema.specs.declared.kinds.Code.{Code};
 ghost use Rattle.cs_schema.specs.declared.kinds.Kind.{Kind};
 ghost use Rattle.cs_schema.specs.Values.{values, kind_of};
 ghost use Rattle.cs_piece.specs.Columns.{CanEncode};
-ghost use Rattle.cs_piece.specs.Pieces.{IsPieceOf, PiecesFit, TellsFit, IsJoined, IsTextOf, IsShortTextOf};
+ghost use Rattle.cs_piece.specs.Pieces.{FitsAt, IsPieceOf, IsRunsTextAt, PiecesFit, StandPiecesApart, TellsFit, IsJoined, IsTextOf, IsShortTextOf};
 
 use cs_codec::ColumnEncoding;
 use cs_codec::bitmaps::{Bitmaps, BitmapsPart};
@@ -59,6 +59,29 @@ impl Piece {
             }
             (Piece::NoTexts, Piece::NoTexts) => true,
             _ => false,
+        }
+    }
+
+    /// Whether no run goes over from the piece to the next one, both under `Code::Runs`. Of a lone int it isn't told.
+    pub fn stands_apart(&self, next: &Piece) -> bool
+        ensures { IsTrue result → StandPiecesApart self.now next.now }
+    {
+        match (self, next) {
+            (Piece::IntRuns(part), Piece::IntRuns(next)) => part.stands_apart(next),
+            (Piece::TextRuns(part), Piece::TextRuns(next)) => part.stands_apart(next),
+            _ => false,
+        }
+    }
+
+    /// The text of a piece under `Code::Runs` in a column that has its first cell at a position, from 1.
+    pub fn runs_text_at(&self, alloc: Global, position: u32) -> Result<Vec<u8>, AllocError>
+        requires { FitsAt self.now position }
+        ensures { IfOk result (λ out. IsRunsTextAt self.now position out.items) }
+    {
+        match self {
+            Piece::IntRuns(part) => part.text_at(alloc, position),
+            Piece::TextRuns(part) => part.text_at(alloc, position),
+            _ => unreachable!(),
         }
     }
 

@@ -92,9 +92,9 @@ plain_grown before after text piece kind v w e written is held =
     ap joined e ∙ joined_push before text ∙ ap (λ x. x ++ text.items) held ∙ ap (λ x. column_text Code.Plain v ++ x) (written Code.Plain kind w is) ∙ sym (plain_joined v w)
 
 -- the texts of all pieces are the text of the column
-pub plain_whole : (code : Code) (kind : Kind) (v : List Value) (text : List ℕ) → code ≡ Code.Plain → text ≡ column_text Code.Plain v → IsColumnText code kind v text
-plain_whole code kind v text plain held =
-    let is : text ≡ column_text code v = held ∙ ap (λ x. column_text x v) (sym plain) in
+pub column_whole : (code known : Code) (kind : Kind) (v : List Value) (text : List ℕ) → code ≡ known → text ≡ column_text known v → IsColumnText code kind v text
+column_whole code known kind v text same held =
+    let is : text ≡ column_text code v = held ∙ ap (λ x. column_text x v) (sym same) in
     record { is = is; short = λ fits. short_text code kind v text fits is }
 
 -- the text of a piece alone is the text of the column that the piece stands for

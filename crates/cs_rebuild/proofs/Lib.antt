@@ -31,3 +31,4 @@ pub mod BuiltFiles
 pub mod PickedColumns
 pub mod FewRows
 pub mod PlacedCells
+pub mod RunTexts

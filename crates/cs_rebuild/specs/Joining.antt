@@ -1,12 +1,14 @@
 -- The pieces of a lost segment's columns, the texts that are written of them, and the file that takes these.
-use Rattle.std.specs.Prelude.{◌≡◌, ℕ, ◌-◌, ◌^◌, ◌<◌, List, length}
+use Rattle.std.specs.Prelude.{◌≡◌, ℕ, ◌+◌, ◌*◌, ◌^◌, ◌<◌, List, length, slice_get, None, Some}
 use Rattle.cs_schema.specs.declared.kinds.Code.{Code}
 use Rattle.cs_schema.specs.declared.kinds.Kind.{Kind}
 use Rattle.cs_schema.specs.declared.cells.Value.{Value}
-use Rattle.cs_schema.specs.CatalogData.{projection, code_at, kind_at}
-use Rattle.cs_codec.specs.ColumnText.{column_text, FitsColumn}
+use Rattle.cs_schema.specs.CatalogData.{code_at, kind_at}
+use Rattle.cs_schema.specs.Values.{value_eq}
+use Rattle.cs_codec.specs.ColumnText.{cell_bytes, column_text, FitsColumn}
+use Rattle.cs_codec.specs.Texts.{runs_text_from}
 use Rattle.cs_piece.specs.declared.pieces.Piece.{Piece}
-use Rattle.cs_piece.specs.Pieces.{IsPieceOf}
+use Rattle.cs_piece.specs.Pieces.{IsPieceOf, StandPiecesApart}
 use Rattle.cs_board.specs.Pieces.{AnswersInOrder}
 use Rattle.cs_segment.specs.Parts.{text_before}
 use Rattle.cs_rebuild.specs.Encoding.{base_at, cut_at, values_at}
@@ -21,6 +23,14 @@ pub record ArePiecesOf (work : LostSegment) (j : ℕ) (pieces : List Piece) : Ty
   pub count : length pieces ≡ work.per
   pub each : AnswersInOrder (IsPieceAt work j) pieces
 
+-- no run goes over from one of them to the next
+abbrev pub ArePiecesApart : List Piece → Type 0
+ArePiecesApart pieces = (k : ℕ) (piece next : Piece) → slice_get pieces k ≡ Some piece → slice_get pieces (k + 1) ≡ Some next → StandPiecesApart piece next
+
+-- it is what the k-th piece of the column of this number is in its text, where its values are runs
+abbrev pub IsRunsTextAt : LostSegment → ℕ → ℕ → List ℕ → Type 0
+IsRunsTextAt work j k text = text ≡ runs_text_from cell_bytes value_eq None (k * work.cut + 1) (values_at work.store.now.catalog.now work.p work.store.now.walked.rows j (cut_at work.cut work.numbers.now k))
+
 -- a text of these values, which is short where they fit the code
 pub record IsColumnText (code : Code) (kind : Kind) (v : List Value) (text : List ℕ) : Type 0 where
   pub is : text ≡ column_text code v
@@ -33,12 +43,3 @@ IsTextAt work j text = IsColumnText (code_at work.store.now.catalog.now work.p j
 -- the file holds so many columns, the first ones, and nothing behind them
 abbrev pub HoldsFirst : LostSegment → ℕ → ℕ → List ℕ → Type 0
 HoldsFirst work s count file = file ≡ text_before work.store.now.catalog.now work.p s (base_at work.store.now.catalog.now work.p work.store.now.walked.rows work.numbers.now) count
-
--- the number of the last column
-abbrev pub last_column : LostSegment → ℕ
-last_column work = length (projection work.store.now.catalog.now work.p).columns - 1
-
--- the file holds the columns before the last, and this is the text of the last
-pub record IsBegun (work : LostSegment) (s : ℕ) (file text : List ℕ) : Type 0 where
-  pub holds : HoldsFirst work s (last_column work) file
-  pub text_is : IsTextAt work (last_column work) text

@@ -1,6 +1,6 @@
-//! The walk of a plan that reads each column at its anchor: its rows are followed in pieces, and then each column
-//! is lent by the anchor's image, or copied once from its images in a thread of its own.
-ghost use Rattle.std.specs.Prelude.{◌≡◌, ◌<◌, ◌≤◌, ◌*◌, length, map, Ok, Err, IfOk, IfErr};
+//! The walk of a plan that reads each column at its anchor: its rows are followed in pieces, and beside each column is lent by
+//! the anchor's image, or copied once from its images in a thread of its own.
+ghost use Rattle.std.specs.Prelude.{◌≡◌, ◌<◌, ◌≤◌, ◌*◌, length, map, Ok, Err, IfOk, IfErr, OnOk};
 ghost use Rattle.cs_schema.specs.CatalogRules.{IsCatalog};
 ghost use Rattle.cs_store.specs.Fault.{MemoryOr};
 ghost use Rattle.cs_store.specs.declared.fault.Fault.{Fault as FaultData};
@@ -24,7 +24,7 @@ use cs_store::Fault;
 use rayon::prelude::*;
 use std::alloc::{AllocError, Global};
 use std::marker::Sync;
-use std::thread::Threads;
+use std::thread::{Threads, join_mut};
 
 /// The following of the anchor's rows along a plan, in pieces of `cut` rows.
 #[derive(Drop)]
@@ -122,8 +122,29 @@ fn anchor_table<'a, R: Threads + Sync>(
     Ok(Table::of_columns(columns, lent))
 }
 
+/// Follows all rows of the anchor, in pieces.
+fn follow_all<R: Threads + Sync, G: Gate + Sync>(
+    run: &Run<'_, R, G>,
+    walk: &PlanWalk<'_, '_>,
+    pieces: u32,
+) -> Result<(), Fault>
+    requires pieces { length (projection_rows walk.now.survivors.now.catalog (contents_of walk.now.survivors.now) walk.now.plan.now.anchor) ≤ pieces * run.now.cut }
+    ensures ok { OnOk result (walked walk.now.survivors.now.catalog (contents_of walk.now.survivors.now) walk.now.plan.now ≡ Ok (map (walked_row walk.now.survivors.now.catalog (contents_of walk.now.survivors.now) walk.now.plan.now) (projection_rows walk.now.survivors.now.catalog (contents_of walk.now.survivors.now) walk.now.plan.now.anchor))) }
+    ensures err { IfErr result (λ fault. MemoryOr fault ((at : Stray) × (walked walk.now.survivors.now.catalog (contents_of walk.now.survivors.now) walk.now.plan.now ≡ Err at) × (fault ≡ FaultData.Astray at.0 at.1 at.2))) }
+{
+    let work = FollowWork {
+        walk: &*walk,
+        cut: run.cut,
+        pieces,
+    };
+    match run.round(Round::Walk, &work) {
+        Ok(_done) => Ok(()),
+        Err(fault) => Err(fault),
+    }
+}
+
 /// The anchor's rows in the table's columns, where the plan reads each at the anchor. The gate is entered for each of the
-/// pieces, in which the rows are followed.
+/// pieces, in which the rows are followed; the columns are copied beside.
 pub fn walk_anchored<'a, R: Threads + Sync, G: Gate + Sync>(
     run: &Run<'_, R, G>,
     walk: &PlanWalk<'_, 'a>,
@@ -135,13 +156,22 @@ pub fn walk_anchored<'a, R: Threads + Sync, G: Gate + Sync>(
     ensures rows { IfOk result (λ rows. walked walk.now.survivors.now.catalog (contents_of walk.now.survivors.now) walk.now.plan.now ≡ Ok rows.rows) }
     ensures err { IfErr result (λ fault. MemoryOr fault ((at : Stray) × (walked walk.now.survivors.now.catalog (contents_of walk.now.survivors.now) walk.now.plan.now ≡ Err at) × (fault ≡ FaultData.Astray at.0 at.1 at.2))) }
 {
-    let work = FollowWork {
-        walk: &*walk,
-        cut: run.cut,
-        pieces,
-    };
-    match run.round(Round::Walk, &work) {
-        Ok(_done) => match anchor_table(run.rt, run.alloc, walk) {
+    // of a closure over a struct of references `join` says nothing
+    let (followed, table) = join_mut(
+        run.rt,
+        &mut || -> Result<(), Fault>
+            requires { length (projection_rows walk.now.survivors.now.catalog (contents_of walk.now.survivors.now) walk.now.plan.now.anchor) ≤ pieces * run.now.cut }
+            ensures ok { OnOk result (walked walk.entry.now.survivors.now.catalog (contents_of walk.entry.now.survivors.now) walk.entry.now.plan.now ≡ Ok (map (walked_row walk.entry.now.survivors.now.catalog (contents_of walk.entry.now.survivors.now) walk.entry.now.plan.now) (projection_rows walk.entry.now.survivors.now.catalog (contents_of walk.entry.now.survivors.now) walk.entry.now.plan.now.anchor))) }
+            ensures err { IfErr result (λ fault. MemoryOr fault ((at : Stray) × (walked walk.entry.now.survivors.now.catalog (contents_of walk.entry.now.survivors.now) walk.entry.now.plan.now ≡ Err at) × (fault ≡ FaultData.Astray at.0 at.1 at.2))) }
+        { follow_all(run, walk, pieces) },
+        &mut || -> Result<Table<'_>, AllocError>
+            requires { ReadsAnchorAlone walk.now.survivors.now.catalog walk.now.plan.now }
+            ensures kinds { IfOk result (HasTableKinds walk.entry.now.survivors.now.catalog) }
+            ensures rows { IfOk result (λ table. table.rows ≡ map (walked_row walk.entry.now.survivors.now.catalog (contents_of walk.entry.now.survivors.now) walk.entry.now.plan.now) (projection_rows walk.entry.now.survivors.now.catalog (contents_of walk.entry.now.survivors.now) walk.entry.now.plan.now.anchor)) }
+        { anchor_table(run.rt, run.alloc, walk) },
+    );
+    match followed {
+        Ok(()) => match table {
             Ok(table) => Ok(table),
             Err(_) => Err(Fault::Memory),
         },

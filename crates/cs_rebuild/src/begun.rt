@@ -3,7 +3,6 @@ ghost use Rattle.std.specs.Prelude.{◌≡◌, map, length, IfOk};
 ghost use Rattle.cs_schema.specs.CatalogData.{HasSegment};
 ghost use Rattle.cs_schema.specs.Order.{rows_of};
 ghost use Rattle.cs_schema.specs.Rows.{project};
-ghost use Rattle.cs_segment.specs.Growing.{joined};
 ghost use Rattle.cs_segment.specs.SegmentFile.{segment_text, base_of};
 ghost use Rattle.cs_delta.specs.DeltaFile.{delta_text, no_changes};
 ghost use Rattle.cs_rebuild.specs.Begun.{IsBegunAt, IsBegunFrom, IsBegunOn, begun_name};
@@ -25,30 +24,21 @@ use std::thread::Threads;
 /// A file of a lost segment that is begun.
 #[derive(Drop)]
 pub enum BegunFile {
-    /// The segment, up to its last column, and the text of that column.
-    Segment {
-        p: u16,
-        s: u16,
-        file: GrowingFile,
-        last: Vec<Vec<u8>>,
-    },
+    /// The segment, up to its digest.
+    Segment { p: u16, s: u16, file: GrowingFile },
     /// The delta of the segment, whole.
-    Delta {
-        p: u16,
-        s: u16,
-        bytes: Vec<u8>,
-    },
+    Delta { p: u16, s: u16, bytes: Vec<u8> },
 }
 
-/// The file of a lost segment up to its last column, and the text of that column. The run encodes the columns in one round.
+/// The file of a lost segment up to its digest. The run encodes the columns in one round.
 fn begin_segment<R: Threads + Sync, G: Gate + Sync>(
     run: &Run<'_, R, G>,
     store: &OrderedStore<'_>,
     p: u16,
     s: u16,
-) -> Result<(GrowingFile, Vec<Vec<u8>>), AllocError>
+) -> Result<GrowingFile, AllocError>
     requires segment { HasSegment store.now.catalog.now p s }
-    ensures { IfOk result (λ begun. IsBegunAt store.now p s begun.0 (joined begun.1.items)) }
+    ensures { IfOk result (IsBegunAt store.now p s) }
 {
     let _rules = store.catalog.projection_count();
     let segment = LostSegment::of(run.alloc, store, p, s, run.cut);
@@ -58,20 +48,18 @@ fn begin_segment<R: Threads + Sync, G: Gate + Sync>(
 }
 
 /// The file of a lost segment that was begun.
-fn end_segment<R: Threads + Sync, G: Gate + Sync>(
-    run: &Run<'_, R, G>,
+fn end_segment(
     store: &OrderedStore<'_>,
-    at: (u16, u16),
+    p: u16,
+    s: u16,
     file: GrowingFile,
-    last: Vec<Vec<u8>>,
 ) -> Result<Vec<u8>, AllocError>
-    requires segment { HasSegment store.now.catalog.now at.0 at.1 }
-    requires begun { IsBegunAt store.now at.0 at.1 file (joined last.items) }
-    ensures { IfOk result (λ bytes. bytes.items ≡ segment_text store.now.catalog.now at.0 at.1 (base_of store.now.catalog.now at.0 (map (project store.now.catalog.now at.0) (rows_of store.now.catalog.now (table_on store.now) at.0 at.1)))) }
+    requires segment { HasSegment store.now.catalog.now p s }
+    requires begun { IsBegunAt store.now p s file }
+    ensures { IfOk result (λ bytes. bytes.items ≡ segment_text store.now.catalog.now p s (base_of store.now.catalog.now p (map (project store.now.catalog.now p) (rows_of store.now.catalog.now (table_on store.now) p s)))) }
 {
     let _rules = store.catalog.projection_count();
-    let (p, s) = at;
-    LostSegment::of(run.alloc, store, p, s, run.cut).end(run, file, last)
+    file.finish()
 }
 
 /// The file of a lost segment's delta: it has no changes.
@@ -99,8 +87,8 @@ pub fn begin_file<R: Threads + Sync, G: Gate + Sync>(
 {
     match file {
         LostFile::Segment { p, s } => {
-            let (file, last) = begin_segment(run, store, p, s)?;
-            Ok(BegunFile::Segment { p, s, file, last })
+            let file = begin_segment(run, store, p, s)?;
+            Ok(BegunFile::Segment { p, s, file })
         }
         LostFile::Delta { p, s } => {
             let bytes = delta_bytes(run.alloc, store, p, s)?;
@@ -110,8 +98,7 @@ pub fn begin_file<R: Threads + Sync, G: Gate + Sync>(
 }
 
 /// A file that was begun, with its name.
-pub fn end_file<R: Threads + Sync, G: Gate + Sync>(
-    run: &Run<'_, R, G>,
+pub fn end_file(
     store: &OrderedStore<'_>,
     begun: BegunFile,
 ) -> Result<(FileName, Vec<u8>), AllocError>
@@ -119,8 +106,8 @@ pub fn end_file<R: Threads + Sync, G: Gate + Sync>(
     ensures { IfOk result (λ made. IsFileOf store.now (begun_name begun) made.0 made.1.items) }
 {
     match begun {
-        BegunFile::Segment { p, s, file, last } => {
-            let bytes = end_segment(run, store, (p, s), file, last)?;
+        BegunFile::Segment { p, s, file } => {
+            let bytes = end_segment(store, p, s, file)?;
             Ok((FileName::Seg { p, s }, bytes))
         }
         BegunFile::Delta { p, s, bytes } => Ok((FileName::Del { p, s }, bytes)),

@@ -1,17 +1,18 @@
 //! Making the file of a lost segment: its columns are encoded, joined and written one after the other, and the digest of the
-//! file takes each while the next is made.
+//! file takes each while the next is made, but for the last, which it takes at the end.
 ghost use Rattle.std.specs.Prelude.{◌≡◌, ◌<◌, ◌≤◌, ◌+◌, ◌-◌, ◌∷◌, ◌++◌, [], ℕ, length, IfOk, OnOk};
 ghost use Rattle.cs_schema.specs.declared.kinds.Code.{Code as CodeData};
 ghost use Rattle.cs_schema.specs.CatalogData.{projection, code_at, kind_at};
 ghost use Rattle.cs_piece.specs.Pieces.{IsPieceOf};
 ghost use Rattle.cs_segment.specs.Growing.{joined};
-ghost use Rattle.cs_segment.specs.SegmentFile.{IsBase, segment_text};
+ghost use Rattle.cs_segment.specs.SegmentFile.{IsBase};
 ghost use Rattle.cs_rebuild.specs.Encoding.{values_at, base_at};
-ghost use Rattle.cs_rebuild.specs.Joining.{ArePiecesOf, HoldsFirst, IsBegun, IsTextAt};
+ghost use Rattle.cs_rebuild.specs.Joining.{ArePiecesOf, HoldsFirst, IsTextAt};
 
 use crate::columns::table_column;
 use crate::encoding::LostSegment;
 use crate::run::Run;
+use crate::run_texts::are_apart;
 use cs_board::Gate;
 use cs_piece::{Piece, join_pieces, piece_text};
 use cs_schema::{Cells, Code};
@@ -119,10 +120,11 @@ impl LostSegment<'_> {
         ensures { IfOk result (λ text. IsTextAt self.now j (joined text.items)) }
     {
         let pieces = self.encode_column(run, j)?;
-        if self.store.catalog.code(self.p, j) == Code::Plain {
-            return self.plain_text(j, pieces);
+        match self.store.catalog.code(self.p, j) {
+            Code::Plain => self.plain_text(j, pieces),
+            Code::Runs if are_apart(&pieces) => self.runs_text(run.rt, j, &pieces),
+            _ => self.whole_text(j, pieces),
         }
-        self.whole_text(j, pieces)
     }
 
     /// Puts the text of the `j`-th column at the end of the file, behind those of the columns before it, while the digest takes
@@ -143,6 +145,19 @@ impl LostSegment<'_> {
         let code = catalog.code(self.p, j);
         let kind = catalog.column_kind(self.p, j);
         file.push_pieces(run.rt, code, kind, text)
+    }
+
+    /// The same, where the digest takes the text at the end of all.
+    fn put(&self, file: &mut GrowingFile, j: usize, text: Vec<Vec<u8>>) -> Result<(), AllocError>
+        requires column { j < length (projection self.now.store.now.catalog.now self.now.p).columns }
+        requires base { IsBase self.now.store.now.catalog.now self.now.p (base_at self.now.store.now.catalog.now self.now.p self.now.store.now.walked.rows self.now.numbers.now) }
+        requires text { IsTextAt self.now j (joined text.items) }
+        ensures { OnOk result ((s : ℕ) → HoldsFirst self.now s j file.old → HoldsFirst self.now s (j + 1) file.new) }
+    {
+        let catalog = self.store.catalog;
+        let code = catalog.code(self.p, j);
+        let kind = catalog.column_kind(self.p, j);
+        file.put_pieces(code, kind, text)
     }
 
     /// Puts the text of the column before the `next`-th into the file, and makes that of the `next`-th beside.
@@ -199,43 +214,32 @@ impl LostSegment<'_> {
         Ok(text)
     }
 
-    /// Puts the columns before the `count`-th into a file that holds none.
-    fn grow<R: Threads + Sync, G: Gate + Sync>(
-        &self,
-        run: &Run<'_, R, G>,
-        file: &mut GrowingFile,
-        count: usize,
-    ) -> Result<(), AllocError>
-        requires count { count ≤ length (projection self.now.store.now.catalog.now self.now.p).columns }
-        requires base { IsBase self.now.store.now.catalog.now self.now.p (base_at self.now.store.now.catalog.now self.now.p self.now.store.now.walked.rows self.now.numbers.now) }
-        ensures { OnOk result ((s : ℕ) → HoldsFirst self.now s 0 file.old → HoldsFirst self.now s count file.new) }
-    {
-        if count == 0 {
-            return Ok(());
-        }
-        let text = self.grow_up_to(run, file, count - 1)?;
-        self.push(run, file, count - 1, text)
-    }
-
-    /// Puts the columns before the last into a file that holds none, and makes the text of the last beside.
+    /// Puts the columns before a pair, the last and the one in front of it, into a file that holds none, and makes the texts of the
+    /// pair: that of the last from the start.
     fn grow_beside<R: Threads + Sync, G: Gate + Sync>(
         &self,
         run: &Run<'_, R, G>,
         file: &mut GrowingFile,
         last: usize,
-    ) -> (Result<(), AllocError>, Result<Vec<Vec<u8>>, AllocError>)
-        requires last { last < length (projection self.now.store.now.catalog.now self.now.p).columns }
+    ) -> (
+        Result<Vec<Vec<u8>>, AllocError>,
+        Result<Vec<Vec<u8>>, AllocError>,
+    )
+        requires last { (1 ≤ last) × (last < length (projection self.now.store.now.catalog.now self.now.p).columns) }
         requires base { IsBase self.now.store.now.catalog.now self.now.p (base_at self.now.store.now.catalog.now self.now.p self.now.store.now.walked.rows self.now.numbers.now) }
-        ensures file { OnOk result.0 ((s : ℕ) → HoldsFirst self.now s 0 file.old → HoldsFirst self.now s last file.new) }
+        ensures file { OnOk result.0 ((s : ℕ) → HoldsFirst self.now s 0 file.old → HoldsFirst self.now s (last - 1) file.new) }
+        ensures before { IfOk result.0 (λ made. IsTextAt self.now (last - 1) (joined made.items)) }
         ensures text { IfOk result.1 (λ made. IsTextAt self.now last (joined made.items)) }
     {
+        let before = last - 1;
         // of a closure over a struct of references `join` says nothing
         join_mut(
             run.rt,
-            &mut || -> Result<(), AllocError>
-                requires { (last < length (projection self.now.store.now.catalog.now self.now.p).columns) × IsBase self.now.store.now.catalog.now self.now.p (base_at self.now.store.now.catalog.now self.now.p self.now.store.now.walked.rows self.now.numbers.now) }
-                ensures { OnOk result ((s : ℕ) → HoldsFirst self.entry.now s 0 file.entry.now → HoldsFirst self.entry.now s last file.exit.now) }
-            { self.grow(run, file, last) },
+            &mut || -> Result<Vec<Vec<u8>>, AllocError>
+                requires { (before < length (projection self.now.store.now.catalog.now self.now.p).columns) × IsBase self.now.store.now.catalog.now self.now.p (base_at self.now.store.now.catalog.now self.now.p self.now.store.now.walked.rows self.now.numbers.now) }
+                ensures file { OnOk result ((s : ℕ) → HoldsFirst self.entry.now s 0 file.entry.now → HoldsFirst self.entry.now s before file.exit.now) }
+                ensures text { IfOk result (λ made. IsTextAt self.entry.now before (joined made.items)) }
+            { self.grow_up_to(run, file, before) },
             &mut || -> Result<Vec<Vec<u8>>, AllocError>
                 requires { last < length (projection self.now.store.now.catalog.now self.now.p).columns }
                 ensures { IfOk result (λ made. IsTextAt self.entry.now last (joined made.items)) }
@@ -243,59 +247,43 @@ impl LostSegment<'_> {
         )
     }
 
-    /// Puts the columns before the last into a file that holds none, and makes the text of the last: from the start, where that
-    /// takes long, so that the digest waits for no column.
-    fn grow_to_last<R: Threads + Sync, G: Gate + Sync>(
+    /// Puts all columns, up to the last, into a file that holds none. What takes long to make is made from the start, and no worker
+    /// waits for the digest of the last ones.
+    fn grow<R: Threads + Sync, G: Gate + Sync>(
         &self,
         run: &Run<'_, R, G>,
         file: &mut GrowingFile,
         last: usize,
-    ) -> Result<Vec<Vec<u8>>, AllocError>
+    ) -> Result<(), AllocError>
         requires last { last < length (projection self.now.store.now.catalog.now self.now.p).columns }
         requires base { IsBase self.now.store.now.catalog.now self.now.p (base_at self.now.store.now.catalog.now self.now.p self.now.store.now.walked.rows self.now.numbers.now) }
-        ensures file { OnOk result ((s : ℕ) → HoldsFirst self.now s 0 file.old → HoldsFirst self.now s last file.new) }
-        ensures text { IfOk result (λ made. IsTextAt self.now last (joined made.items)) }
+        ensures { OnOk result ((s : ℕ) → HoldsFirst self.now s 0 file.old → HoldsFirst self.now s (last + 1) file.new) }
     {
-        if is_slow(self.store.catalog.code(self.p, last)) {
-            let (grown, text) = self.grow_beside(run, file, last);
-            grown?;
-            return text;
+        if last > 0 && is_slow(self.store.catalog.code(self.p, last)) {
+            let (before, text) = self.grow_beside(run, file, last);
+            self.put(file, last - 1, before?)?;
+            return self.put(file, last, text?);
         }
-        self.grow_up_to(run, file, last)
+        let text = self.grow_up_to(run, file, last)?;
+        self.put(file, last, text)
     }
 
-    /// The file of the segment up to its last column, and the text of that column: all that is left to do needs no worker. A
-    /// column is let go of once its text stands in the file.
+    /// The file of the segment up to its digest, which may lack columns yet: to take them in needs no worker. A column is let go of
+    /// once its text stands in the file.
     pub fn begin<R: Threads + Sync, G: Gate + Sync>(
         &self,
         run: &Run<'_, R, G>,
         s: u16,
-    ) -> Result<(GrowingFile, Vec<Vec<u8>>), AllocError>
+    ) -> Result<GrowingFile, AllocError>
         requires base { IsBase self.now.store.now.catalog.now self.now.p (base_at self.now.store.now.catalog.now self.now.p self.now.store.now.walked.rows self.now.numbers.now) }
-        ensures { IfOk result (λ begun. IsBegun self.now s begun.0 (joined begun.1.items)) }
+        ensures { IfOk result (HoldsFirst self.now s (length (projection self.now.store.now.catalog.now self.now.p).columns)) }
     {
         let catalog = self.store.catalog;
         let rows = self.numbers.len() as u32;
         let mut file = GrowingFile::begin(self.alloc, catalog, self.p, s, rows)?;
         // else what stands there is copied each time that the file grows
         file.reserve(self.room())?;
-        let text = self.grow_to_last(run, &mut file, catalog.width(self.p) - 1)?;
-        Ok((file, text))
-    }
-
-    /// The file of the segment that was begun.
-    pub fn end<R: Threads + Sync, G: Gate + Sync>(
-        &self,
-        run: &Run<'_, R, G>,
-        file: GrowingFile,
-        text: Vec<Vec<u8>>,
-    ) -> Result<Vec<u8>, AllocError>
-        requires base { IsBase self.now.store.now.catalog.now self.now.p (base_at self.now.store.now.catalog.now self.now.p self.now.store.now.walked.rows self.now.numbers.now) }
-        requires begun { (s : ℕ) × IsBegun self.now s file (joined text.items) }
-        ensures { (s : ℕ) → IsBegun self.now s file (joined text.items) → IfOk result (λ bytes. bytes.items ≡ segment_text self.now.store.now.catalog.now self.now.p s (base_at self.now.store.now.catalog.now self.now.p self.now.store.now.walked.rows self.now.numbers.now)) }
-    {
-        let mut file = file;
-        self.push(run, &mut file, self.store.catalog.width(self.p) - 1, text)?;
-        file.finish()
+        self.grow(run, &mut file, catalog.width(self.p) - 1)?;
+        Ok(file)
     }
 }

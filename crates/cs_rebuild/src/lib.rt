@@ -42,6 +42,7 @@ mod recovery;
 mod rounds;
 mod rowwise;
 mod run;
+mod run_texts;
 mod shares;
 mod sound_store;
 mod surviving;

@@ -114,7 +114,7 @@ pub fn end_files<R: Threads + Sync, G: Gate + Sync>(
             |begun: BegunFile| -> Result<(FileName, Vec<u8>), AllocError>
                 requires begun { IsBegunOn store.now begun }
                 ensures { IfOk result (λ made. IsFileOf store.entry.now (begun_name begun) made.0 made.1.items) }
-            { end_file(run, store, begun) },
+            { end_file(store, begun) },
         )
         .collect::<Result<Vec<(FileName, Vec<u8>)>, AllocError>>(run.rt, run.alloc)?
 }
@@ -129,7 +129,7 @@ fn make_file<R: Threads + Sync, G: Gate + Sync>(
     ensures { IfOk result (λ made. IsFileOf store.now (name_of file) made.0 made.1.items) }
 {
     let begun = begin_file(run, store, file)?;
-    end_file(run, store, begun)
+    end_file(store, begun)
 }
 
 /// The files of the lost segments and of their deltas, with their names. Each is made in a thread where one is free: one thread

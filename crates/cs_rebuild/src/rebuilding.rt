@@ -35,10 +35,13 @@ fn rebuild_read<R: Threads + Sync, G: Gate + Sync>(
         Ok(survivors) => survivors,
         Err(fault) => return Err(fault),
     };
-    match order_store(run, catalog, loss, &survivors) {
-        Ok(store) => recover(run, store),
-        Err(fault) => Err(fault),
-    }
+    let store = match order_store(run, catalog, loss, &survivors) {
+        Ok(store) => store,
+        Err(fault) => return Err(fault),
+    };
+    let answer = recover(run, store);
+    survivors.release(run.rt);
+    answer
 }
 
 /// The same, of files that are read without a look at their digests, and then let go of.

@@ -182,6 +182,24 @@ impl GrowingFile {
         Ok(())
     }
 
+    /// As `push`, of a text that stands in pieces, one after the other. The digest takes them at the end of all. Each is let go of
+    /// once it is put.
+    pub fn put_pieces(
+        &mut self,
+        code: Code,
+        kind: Kind,
+        text: Vec<Vec<u8>>,
+    ) -> Result<(), AllocError>
+        requires { length (joined text.items) < 2 ^ 32 }
+        ensures { OnOk result (self.new ≡ self.old ++ body_part code kind (joined text.items)) }
+    {
+        self.open_part(code, kind, length_of(text.as_slice()))?;
+        for piece in text {
+            self.extend(&piece)?;
+        }
+        Ok(())
+    }
+
     /// The whole file: what stands there, and its digest.
     pub fn finish(self) -> Result<Vec<u8>, AllocError>
         ensures { IfOk result (λ out. out.items ≡ sealed self) }

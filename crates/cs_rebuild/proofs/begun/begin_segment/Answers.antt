@@ -2,7 +2,6 @@ use Rattle.std.proofs.Common.{sym}
 use Rattle.std.proofs.Crossing.{crosses}
 use denote.Param.Send.{sendable}
 use Rattle.rayon.proofs.ListFacts.{IfOk-then}
-use Rattle.cs_segment.specs.Growing.{joined}
 use Rattle.cs_segment.specs.SegmentFile.{IsBase}
 use Rattle.cs_rebuild.specs.Begun.{IsBegunOf}
 use Rattle.cs_rebuild.specs.Encoding.{base_at}
@@ -25,4 +24,4 @@ begin-requires g c =
 pub returns : goal.returns
 returns g c =
     let made = c.of-segment.ensures in
-    IfOk-then c.begin.result _ _ c.begin.ensures (λ begun h. on_segment (λ x p ns. IsBegunOf x p c.args.s ns begun.0 (joined begun.1.items)) made.store made.projection made.numbers (record { holds = h.holds; text_is = h.text_is }))
+    IfOk-then c.begin.result _ _ c.begin.ensures (λ file h. on_segment (λ x p ns. IsBegunOf x p c.args.s ns file) made.store made.projection made.numbers h)

@@ -1,8 +1,6 @@
 use Rattle.std.proofs.Common.{subst, ◌∙◌}
 use Rattle.std.specs.Prelude.{IfOk}
 use Rattle.std.specs.List.{AllZip}
-use Rattle.std.proofs.Crossing.{crosses}
-use denote.Param.Send.{sendable}
 use Rattle.rayon.specs.Lists.{vec_items}
 use Rattle.rayon.proofs.ListFacts.{IfOk-then}
 use Rattle.cs_rows.proofs.Collected.{zipped_as}
@@ -13,7 +11,7 @@ use Rattle.cs_rebuild.proofs.lost_files.end_files.Goals as goal
 
 pub collect-requires-clause-ready : goal.collect-requires-clause-ready
 collect-requires-clause-ready g c κs within =
-    rw (c.map.ensures.base, c.map.ensures.f, c.with_min_len.ensures.base, c.into_par_iter.ensures) (λ k d lt. ((c.requires.begun k d lt, (search (sendable, crosses) depth 40, search (sendable, crosses) depth 40)), λ y p. tt))
+    rw (c.map.ensures.base, c.map.ensures.f, c.with_min_len.ensures.base, c.into_par_iter.ensures) (λ k d lt. (c.requires.begun k d lt, λ y p. tt))
 
 module _ (g : Over) (c : goal.In_ok-collect g) where
   -- each file is made of what stands at its place

@@ -7,7 +7,7 @@ use Rattle.cs_segment.specs.Growing.{joined}
 use Rattle.cs_rebuild.specs.Encoding.{values_at, cut_at}
 use Rattle.cs_rebuild.specs.Joining.{IsPieceAt}
 use Rattle.cs_rebuild.proofs.Encodings.{all_cuts, none_of, one_more}
-use Rattle.cs_rebuild.proofs.JoinedColumns.{pieces_left, plain_begun, plain_grown, plain_whole}
+use Rattle.cs_rebuild.proofs.JoinedColumns.{column_whole, pieces_left, plain_begun, plain_grown}
 use Rattle.cs_rebuild.proofs.Rests.{left_but_one, taken}
 use Rattle.cs_rebuild.proofs.encoding.LostSegment.plain_text.Goals as goal
 
@@ -50,5 +50,5 @@ returns c =
     let C = w.store.now.catalog.now in
     let rows = w.store.now.walked.rows in
     let j = c.args.j in
-    plain_whole (code_at C w.p j) (kind_at C w.p j) (values_at C w.p rows j w.numbers.now) (joined c.loop.text.items) c.requires.plain
+    column_whole (code_at C w.p j) Code.Plain (kind_at C w.p j) (values_at C w.p rows j w.numbers.now) (joined c.loop.text.items) c.requires.plain
     (c.loop.invariant.text ∙ ap (column_text Code.Plain) (all_cuts C w.p rows j w.numbers.now w.cut w.per c.loop.counter w.cut_range.0 w.per_is (omega (arith, c.loop-test.false))))

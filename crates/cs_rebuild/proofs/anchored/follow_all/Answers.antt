@@ -1,22 +1,21 @@
-use Rattle.std.proofs.Common.{ap, sym, ◌∙◌, List, map, Ok}
+use Rattle.std.proofs.Common.{List, map}
 use Rattle.cs_schema.specs.Rows.{Row}
 use Rattle.cs_rows.specs.Survivors.{contents_of}
 use Rattle.cs_rows.specs.Walk.{At, Stray, is_astray, projection_rows, walked_row}
 use Rattle.cs_rebuild.proofs.AnchoredRows.{all_followed}
 use Rattle.cs_rebuild.proofs.Verdicts.{memory_or}
 use Rattle.cs_rebuild.proofs.WalkPieces.{first_astray}
-use Rattle.cs_rebuild.proofs.anchored.walk_anchored.Goals as goal
+use Rattle.cs_rebuild.proofs.anchored.follow_all.Goals as goal
 
-pub returns-in-Ok-anchor_table-clause-rows : goal.returns-in-Ok-anchor_table-clause-rows
-returns-in-Ok-anchor_table-clause-rows g c =
+pub returns-in-Ok-clause-ok : goal.returns-in-Ok-clause-ok
+returns-in-Ok-clause-ok g c =
     let C = c.args.walk.now.survivors.now.catalog in
     let S = contents_of c.args.walk.now.survivors.now in
     let P = c.args.walk.now.plan.now in
     all_followed C S P c.args.run.now.cut c.args.pieces c.requires.pieces c.in-Ok.ensures.ok.sound
-    ∙ ap (λ (l : List Row). Ok l) (sym c.in-Ok-anchor_table.ensures.rows)
 
-pub returns-clause-err : goal.returns-clause-err
-returns-clause-err g c =
+pub returns-in-Err-clause-err : goal.returns-in-Err-clause-err
+returns-in-Err-clause-err g c =
     let C = c.args.walk.now.survivors.now.catalog in
     let S = contents_of c.args.walk.now.survivors.now in
     let P = c.args.walk.now.plan.now in
