@@ -91,7 +91,7 @@ more {C} eq vs cs c are g =
     grown eq vs (vs ++ c ∷ []) cs (cs ++ 1 ∷ []) c are (omega (arith, are.aligned, length-append vs (c ∷ []), length-append cs (1 ∷ [])))
     (subst (λ (z : List (Run C)). Grows eq (zip_runs vs cs) z run) (sym (zip-append vs (c ∷ []) cs (1 ∷ []) are.aligned)) g)
 
-pub read_again : (xs : List ℕ) (k d e : ℕ) → k < length xs → get_or xs k d ≡ get_or xs k e
+read_again : (xs : List ℕ) (k d e : ℕ) → k < length xs → get_or xs k d ≡ get_or xs k e
 read_again [] k d e l = absurd (omega arith)
 read_again (x ∷ xs) zero d e l = refl
 read_again (x ∷ xs) (suc k) d e l = read_again xs k d e (omega arith)
@@ -153,7 +153,7 @@ behind {C} eq vs ws cs ds a b j =
     joined eq vs ws cs ds (vs ++ ws) (cs ++ ds) a b (omega (arith, a.aligned, b.aligned, length-append vs ws, length-append cs ds))
     (subst (λ (z : List (Run C)). Joins eq (zip_runs vs cs) (zip_runs ws ds) z) (sym (zip-append vs ws cs ds a.aligned)) j)
 
-pub begins_other_value : {C : Type 0} (eq : C → C → Bool) (t : IsTest eq) (v : C) (ws : List C) (ds : List ℕ) → (slice_get ws 0 ≡ Some v → ⊥) → BeginsOther eq v (zip_runs ws ds)
+begins_other_value : {C : Type 0} (eq : C → C → Bool) (t : IsTest eq) (v : C) (ws : List C) (ds : List ℕ) → (slice_get ws 0 ≡ Some v → ⊥) → BeginsOther eq v (zip_runs ws ds)
 begins_other_value eq t v [] ds other = tt
 begins_other_value eq t v (w ∷ ws) [] other = tt
 begins_other_value eq t v (w ∷ ws) (n ∷ ds) other = unequal eq t v w (λ e. other (ap Some (sym e)))
@@ -174,11 +174,11 @@ joined_no_more eq vs ws cs ds a b len = behind eq vs ws cs ds a b (joins_no_more
 
 -- ---- runs are written
 -- the run at a place, beside what was written before it
-pub written_next : {C : Type 0} (bytes : C → List ℕ) (eq : C → C → Bool) (vs : List C) (cs : List ℕ) (i start position : ℕ) (a b c d : List ℕ) → AreColumnsOfRuns eq vs cs → i < length cs → position ≡ start + length (expand (take i (zip_runs vs cs))) → a ≡ written_from bytes start (take i (zip_runs vs cs)) → ((v : C) → slice_get vs i ≡ Some v → b ≡ a ++ bytes v) → c ≡ b ++ number position → d ≡ c ++ number (get_or cs i 0) → d ≡ written_from bytes start (take (i + 1) (zip_runs vs cs))
-written_next {C} bytes eq vs cs i start position a b c d are lt p ea eb ec ed =
+pub written_next : {C : Type 0} (bytes : C → List ℕ) (eq : C → C → Bool) (vs : List C) (cs : List ℕ) (i position : ℕ) (a b c d : List ℕ) → AreColumnsOfRuns eq vs cs → i < length cs → position ≡ 1 + length (expand (take i (zip_runs vs cs))) → a ≡ written_from bytes 1 (take i (zip_runs vs cs)) → ((v : C) → slice_get vs i ≡ Some v → b ≡ a ++ bytes v) → c ≡ b ++ number position → d ≡ c ++ number (get_or cs i 0) → d ≡ written_from bytes 1 (take (i + 1) (zip_runs vs cs))
+written_next {C} bytes eq vs cs i position a b c d are lt p ea eb ec ed =
     let found = cell_at vs i (omega (arith, are.aligned)) in
     let run : Run C = record { value = found.cell; count = get_or cs i 0 } in
-    written-taken bytes (zip_runs vs cs) i run start position a b c d (omega (arith, length-zip vs cs are.aligned)) (get-zip vs cs i found.cell (get_or cs i 0) run found.is lt (read_again cs i 0 (get_or cs i 0) lt)) p ea (eb found.cell found.is) ec ed
+    written-taken bytes (zip_runs vs cs) i run position a b c d (omega (arith, length-zip vs cs are.aligned)) (get-zip vs cs i found.cell (get_or cs i 0) run found.is lt (read_again cs i 0 (get_or cs i 0) lt)) p ea (eb found.cell found.is) ec ed
 
 pub taken_longer : {C : Type 0} (eq : C → C → Bool) (vs : List C) (cs : List ℕ) (i : ℕ) → AreColumnsOfRuns eq vs cs → i < length cs → length (expand (take (i + 1) (zip_runs vs cs))) ≡ length (expand (take i (zip_runs vs cs))) + get_or cs i 0
 taken_longer {C} eq vs cs i are lt =

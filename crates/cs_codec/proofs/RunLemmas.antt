@@ -205,12 +205,12 @@ IsProper-at eq (r ∷ rs) (suc i) d h lt = IsProper-at eq rs i d h.2 (omega arit
 pub count_positive : {C : Type 0} (eq : C → C → Bool) (rs : List (Run C)) (i : ℕ) (r : Run C) → IsProper eq rs → i < length rs → r ≡ get_or rs i r → 0 < r.count
 count_positive {C} eq rs i r h lt e = subst (λ (s : Run C). 0 < s.count) (sym e) (IsProper-at eq rs i r h lt)
 
-pub written-taken : {C : Type 0} (bytes : C → List ℕ) (rs : List (Run C)) (i : ℕ) (r : Run C) (start position : ℕ) (a b c d : List ℕ) → i < length rs → r ≡ get_or rs i r → position ≡ start + length (expand (take i rs)) → a ≡ written_from bytes start (take i rs) → b ≡ a ++ bytes r.value → c ≡ b ++ number position → d ≡ c ++ number r.count → d ≡ written_from bytes start (take (i + 1) rs)
-written-taken {C} bytes rs i r start position a b c d lt e p ea eb ec ed =
+pub written-taken : {C : Type 0} (bytes : C → List ℕ) (rs : List (Run C)) (i : ℕ) (r : Run C) (position : ℕ) (a b c d : List ℕ) → i < length rs → r ≡ get_or rs i r → position ≡ 1 + length (expand (take i rs)) → a ≡ written_from bytes 1 (take i rs) → b ≡ a ++ bytes r.value → c ≡ b ++ number position → d ≡ c ++ number r.count → d ≡ written_from bytes 1 (take (i + 1) rs)
+written-taken {C} bytes rs i r position a b c d lt e p ea eb ec ed =
     let regroup : ((a ++ bytes r.value) ++ number position) ++ number r.count ≡ a ++ (bytes r.value ++ number position ++ number r.count) = simp append_assoc in
     let d-is : d ≡ a ++ (bytes r.value ++ number position ++ number r.count) = ed ∙ ap (λ (w : List ℕ). w ++ number r.count) (ec ∙ ap (λ (w : List ℕ). w ++ number position) eb) ∙ regroup in
     d-is
     ∙ ap (λ (w : List ℕ). w ++ (bytes r.value ++ number position ++ number r.count)) ea
-    ∙ ap (λ (n : ℕ). written_from bytes start (take i rs) ++ (bytes r.value ++ number n ++ number r.count)) p
-    ∙ sym (written-push bytes start (take i rs) r)
-    ∙ ap (λ (z : List (Run C)). written_from bytes start z) (sym (taken rs i r lt e))
+    ∙ ap (λ (n : ℕ). written_from bytes 1 (take i rs) ++ (bytes r.value ++ number n ++ number r.count)) p
+    ∙ sym (written-push bytes 1 (take i rs) r)
+    ∙ ap (λ (z : List (Run C)). written_from bytes 1 z) (sym (taken rs i r lt e))

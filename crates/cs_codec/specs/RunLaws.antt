@@ -55,13 +55,9 @@ Opens-none : {C : Type 0} (eq : C → C → Bool) (rs : List (Run C)) → Opens 
 Opens-none eq [] = tt
 Opens-none eq (r ∷ rs) = refl
 
--- the text of the cells of proper runs, in a column that has the first of them at a position
-pub text_from-opened : {C : Type 0} (bytes : C → List ℕ) (eq : C → C → Bool) (t : IsTest eq) (p : ℕ) (rs : List (Run C)) → IsProper eq rs → runs_text_from bytes eq None p (expand rs) ≡ written_from bytes p rs
-text_from-opened bytes eq t p rs h = text_from-expand bytes eq t None p rs h (Opens-none eq rs)
-
 -- the text of the cells of proper runs
 pub text-expand : {C : Type 0} (bytes : C → List ℕ) (eq : C → C → Bool) (t : IsTest eq) (rs : List (Run C)) → IsProper eq rs → runs_text bytes eq (expand rs) ≡ written_from bytes 1 rs
-text-expand bytes eq t rs h = text_from-opened bytes eq t 1 rs h
+text-expand bytes eq t rs h = text_from-expand bytes eq t None 1 rs h (Opens-none eq rs)
 
 -- ---- the runs of a list
 -- a cell before some runs

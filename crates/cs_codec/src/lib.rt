@@ -16,8 +16,8 @@ mod lists;
 mod numbered;
 pub mod numbers;
 pub mod plain;
+pub mod run_places;
 mod run_reading;
-mod run_writing;
 pub mod runs;
 
 pub use cell::Cell;

@@ -1,9 +1,8 @@
 //! Runs of equal cells.
-ghost use Rattle.std.specs.Prelude.{◌≡◌, ◌+◌, ◌-◌, ◌≤◌, ◌<◌, take, drop, slice_get, Some, None, [], ◌∷◌, ◌++◌, length, IfOk, IsTrue, OnOk};
+ghost use Rattle.std.specs.Prelude.{◌≡◌, ◌+◌, ◌-◌, ◌≤◌, ◌<◌, take, drop, slice_get, Some, [], ◌∷◌, ◌++◌, length, IfOk, OnOk};
 ghost use Rattle.cs_codec.specs.Encodings.{IsShort};
-ghost use Rattle.cs_codec.specs.Texts.{runs_text, runs_text_from};
+ghost use Rattle.cs_codec.specs.Texts.{runs_text};
 ghost use Rattle.cs_codec.specs.RunLaws.{runs_one_list};
-ghost use Rattle.cs_codec.specs.RunSeams.{StandApart};
 ghost use Rattle.cs_codec.specs.Runs.{expand, zip_runs, AreColumnsOfRuns};
 ghost use Rattle.cs_schema.specs.declared.kinds.Code.{Code};
 ghost use Rattle.cs_codec.specs.TextMaps.{runs_of_code};
@@ -11,8 +10,8 @@ ghost use Rattle.cs_codec.specs.TextMaps.{runs_of_code};
 use crate::cell::Cell;
 use crate::column::{Column, lone_bits};
 use crate::encoding::{CodecFault, ColumnEncoding};
+use crate::numbers::write_number;
 use crate::run_reading::read_column;
-use crate::run_writing::{write_lone, write_runs};
 use cs_schema::Code;
 use std::alloc::{AllocError, Global};
 use std::marker::{Model, PhantomData};
@@ -128,27 +127,47 @@ impl<C: Cell, L: Column<C>> RunsPart<C, L> {
         })
     }
 
-    /// Whether no run goes over from the part to the next one. Of a lone cell it isn't told.
-    pub fn stands_apart(&self, next: &Self) -> bool
-        ensures { IsTrue result → StandApart C.eq self.now next.now }
-    {
-        let runs = self.counts.len();
-        if runs == 0 || next.counts.is_empty() || self.lone.is_some() || next.lone.is_some() {
-            return false;
-        }
-        !self.values.same(runs - 1, &next.values, 0)
-    }
-
-    /// The text of the part's cells in a column that has the first of them at a position, from 1.
-    pub fn text_at(&self, alloc: Global, position: u32) -> Result<Vec<u8>, AllocError>
-        requires { position + length self.now ≤ 1048577 }
-        ensures { IfOk result (λ out. out.items ≡ runs_text_from C.bytes C.eq None position self.now) }
+    fn text(&self, alloc: Global) -> Result<Vec<u8>, AllocError>
+        ensures { IfOk result (λ out. out.items ≡ runs_text C.bytes C.eq self.now) }
     {
         match self.lone {
-            Some(bits) => write_lone(alloc, &C::from_bits(bits), position),
-            None => write_runs(alloc, &self.values, &self.counts, position),
+            Some(bits) => write_lone(alloc, &C::from_bits(bits)),
+            None => write_runs(alloc, &self.values, &self.counts),
         }
     }
+}
+
+/// The text of one cell.
+fn write_lone<C: Cell>(alloc: Global, value: &C) -> Result<Vec<u8>, AllocError>
+    ensures { IfOk result (λ out. out.items ≡ runs_text C.bytes C.eq (value.now ∷ [])) }
+{
+    let mut out = Vec::new(alloc);
+    value.write(&mut out)?;
+    write_number(&mut out, 1)?;
+    write_number(&mut out, 1)?;
+    Ok(out)
+}
+
+/// The text of the cells of some runs.
+fn write_runs<C: Cell, L: Column<C>>(
+    alloc: Global,
+    values: &L,
+    counts: &[u32],
+) -> Result<Vec<u8>, AllocError>
+    requires short { length (expand (zip_runs (L.cells values.now) counts.now)) ≤ 1048576 }
+    requires runs { AreColumnsOfRuns C.eq (L.cells values.now) counts.now }
+    ensures { IfOk result (λ out. out.items ≡ runs_text C.bytes C.eq (expand (zip_runs (L.cells values.now) counts.now))) }
+{
+    let numbers = counts.len().saturating_mul(8);
+    let mut out = Vec::with_capacity(alloc, values.size().saturating_add(numbers))?;
+    let mut position = 1;
+    for (at, count) in counts.iter().enumerate() {
+        values.write(at, &mut out)?;
+        write_number(&mut out, position)?;
+        write_number(&mut out, *count)?;
+        position += *count;
+    }
+    Ok(out)
 }
 
 /// Moves runs after the others. Where the first of them has the value of the last one, the two become one.
@@ -257,9 +276,7 @@ impl<C: Cell, L: Column<C>> ColumnEncoding<C, L> for Runs {
     }
 
     fn write(alloc: Global, part: &RunsPart<C, L>) -> Result<Vec<u8>, AllocError> {
-        // its cells are few
-        let _count = part.count;
-        part.text_at(alloc, 1)
+        part.text(alloc)
     }
 
     fn read(alloc: Global, bytes: &[u8], rows: u32) -> Result<L, CodecFault> {

@@ -2,4 +2,3 @@ pub mod Variants
 pub mod ShortTexts
 pub mod ColumnParts
 pub mod PieceLemmas
-pub mod RunPieces

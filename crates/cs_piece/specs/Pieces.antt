@@ -1,5 +1,5 @@
 -- What pieces stand for.
-use Rattle.std.specs.Prelude.{◌≡◌, ◌<◌, ◌≤◌, ◌+◌, ◌^◌, ◌↔◌, ℕ, Bool, IsTrue, None, List, [], ◌++◌, length, map, nat_eq}
+use Rattle.std.specs.Prelude.{◌≡◌, ◌<◌, ◌^◌, ◌↔◌, ℕ, Bool, IsTrue, List, [], ◌++◌, length, map, nat_eq}
 use Rattle.std.specs.Ordering.{nat_cmp, int_eq, int_cmp}
 use Rattle.std.specs.Cmp.Lexicographic.{pointwise, slice_cmp}
 use Rattle.cs_schema.specs.declared.kinds.Code.{Code}
@@ -10,10 +10,7 @@ use Rattle.cs_codec.specs.Plain.{IsPlainPart}
 use Rattle.cs_codec.specs.BitmapParts.{IsBitmapsPart}
 use Rattle.cs_piece.specs.declared.pieces.Piece.{Piece}
 use Rattle.cs_piece.specs.declared.pieces.Piece.TheVariants as pieces
-use Rattle.cs_codec.specs.ColumnText.{cell_bytes, column_text, FitsColumn}
-use Rattle.cs_codec.specs.RunSeams.{StandApart}
-use Rattle.cs_codec.specs.Texts.{runs_text_from}
-use Rattle.cs_schema.specs.Values.{value_eq}
+use Rattle.cs_codec.specs.ColumnText.{column_text, FitsColumn}
 use Rattle.cs_piece.specs.Columns.{CanEncode}
 
 abbrev pub code_of : Piece → Code
@@ -91,18 +88,3 @@ IsTextOf piece bytes = (code : Code) (kind : Kind) (v : List Value) → IsPieceO
 -- There are less than 2 ^ 32 of them, where the column fits.
 abbrev pub IsShortTextOf : Piece → List ℕ → Type 0
 IsShortTextOf piece bytes = (code : Code) (kind : Kind) (v : List Value) → IsPieceOf piece code kind v → FitsColumn code kind v → length bytes < 2 ^ 32
-
--- No run goes over from the values of the piece to those of the next one.
-abbrev pub StandPiecesApart : Piece → Piece → Type 0
-StandPiecesApart piece next = (code code' : Code) (kind kind' : Kind) (x y : List Value) → IsPieceOf piece code kind x → IsPieceOf next code' kind' y → StandApart value_eq x y
-
--- These bytes are what the piece's runs are in a column that has the first of its values at a position.
-abbrev pub IsRunsTextAt : Piece → ℕ → List ℕ → Type 0
-IsRunsTextAt piece position bytes = (kind : Kind) (v : List Value) → IsPieceOf piece Code.Runs kind v → bytes ≡ runs_text_from cell_bytes value_eq None position v
-
--- The piece has runs, of which the last cell's position is one of a column.
-pub record FitsAt (piece : Piece) (position : ℕ) : Type 0 where
-  pub kind : Kind
-  pub values : List Value
-  pub is : IsPieceOf piece Code.Runs kind values
-  pub within : position + length values ≤ 1048577

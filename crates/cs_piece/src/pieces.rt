@@ -1,17 +1,20 @@
 //! Pieces: parts of columns, whose code and kind are known as the program runs.
-ghost use Rattle.std.specs.Prelude.{◌<◌, ℕ, IfOk, IsTrue, List, length, slice_index};
+ghost use Rattle.std.specs.Prelude.{◌≡◌, ◌<◌, ◌≤◌, ℕ, IfOk, List, length, slice_index};
+ghost use Rattle.cs_codec.specs.ColumnText.{cell_bytes};
 ghost use Rattle.cs_codec.specs.Columns.{cells_at};
+ghost use Rattle.cs_codec.specs.RunParts.{part_text};
 ghost use Rattle.cs_schema.specs.declared.cells.Value.{Value};
 ghost use Rattle.cs_schema.specs.declared.kinds.Code.{Code};
 ghost use Rattle.cs_schema.specs.declared.kinds.Kind.{Kind};
-ghost use Rattle.cs_schema.specs.Values.{values, kind_of};
+ghost use Rattle.cs_schema.specs.Values.{values, kind_of, value_eq};
 ghost use Rattle.cs_piece.specs.Columns.{CanEncode};
-ghost use Rattle.cs_piece.specs.Pieces.{FitsAt, IsPieceOf, IsRunsTextAt, PiecesFit, StandPiecesApart, TellsFit, IsJoined, IsTextOf, IsShortTextOf};
+ghost use Rattle.cs_piece.specs.Pieces.{IsPieceOf, PiecesFit, TellsFit, IsJoined, IsTextOf, IsShortTextOf};
 
 use cs_codec::ColumnEncoding;
 use cs_codec::bitmaps::{Bitmaps, BitmapsPart};
 use cs_codec::differences::{Differences, DifferencesPart};
 use cs_codec::plain::{Plain, PlainPart, encode_at};
+use cs_codec::run_places::write_part;
 use cs_codec::runs::{Runs, RunsPart};
 use cs_schema::{Cells, Code, Texts, Word};
 use std::alloc::{AllocError, Global};
@@ -59,29 +62,6 @@ impl Piece {
             }
             (Piece::NoTexts, Piece::NoTexts) => true,
             _ => false,
-        }
-    }
-
-    /// Whether no run goes over from the piece to the next one, both under `Code::Runs`. Of a lone int it isn't told.
-    pub fn stands_apart(&self, next: &Piece) -> bool
-        ensures { IsTrue result → StandPiecesApart self.now next.now }
-    {
-        match (self, next) {
-            (Piece::IntRuns(part), Piece::IntRuns(next)) => part.stands_apart(next),
-            (Piece::TextRuns(part), Piece::TextRuns(next)) => part.stands_apart(next),
-            _ => false,
-        }
-    }
-
-    /// The text of a piece under `Code::Runs` in a column that has its first cell at a position, from 1.
-    pub fn runs_text_at(&self, alloc: Global, position: u32) -> Result<Vec<u8>, AllocError>
-        requires { FitsAt self.now position }
-        ensures { IfOk result (λ out. IsRunsTextAt self.now position out.items) }
-    {
-        match self {
-            Piece::IntRuns(part) => part.text_at(alloc, position),
-            Piece::TextRuns(part) => part.text_at(alloc, position),
-            _ => unreachable!(),
         }
     }
 
@@ -254,5 +234,25 @@ pub fn piece_text(alloc: Global, piece: Piece) -> Result<Vec<u8>, AllocError>
         Piece::PlainInts(part) => part.into_text(),
         Piece::PlainTexts(part) => part.into_text(),
         other => write_piece(alloc, &other),
+    }
+}
+
+/// The text of the runs that begin from one of the places of a column up to another, in the column of the cells at all places
+/// under `Code::Runs`. Nothing of the column is copied but what is written.
+pub fn write_runs(
+    alloc: Global,
+    column: &Cells,
+    places: &[u32],
+    from: usize,
+    to: usize,
+) -> Result<Vec<u8>, AllocError>
+    requires within { (k : ℕ) → k < length places.now → slice_index places.now k < length (values column.now) }
+    requires few { length places.now ≤ 1048576 }
+    requires order { (from ≤ to) × (to ≤ length places.now) }
+    ensures { IfOk result (λ out. out.items ≡ part_text cell_bytes value_eq (cells_at (values column.now) places.now) from to) }
+{
+    match column {
+        Cells::Ints(ints) => write_part::<i64, Vec<i64>>(alloc, ints, places, from, to),
+        Cells::Texts(texts) => write_part::<Word, Texts>(alloc, texts, places, from, to),
     }
 }

@@ -1,112 +1,67 @@
--- The texts of the pieces of a column of runs, of which none goes over from one piece to the next.
-use Rattle.std.proofs.Common.{◌≡◌, ℕ, zero, suc, ◌+◌, ◌-◌, ◌*◌, ◌/◌, ◌<◌, ◌≤◌, List, [], ◌∷◌, ◌++◌, take, drop, length, Bool, true, false, None, Some, refl, sym, ap, subst, ◌∙◌, append_assoc, arith}
+-- The parts of the text of a column of runs, one for each piece.
+use Rattle.std.proofs.Common.{◌≡◌, ℕ, suc, ◌+◌, ◌-◌, ◌*◌, ◌/◌, ◌<◌, ◌≤◌, min, List, [], ◌∷◌, ◌++◌, length, Some, refl, sym, ap, ◌∙◌, arith}
 use Rattle.std.specs.Global.{Vec}
-use Rattle.std.specs.Prelude.{nat_lt, slice_get, slice_index}
-use Rattle.std.proofs.lemmas.Bool.{false≢true}
-use Rattle.std.proofs.lemmas.Option.{same_Some}
-use borrow.Author.Tests.{ltb-true, lt-ltb}
-use Rattle.cs_piece.specs.declared.pieces.Piece.{Piece}
-use Rattle.cs_piece.specs.Pieces.{StandPiecesApart}
-use Rattle.std.specs.List.{AllZip, range_with_len}
-use Rattle.std.proofs.Math.Nat.{le-div_iff_mul-le}
-use Rattle.std.proofs.lemmas.List.{append-nil, length-map, length-take, length-drop}
+use Rattle.std.specs.List.{slice_get}
 use Rattle.cs_schema.specs.declared.cells.Value.{Value}
-use Rattle.cs_schema.specs.CatalogData.{CatalogData, projection}
-use Rattle.cs_schema.specs.Rows.{Row, cell}
 use Rattle.cs_schema.specs.Values.{value_eq}
 use Rattle.cs_codec.specs.ColumnText.{cell_bytes}
-use Rattle.cs_codec.specs.RunSeams.{StandApart, apart_behind, texts_follow}
-use Rattle.cs_codec.specs.Texts.{runs_text_from}
-use Rattle.cs_order.specs.Orders.{row_at}
+use Rattle.std.proofs.Math.Nat.{lt-div-mul-add}
+use Rattle.cs_codec.specs.RunParts.{part_none, part_text, parts_follow, whole_part}
+use Rattle.cs_codec.specs.Texts.{runs_text}
+use Rattle.cs_rebuild.specs.Encoding.{pieces_of}
 use Rattle.cs_segment.specs.Growing.{joined}
-use Rattle.cs_rebuild.specs.Encoding.{cut_at, pieces_of, values_at}
-use Rattle.cs_rebuild.proofs.Encodings.{first_cut, none_of, one_more}
 
--- the text of runs that begin at a position
-abbrev pub runs_at : ℕ → List Value → List ℕ
-runs_at p v = runs_text_from cell_bytes value_eq None p v
+module _ (v : List Value) (cut n : ℕ) where
+  -- where the k-th piece begins
+  abbrev pub starts : ℕ → ℕ
+  starts k = min (k * cut) n
 
--- a piece begins within the column
-pub starts_within : (cut per n k : ℕ) → 1 ≤ cut → per ≡ pieces_of n cut → k < per → k * cut ≤ n
-starts_within cut per n zero some e l = let x : 0 * cut ≡ 0 = grind arith in omega (arith, x)
-starts_within cut per n (suc k) some e l =
-    let more : suc k + 1 ≤ (n + cut - 1) / cut = omega (arith, e, l) in
-    let whole : (suc k + 1) * cut ≤ n + cut - 1 = (le-div_iff_mul-le (omega (arith, some))).0 more in
-    let one : (suc k + 1) * cut ≡ suc k * cut + cut = grind arith in
-    omega (arith, one, whole, some)
+  abbrev pub AreParts : ℕ → List (Vec ℕ) → Type 0
+  AreParts k texts = (i : ℕ) (text : Vec ℕ) → slice_get texts i ≡ Some text → text.items ≡ part_text cell_bytes value_eq v (min ((k + i) * cut) n) (min ((k + i) * cut + cut) n)
 
-module _ (C : CatalogData) (p : ℕ) (rows : List Row) (j : ℕ) (numbers : List ℕ) (cut : ℕ) where
-  abbrev pub piece_at : ℕ → List Value
-  piece_at k = values_at C p rows j (cut_at cut numbers k)
+  parts_from : (k : ℕ) (texts : List (Vec ℕ)) → AreParts k texts → joined texts ≡ part_text cell_bytes value_eq v (starts k) (starts (k + length texts))
+  parts_from k [] h =
+      let same : k + 0 ≡ k = omega arith in
+      sym (ap (λ m. part_text cell_bytes value_eq v (starts k) (starts m)) same ∙ part_none cell_bytes value_eq v (starts k))
+  parts_from k (t ∷ ts) h =
+      let here : t.items ≡ part_text cell_bytes value_eq v (min ((k + 0) * cut) n) (min ((k + 0) * cut + cut) n) = h 0 t refl in
+      let first : k + 0 ≡ k = omega arith in
+      let next : k * cut + cut ≡ (k + 1) * cut = grind arith in
+      let count : k + 1 + length ts ≡ k + suc (length ts) = omega arith in
+      let rest = parts_from (k + 1) ts (λ i text e. let place : k + suc i ≡ k + 1 + i = omega arith in h (suc i) text e ∙ ap (λ m. part_text cell_bytes value_eq v (min (m * cut) n) (min (m * cut + cut) n)) place) in
+      let low : k * cut ≤ (k + 1) * cut = omega (arith, next) in
+      let more : (k + 1) * cut ≤ (k + 1 + length ts) * cut = times (k + 1) (length ts) in
+      ap (λ w. w ++ joined ts) (here ∙ ap (λ m. part_text cell_bytes value_eq v (min (m * cut) n) (min (m * cut + cut) n)) first ∙ ap (λ m. part_text cell_bytes value_eq v (starts k) (min m n)) next)
+      ∙ ap (λ w. part_text cell_bytes value_eq v (starts k) (starts (k + 1)) ++ w) rest
+      ∙ parts_follow cell_bytes value_eq v (starts k) (starts (k + 1)) (starts (k + 1 + length ts)) (omega (arith, low)) (omega (arith, more))
+      ∙ ap (λ m. part_text cell_bytes value_eq v (starts k) (starts m)) count
+    where
+      times : (a b : ℕ) → a * cut ≤ (a + b) * cut
+      times a b = let x : (a + b) * cut ≡ a * cut + b * cut = grind arith in omega (arith, x)
 
-  abbrev front_at : ℕ → List Value
-  front_at k = values_at C p rows j (take (k * cut) numbers)
+  -- the parts of all pieces, one after the other
+  pub parts_joined : (texts : List (Vec ℕ)) → AreParts 0 texts → joined texts ≡ part_text cell_bytes value_eq v (min (0 * cut) n) (min (length texts * cut) n)
+  parts_joined texts h = let all : 0 + length texts ≡ length texts = omega arith in parts_from 0 texts h ∙ ap (λ m. part_text cell_bytes value_eq v (starts 0) (starts m)) all
 
-  length-front : (k : ℕ) → k * cut ≤ length numbers → length (front_at k) ≡ k * cut
-  length-front k l =
-      let a = length-map (take (k * cut) numbers) (λ r. cell (row_at rows r) (slice_index (projection C p).columns j)) in
-      let b = length-take (k * cut) numbers in
-      omega (arith, a, b, l)
+-- the pieces cover the column
+pub covered : (cut per n : ℕ) → 1 ≤ cut → per ≡ pieces_of n cut → n ≤ per * cut
+covered cut per n some e =
+    let q : ℕ = (n + cut - 1) / cut in
+    let l : n + cut - 1 < q * cut + cut = lt-div-mul-add (omega (arith, some)) in
+    let most : q ≤ per = omega (arith, e) in
+    let parts : q * cut + (per - q) * cut ≡ (q + (per - q)) * cut = grind arith in
+    let all : q + (per - q) ≡ per = omega (arith, most) in
+    let same : (q + (per - q)) * cut ≡ per * cut = ap (λ m. m * cut) all in
+    omega (arith, l, parts, same, some)
 
-  -- and ends there
-  pub piece_within : (k : ℕ) → k * cut ≤ length numbers → k * cut + length (piece_at k) ≤ length numbers
-  piece_within k l =
-      let a = length-map (cut_at cut numbers k) (λ r. cell (row_at rows r) (slice_index (projection C p).columns j)) in
-      let b = length-take cut (drop (k * cut) numbers) in
-      let d = length-drop (k * cut) numbers in
-      omega (arith, a, b, d, l)
-
-  -- the text of the first pieces, and of one more
-  one_written : (k : ℕ) (done text : List ℕ) → k * cut ≤ length numbers → ((i : ℕ) → k ≡ suc i → StandApart value_eq (piece_at i) (piece_at k)) → done ≡ runs_at 1 (front_at k) → text ≡ runs_at (k * cut + 1) (piece_at k) → done ++ text ≡ runs_at 1 (front_at (k + 1))
-  one_written zero done text l apart d t =
-      let none : 0 * cut + 1 ≡ 1 = grind arith in
-      ap (λ w. w ++ text) (d ∙ ap (runs_at 1) (none_of C p rows j numbers cut))
-      ∙ t ∙ ap (λ n. runs_at n (piece_at 0)) none ∙ ap (runs_at 1) (first_cut C p rows j numbers cut)
-  one_written (suc k) done text l apart d t =
-      let fronts = one_more C p rows j numbers cut k in
-      let next : k + 1 ≡ suc k = omega arith in
-      let front : front_at k ++ piece_at k ≡ front_at (suc k) = fronts ∙ ap front_at next in
-      let stand : StandApart value_eq (front_at (suc k)) (piece_at (suc k)) = subst (λ v. StandApart value_eq v (piece_at (suc k))) front (apart_behind value_eq (front_at k) (piece_at k) (piece_at (suc k)) (apart k refl)) in
-      let place : suc k * cut + 1 ≡ 1 + length (front_at (suc k)) = omega (arith, length-front (suc k) l) in
-      ap (λ w. w ++ text) d
-      ∙ ap (λ w. runs_at 1 (front_at (suc k)) ++ w) (t ∙ ap (λ n. runs_at n (piece_at (suc k))) place)
-      ∙ sym (texts_follow cell_bytes value_eq 1 (front_at (suc k)) (piece_at (suc k)) stand)
-      ∙ ap (runs_at 1) (one_more C p rows j numbers cut (suc k))
-
-  module _ (per : ℕ) (starts : (k : ℕ) → k < per → k * cut ≤ length numbers) (apart : (k : ℕ) → k + 1 < per → StandApart value_eq (piece_at k) (piece_at (k + 1))) where
-    abbrev AreTexts : ℕ → ℕ → List (Vec ℕ) → Type 0
-    AreTexts k n texts = AllZip (λ (i : ℕ) (text : Vec ℕ). text.items ≡ runs_at (i * cut + 1) (piece_at i)) (range_with_len k n) texts
-
-    all_written : (k n : ℕ) (done : List ℕ) (texts : List (Vec ℕ)) → AreTexts k n texts → k + n ≡ per → done ≡ runs_at 1 (front_at k) → done ++ joined texts ≡ runs_at 1 (front_at per)
-    all_written k zero done [] h e d =
-        let end : k ≡ per = omega (arith, e) in
-        append-nil done ∙ d ∙ ap (λ m. runs_at 1 (front_at m)) end
-    all_written k zero done (t ∷ ts) h e d = absurd h
-    all_written k (suc n) done [] h e d = absurd h
-    all_written k (suc n) done (t ∷ ts) h e d =
-        let below : k < per = omega (arith, e) in
-        let beside : (i : ℕ) → k ≡ suc i → StandApart value_eq (piece_at i) (piece_at k) = λ i same.
-        let next : i + 1 ≡ k = omega (arith, same) in
-        subst (λ m. StandApart value_eq (piece_at i) (piece_at m)) next (apart i (omega (arith, same, below))) in
-        sym (append_assoc done t.items (joined ts))
-        ∙ all_written (k + 1) n (done ++ t.items) ts h.1 (omega (arith, e)) (one_written k done t.items (starts k below) beside d h.0)
-
-    -- the texts of all pieces, one after the other
-    pub texts_joined : (texts : List (Vec ℕ)) → AreTexts 0 per texts → joined texts ≡ runs_at 1 (front_at per)
-    texts_joined texts h = all_written 0 per [] texts h (omega arith) (sym (ap (runs_at 1) (none_of C p rows j numbers cut)))
-
--- the pieces before one more stand apart
-pub apart_more : (pieces : List Piece) (k : ℕ) (here next : Piece) → slice_get pieces (k - 1) ≡ Some here → slice_get pieces k ≡ Some next → StandPiecesApart here next
-    → ((i : ℕ) (x y : Piece) → i + 1 < k → slice_get pieces i ≡ Some x → slice_get pieces (i + 1) ≡ Some y → StandPiecesApart x y)
-    → (i : ℕ) (x y : Piece) → i + 1 < k + 1 → slice_get pieces i ≡ Some x → slice_get pieces (i + 1) ≡ Some y → StandPiecesApart x y
-apart_more pieces k here next a b apart before i x y below at beside = go (nat_lt (i + 1) k) refl
-  where
-    go : (t : Bool) → nat_lt (i + 1) k ≡ t → StandPiecesApart x y
-    go true e = before i x y (ltb-true (i + 1) k e) at beside
-    go false e =
-        let over : i + 1 < k → ⊥ = λ l. false≢true (sym e ∙ lt-ltb (i + 1) k l) in
-        let last : i + 1 ≡ k = omega (arith, below, over) in
-        let place : i ≡ k - 1 = omega (arith, last) in
-        let left : here ≡ x = same_Some here x (sym a ∙ ap (slice_get pieces) (sym place) ∙ at) in
-        let right : next ≡ y = same_Some next y (sym b ∙ ap (slice_get pieces) (sym last) ∙ beside) in
-        subst (λ z. StandPiecesApart z y) left (subst (λ z. StandPiecesApart here z) right apart)
+-- and their parts are the text of all values
+pub parts_whole : (v : List Value) (cut per : ℕ) (texts : List (Vec ℕ)) → 1 ≤ cut → per ≡ pieces_of (length v) cut → length texts ≡ per → AreParts v cut (length v) 0 texts → joined texts ≡ runs_text cell_bytes value_eq v
+parts_whole v cut per texts some e count h =
+    let front : min (0 * cut) (length v) ≡ 0 = let x : 0 * cut ≡ 0 = grind arith in omega (arith, x) in
+    let enough = covered cut per (length v) some e in
+    let same : length texts * cut ≡ per * cut = ap (λ m. m * cut) count in
+    let back : min (length texts * cut) (length v) ≡ length v = omega (arith, enough, same) in
+    parts_joined v cut (length v) texts h
+    ∙ ap (λ m. part_text cell_bytes value_eq v m (min (length texts * cut) (length v))) front
+    ∙ ap (λ m. part_text cell_bytes value_eq v 0 m) back
+    ∙ whole_part cell_bytes value_eq v

@@ -1,14 +1,14 @@
 -- The pieces of a lost segment's columns, the texts that are written of them, and the file that takes these.
-use Rattle.std.specs.Prelude.{◌≡◌, ℕ, ◌+◌, ◌*◌, ◌^◌, ◌<◌, List, length, slice_get, None, Some}
+use Rattle.std.specs.Prelude.{◌≡◌, ℕ, ◌+◌, ◌*◌, ◌^◌, ◌<◌, min, List, length}
 use Rattle.cs_schema.specs.declared.kinds.Code.{Code}
 use Rattle.cs_schema.specs.declared.kinds.Kind.{Kind}
 use Rattle.cs_schema.specs.declared.cells.Value.{Value}
 use Rattle.cs_schema.specs.CatalogData.{code_at, kind_at}
 use Rattle.cs_schema.specs.Values.{value_eq}
 use Rattle.cs_codec.specs.ColumnText.{cell_bytes, column_text, FitsColumn}
-use Rattle.cs_codec.specs.Texts.{runs_text_from}
+use Rattle.cs_codec.specs.RunParts.{part_text}
 use Rattle.cs_piece.specs.declared.pieces.Piece.{Piece}
-use Rattle.cs_piece.specs.Pieces.{IsPieceOf, StandPiecesApart}
+use Rattle.cs_piece.specs.Pieces.{IsPieceOf}
 use Rattle.cs_board.specs.Pieces.{AnswersInOrder}
 use Rattle.cs_segment.specs.Parts.{text_before}
 use Rattle.cs_rebuild.specs.Encoding.{base_at, cut_at, values_at}
@@ -23,13 +23,9 @@ pub record ArePiecesOf (work : LostSegment) (j : ℕ) (pieces : List Piece) : Ty
   pub count : length pieces ≡ work.per
   pub each : AnswersInOrder (IsPieceAt work j) pieces
 
--- no run goes over from one of them to the next
-abbrev pub ArePiecesApart : List Piece → Type 0
-ArePiecesApart pieces = (k : ℕ) (piece next : Piece) → slice_get pieces k ≡ Some piece → slice_get pieces (k + 1) ≡ Some next → StandPiecesApart piece next
-
--- it is what the k-th piece of the column of this number is in its text, where its values are runs
-abbrev pub IsRunsTextAt : LostSegment → ℕ → ℕ → List ℕ → Type 0
-IsRunsTextAt work j k text = text ≡ runs_text_from cell_bytes value_eq None (k * work.cut + 1) (values_at work.store.now.catalog.now work.p work.store.now.walked.rows j (cut_at work.cut work.numbers.now k))
+-- it is the text of the runs that begin in the k-th piece of the column of this number
+abbrev pub IsRunsPart : LostSegment → ℕ → ℕ → List ℕ → Type 0
+IsRunsPart work j k text = text ≡ part_text cell_bytes value_eq (values_at work.store.now.catalog.now work.p work.store.now.walked.rows j work.numbers.now) (min (k * work.cut) (length work.numbers.now)) (min (k * work.cut + work.cut) (length work.numbers.now))
 
 -- a text of these values, which is short where they fit the code
 pub record IsColumnText (code : Code) (kind : Kind) (v : List Value) (text : List ℕ) : Type 0 where

@@ -51,4 +51,10 @@ impl<'a, R, G> Run<'a, R, G> {
         let lost = lost_count(store);
         lost > 0 && lost < self.workers && !affects_joins(store)
     }
+
+    /// Whether several files of lost segments are begun before surviving files are compared. Then their digests are made side by
+    /// side at the end, beside the comparing, and nothing waits for one; the digest of a lone file begins as early as it can.
+    pub(crate) fn makes_files_at_once(&self, store: &OrderedStore<'_>) -> bool {
+        lost_count(store) > 1 && self.compares_last(store)
+    }
 }

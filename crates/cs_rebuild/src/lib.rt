@@ -24,6 +24,7 @@ mod digests;
 mod encoding;
 mod files_of;
 mod groups;
+mod growing;
 mod held;
 mod in_turn;
 mod joined;

@@ -9,16 +9,26 @@ ghost use Rattle.cs_rebuild.specs.Reading.{AreSealed, as_read};
 
 use crate::digests::release_sealed;
 use crate::held::Held;
+use crate::ordered_store::OrderedStore;
 use crate::reading::{read_store, read_texts};
 use crate::recovering::recover;
 use crate::run::Run;
 use crate::verifying::order_store;
 use cs_board::Gate;
+use cs_order::Orders;
 use cs_rows::Survivors;
-use cs_schema::{Catalog, Loss};
+use cs_schema::{Catalog, Cells, Loss};
 use cs_store::{Fault, FileSet};
 use std::marker::Sync;
-use std::thread::{Threads, join_mut};
+use std::mem::drop;
+use std::thread::{Threads, join, join_mut};
+
+/// What a store has of its own: the columns that were made, and the orders.
+fn rows_of(store: OrderedStore<'_>) -> (Vec<Cells>, Orders) {
+    let OrderedStore { walked, orders, .. } = store;
+    let (made, _lent) = walked.into_columns();
+    (made, orders)
+}
 
 /// The files that recover what a safe loss takes from a store, of what was read of its survivors.
 fn rebuild_read<R: Threads + Sync, G: Gate + Sync>(
@@ -39,8 +49,14 @@ fn rebuild_read<R: Threads + Sync, G: Gate + Sync>(
         Ok(store) => store,
         Err(fault) => return Err(fault),
     };
-    let answer = recover(run, store);
-    survivors.release(run.rt);
+    let answer = recover(run, &store);
+    let (made, orders) = rows_of(store);
+    // the machine takes memory back page by page
+    join(
+        run.rt,
+        move || drop((made, orders)),
+        || survivors.release(run.rt),
+    );
     answer
 }
 

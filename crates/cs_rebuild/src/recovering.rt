@@ -56,44 +56,8 @@ fn verified_joins<R: Threads + Sync, G: Gate + Sync>(
     }
 }
 
-/// The same, and beside it the files of the lost segments: neither asks for the other, and the digest of a file is made by one
-/// core, however many are free.
-fn make_beside<R: Threads + Sync, G: Gate + Sync>(
-    run: &Run<'_, R, G>,
-    store: &OrderedStore<'_>,
-) -> (
-    Result<Vec<(FileName, Vec<u8>)>, Fault>,
-    Result<Vec<(FileName, Vec<u8>)>, AllocError>,
-)
-    requires read { (F : FileContents) × AreRead store.now.catalog.now F store.now.loss store.now.survivors.now }
-    requires ordered { AreOrdered store.now.catalog.now store.now.loss store.now.survivors.now store.now.walked store.now.orders }
-    ensures sound { IfOk result.0 (λ _. contradiction_on store.now ≡ None) }
-    ensures join_names { IfOk result.0 (λ made. map (λ file. file.0) made.items ≡ map join_name (affected_joins store.now.catalog.now store.now.loss)) }
-    ensures join_texts { IfOk result.0 (λ made. All (λ file. written_on store.now file.0 ≡ Some file.1.items) made.items) }
-    ensures err { IfErr result.0 (λ fault. MemoryOr fault (contradiction_on store.now ≡ Some fault)) }
-    ensures lost_names { IfOk result.1 (λ made. map (λ file. file.0) made.items ≡ lost_names store.now.catalog.now store.now.loss) }
-    ensures lost_texts { IfOk result.1 (λ made. All (λ file. written_on store.now file.0 ≡ Some file.1.items) made.items) }
-{
-    // of a closure over a struct of references `join` says nothing
-    join_mut(
-        run.rt,
-        &mut || -> Result<Vec<(FileName, Vec<u8>)>, Fault>
-            requires read { (F : FileContents) × AreRead store.now.catalog.now F store.now.loss store.now.survivors.now }
-            requires ordered { AreOrdered store.now.catalog.now store.now.loss store.now.survivors.now store.now.walked store.now.orders }
-            ensures sound { IfOk result (λ _. contradiction_on store.entry.now ≡ None) }
-            ensures names { IfOk result (λ made. map (λ file. file.0) made.items ≡ map join_name (affected_joins store.entry.now.catalog.now store.entry.now.loss)) }
-            ensures texts { IfOk result (λ made. All (λ file. written_on store.entry.now file.0 ≡ Some file.1.items) made.items) }
-            ensures err { IfErr result (λ fault. MemoryOr fault (contradiction_on store.entry.now ≡ Some fault)) }
-        { verified_joins(run, store) },
-        &mut || -> Result<Vec<(FileName, Vec<u8>)>, AllocError>
-            ensures names { IfOk result (λ made. map (λ file. file.0) made.items ≡ lost_names store.entry.now.catalog.now store.entry.now.loss) }
-            ensures texts { IfOk result (λ made. All (λ file. written_on store.entry.now file.0 ≡ Some file.1.items) made.items) }
-        { lost_files(run, store) },
-    )
-}
-
-/// The same, in another order: first the files of the lost segments are begun, by all workers, and then what survives is
-/// verified beside the ends of these, of which each is one thread's work.
+/// The same, and the files of the lost segments: first these are begun, by all workers, and then what survives is verified beside
+/// their ends, of which each is one thread's work.
 fn make_after<R: Threads + Sync, G: Gate + Sync>(
     run: &Run<'_, R, G>,
     store: &OrderedStore<'_>,
@@ -133,22 +97,57 @@ fn make_after<R: Threads + Sync, G: Gate + Sync>(
     )
 }
 
+/// The same, where it may be better that what survives is verified beside all of the making of the files: neither asks for the
+/// other, and the digest of a file is made by one core, however many are free.
+fn make_files<R: Threads + Sync, G: Gate + Sync>(
+    run: &Run<'_, R, G>,
+    store: &OrderedStore<'_>,
+) -> (
+    Result<Vec<(FileName, Vec<u8>)>, Fault>,
+    Result<Vec<(FileName, Vec<u8>)>, AllocError>,
+)
+    requires read { (F : FileContents) × AreRead store.now.catalog.now F store.now.loss store.now.survivors.now }
+    requires ordered { AreOrdered store.now.catalog.now store.now.loss store.now.survivors.now store.now.walked store.now.orders }
+    ensures sound { IfOk result.0 (λ _. contradiction_on store.now ≡ None) }
+    ensures join_names { IfOk result.0 (λ made. map (λ file. file.0) made.items ≡ map join_name (affected_joins store.now.catalog.now store.now.loss)) }
+    ensures join_texts { IfOk result.0 (λ made. All (λ file. written_on store.now file.0 ≡ Some file.1.items) made.items) }
+    ensures err { IfErr result.0 (λ fault. MemoryOr fault (contradiction_on store.now ≡ Some fault)) }
+    ensures lost_names { IfOk result.1 (λ made. map (λ file. file.0) made.items ≡ lost_names store.now.catalog.now store.now.loss) }
+    ensures lost_texts { IfOk result.1 (λ made. All (λ file. written_on store.now file.0 ≡ Some file.1.items) made.items) }
+{
+    if run.compares_last(store) {
+        return make_after(run, store);
+    }
+    // of a closure over a struct of references `join` says nothing
+    join_mut(
+        run.rt,
+        &mut || -> Result<Vec<(FileName, Vec<u8>)>, Fault>
+            requires read { (F : FileContents) × AreRead store.now.catalog.now F store.now.loss store.now.survivors.now }
+            requires ordered { AreOrdered store.now.catalog.now store.now.loss store.now.survivors.now store.now.walked store.now.orders }
+            ensures sound { IfOk result (λ _. contradiction_on store.entry.now ≡ None) }
+            ensures names { IfOk result (λ made. map (λ file. file.0) made.items ≡ map join_name (affected_joins store.entry.now.catalog.now store.entry.now.loss)) }
+            ensures texts { IfOk result (λ made. All (λ file. written_on store.entry.now file.0 ≡ Some file.1.items) made.items) }
+            ensures err { IfErr result (λ fault. MemoryOr fault (contradiction_on store.entry.now ≡ Some fault)) }
+        { verified_joins(run, store) },
+        &mut || -> Result<Vec<(FileName, Vec<u8>)>, AllocError>
+            ensures names { IfOk result (λ made. map (λ file. file.0) made.items ≡ lost_names store.entry.now.catalog.now store.entry.now.loss) }
+            ensures texts { IfOk result (λ made. All (λ file. written_on store.entry.now file.0 ≡ Some file.1.items) made.items) }
+        { lost_files(run, store) },
+    )
+}
+
 /// The files that a recovery writes, or the fault of the first surviving file that contradicts the table.
 pub fn recover<R: Threads + Sync, G: Gate + Sync>(
     run: &Run<'_, R, G>,
-    store: OrderedStore<'_>,
+    store: &OrderedStore<'_>,
 ) -> Result<FileSet, Fault>
-    requires read { (F : FileContents) × AreRead store.catalog.now F store.loss store.survivors.now }
-    requires ordered { AreOrdered store.catalog.now store.loss store.survivors.now store.walked store.orders }
-    ensures ok { IfOk result (λ out. (n : NameData) → contents_of out n ≡ written_on store.entry n) }
-    ensures sound { IfOk result (λ _. contradiction_on store.entry ≡ None) }
-    ensures err { IfErr result (λ fault. MemoryOr fault (contradiction_on store.entry ≡ Some fault)) }
+    requires read { (F : FileContents) × AreRead store.now.catalog.now F store.now.loss store.now.survivors.now }
+    requires ordered { AreOrdered store.now.catalog.now store.now.loss store.now.survivors.now store.now.walked store.now.orders }
+    ensures ok { IfOk result (λ out. (n : NameData) → contents_of out n ≡ written_on store.now n) }
+    ensures sound { IfOk result (λ _. contradiction_on store.now ≡ None) }
+    ensures err { IfErr result (λ fault. MemoryOr fault (contradiction_on store.now ≡ Some fault)) }
 {
-    let (joins, lost) = if run.compares_last(&store) {
-        make_after(run, &store)
-    } else {
-        make_beside(run, &store)
-    };
+    let (joins, lost) = make_files(run, store);
     let joins = match joins {
         Ok(joins) => joins,
         Err(fault) => return Err(fault),
@@ -157,7 +156,7 @@ pub fn recover<R: Threads + Sync, G: Gate + Sync>(
         Ok(lost) => lost,
         Err(_) => return Err(Fault::Memory),
     };
-    match put_together(run.alloc, &store, lost, joins) {
+    match put_together(run.alloc, store, lost, joins) {
         Ok(files) => Ok(files),
         Err(_) => Err(Fault::Memory),
     }

@@ -1,69 +1,85 @@
-//! The text of a column of runs whose pieces aren't joined: each is written by itself, with the positions that its runs have in
-//! the column.
-ghost use Rattle.std.specs.Prelude.{◌≡◌, ◌<◌, ◌+◌, ◌*◌, length, IfOk, IsTrue};
+//! The text of a column of runs: each piece of work writes the runs that begin in it, straight from the table's column.
+ghost use Rattle.std.specs.Prelude.{◌≡◌, ◌<◌, None, length, IfOk};
 ghost use Rattle.cs_schema.specs.declared.kinds.Code.{Code as CodeData};
 ghost use Rattle.cs_schema.specs.CatalogData.{projection, code_at};
 ghost use Rattle.cs_segment.specs.Growing.{joined};
-ghost use Rattle.cs_rebuild.specs.Joining.{ArePiecesApart, ArePiecesOf, IsPieceAt, IsRunsTextAt, IsTextAt};
+ghost use Rattle.cs_rebuild.specs.Joining.{IsRunsPart, IsTextAt};
+ghost use Rattle.cs_rebuild.specs.WorkLaws.{one_value};
 
+use crate::columns::table_column;
 use crate::encoding::LostSegment;
-use cs_piece::Piece;
-use rayon::prelude::*;
+use crate::rounds::Tasks;
+use crate::run::Run;
+use cs_board::Gate;
+use cs_piece::write_runs;
+use cs_store::Fault;
 use std::alloc::AllocError;
 use std::marker::Sync;
 use std::thread::Threads;
 
-/// Whether no run goes over from one of a column's pieces to the next.
-pub fn are_apart(pieces: &[Piece]) -> bool
-    ensures { IsTrue result → ArePiecesApart pieces.now }
-{
-    for k in 1..pieces.len() {
-        if !pieces[k - 1].stands_apart(&pieces[k]) {
-            return false;
+/// The writing of one of a segment's columns, which is one of runs.
+#[derive(Drop)]
+struct RunsWork<'a> {
+    segment: &'a LostSegment<'a>,
+    j: usize,
+    ghost column: { j < length (projection segment.now.store.now.catalog.now segment.now.p).columns },
+}
+
+impl Tasks for RunsWork<'_> {
+    type Out = Vec<u8>;
+
+    ghost tasks = { λ work. work.segment.now.per };
+
+    ghost fault_at = { λ work k fault. fault ≡ None };
+
+    ghost answers = { λ work k out. IsRunsPart work.segment.now work.j k out.items };
+
+    fn count(&self) -> u32 {
+        self.segment.per
+    }
+
+    fn task(&self, k: u32) -> Result<Vec<u8>, Fault> {
+        match self.segment.runs_part(self.j, k) {
+            Ok(text) => Ok(text),
+            Err(_) => Err(Fault::Memory),
         }
     }
-    true
+
+    ghost one_fault = { λ work k f g below a b. one_value None f g a b };
 }
 
 impl LostSegment<'_> {
-    /// The text of the k-th piece of a column of runs, in the column.
-    fn run_text(&self, j: usize, k: u32, piece: &Piece) -> Result<Vec<u8>, AllocError>
+    /// The text of the runs of a column that begin in its k-th piece.
+    fn runs_part(&self, j: usize, k: u32) -> Result<Vec<u8>, AllocError>
         requires column { j < length (projection self.now.store.now.catalog.now self.now.p).columns }
-        requires runs { code_at self.now.store.now.catalog.now self.now.p j ≡ CodeData.Runs }
-        requires place { k < self.now.per }
-        requires piece { IsPieceAt self.now j k piece.now }
-        ensures { IfOk result (λ out. IsRunsTextAt self.now j k out.items) }
+        ensures { IfOk result (λ out. IsRunsPart self.now j k out.items) }
     {
-        piece.runs_text_at(self.alloc, k * self.cut + 1)
+        let column = self
+            .store
+            .walked
+            .column(table_column(self.store.catalog, self.p, j));
+        let rows = self.numbers.len();
+        let from = (k as usize * self.cut as usize).min(rows);
+        let to = (from + self.cut as usize).min(rows);
+        write_runs(self.alloc, column, self.numbers, from, to)
     }
 
-    /// The text of a column of runs, of which none goes over from one piece to the next: that of each piece, made in a thread
-    /// where one is free.
-    pub fn runs_text<R: Threads + Sync>(
+    /// The text of a column of runs, in parts that follow one another.
+    pub fn runs_text<R: Threads + Sync, G: Gate + Sync>(
         &self,
-        rt: &R,
+        run: &Run<'_, R, G>,
         j: usize,
-        pieces: &[Piece],
     ) -> Result<Vec<Vec<u8>>, AllocError>
         requires column { j < length (projection self.now.store.now.catalog.now self.now.p).columns }
         requires runs { code_at self.now.store.now.catalog.now self.now.p j ≡ CodeData.Runs }
-        requires pieces { ArePiecesOf self.now j pieces.now }
-        requires apart { ArePiecesApart pieces.now }
         ensures { IfOk result (λ text. IsTextAt self.now j (joined text.items)) }
     {
-        (0..pieces.len())
-            .into_par_iter()
-            // a piece is worth a thread
-            .with_min_len(1)
-            .map(
-                |k: usize| -> Result<Vec<u8>, AllocError>
-                    requires place { k < length pieces.now }
-                    requires column { j < length (projection self.now.store.now.catalog.now self.now.p).columns }
-                    requires runs { code_at self.now.store.now.catalog.now self.now.p j ≡ CodeData.Runs }
-                    requires pieces { ArePiecesOf self.now j pieces.now }
-                    ensures { IfOk result (λ out. IsRunsTextAt self.entry.now j k out.items) }
-                { self.run_text(j, k as u32, &pieces[k]) },
-            )
-            .collect::<Result<Vec<Vec<u8>>, AllocError>>(rt, self.alloc)?
+        // columns are few
+        let _width = self.store.catalog.width(self.p);
+        let work = RunsWork { segment: self, j };
+        match run.part((j as u32).wrapping_mul(self.per), &work) {
+            Ok(texts) => Ok(texts),
+            Err(_) => Err(AllocError),
+        }
     }
 }

@@ -1,28 +1,30 @@
-//! A segment's file that grows, with its digest made beside: a digest is a chain, so it takes each column as that is put.
+//! A segment's file that grows. Columns that need no digest yet wait behind it, so that to put them takes no time.
 ghost use Rattle.std.specs.Prelude.{◌≡◌, ◌++◌, ◌<◌, ◌^◌, ℕ, List, length, IfOk, OnOk};
 ghost use Rattle.cs_schema.specs.CatalogData.{projection};
 ghost use Rattle.cs_segment.specs.SegmentFile.{sealed};
 ghost use Rattle.cs_segment.specs.Parts.{head_text};
 ghost use Rattle.cs_segment.specs.Bodies.{body_part, part_front};
 ghost use Rattle.cs_segment.specs.Growing.{joined};
-ghost use Rattle.cs_digests.specs.Growing.{HasTaken, HasTakenAll};
 
-use crate::seal::DIGEST;
+use crate::digested::DigestedText;
 use crate::segment::{code_number, kind_number};
-use cs_digests::GrowingDigest;
 use cs_schema::{Catalog, Code, Kind};
 use std::alloc::{AllocError, Global};
 use std::marker::Model;
-use std::thread::{Threads, join_mut};
+use std::mem::replace;
+use std::thread::Threads;
 
-/// How many bytes are worth the start of a thread.
-const WORTH_THREADS: usize = 65_536;
+/// How many bytes stand before the text of a column.
+const FRONT: usize = 6;
 
 /// What stands in a segment's file so far.
 #[derive(Drop)]
 pub struct GrowingFile {
-    text: Vec<u8>,
-    digest: GrowingDigest,
+    alloc: Global,
+    /// What stands at the front, in one piece.
+    front: DigestedText,
+    /// What follows it, in pieces.
+    waiting: Vec<Vec<u8>>,
 }
 
 impl Model for GrowingFile {
@@ -30,11 +32,9 @@ impl Model for GrowingFile {
 
     ghost Value = { List ℕ };
 
-    ghost use Rattle.cs_segment.specs.Growing.{text_of, IsDigested};
+    ghost use Rattle.cs_segment.specs.Growing.{file_of};
 
-    ghost view = { text_of };
-
-    ghost invariant = { IsDigested };
+    ghost view = { file_of };
 }
 
 /// The head of a segment's file.
@@ -58,6 +58,18 @@ fn head_of(
     Ok(out)
 }
 
+/// What stands before the text of a column: its code, its kind, and how many bytes the text has.
+fn front_of(alloc: Global, code: Code, kind: Kind, length: usize) -> Result<Vec<u8>, AllocError>
+    requires { length < 2 ^ 32 }
+    ensures { IfOk result (λ out. out.items ≡ part_front code kind length) }
+{
+    let mut out = Vec::new(alloc);
+    out.push(code_number(code))?;
+    out.push(kind_number(kind))?;
+    out.extend_from_slice(&(length as u32).to_be_bytes())?;
+    Ok(out)
+}
+
 /// How many bytes the pieces of a text have together.
 fn length_of(text: &[Vec<u8>]) -> usize
     requires { length (joined text.now) < 2 ^ 32 }
@@ -70,29 +82,53 @@ fn length_of(text: &[Vec<u8>]) -> usize
     length
 }
 
-/// Puts bytes at the end of a text while its digest takes them, and what was left.
-fn extend_both<R: Threads>(
-    rt: &R,
-    text: &mut Vec<u8>,
-    digest: &mut GrowingDigest,
-    bytes: &[u8],
-) -> Result<(), AllocError>
-    requires { HasTaken digest.old text.old.items }
-    ensures text { OnOk result (text.new.items ≡ text.old.items ++ bytes.now) }
-    ensures digest { HasTaken digest.new (text.old.items ++ bytes.now) }
+/// About how many bytes pieces have together.
+fn room_of(pieces: &[Vec<u8>]) -> usize {
+    let mut room: usize = 0;
+    for piece in pieces {
+        room = room.saturating_add(piece.len());
+    }
+    room
+}
+
+/// Puts pieces at the end of a text, one after the other, and has its digest take each. Each is let go of once it is put.
+fn put_pieces_of(text: &mut DigestedText, pieces: Vec<Vec<u8>>) -> Result<(), AllocError>
+    ensures { OnOk result (text.new ≡ text.old ++ joined pieces.items) }
 {
-    digest.take_in(text);
-    let (put, _) = join_mut(
-        rt,
-        &mut || -> Result<(), AllocError>
-            ensures { OnOk result (text.exit.now.items ≡ text.entry.now.items ++ bytes.entry.now) }
-        { text.extend_from_slice(bytes) },
-        &mut || -> ()
-            requires { (m : List ℕ) × HasTakenAll digest.now m }
-            ensures { (m : List ℕ) → HasTakenAll digest.entry.now m → HasTaken digest.exit.now (m ++ bytes.entry.now) }
-        { digest.take_more(bytes) },
-    );
-    put
+    text.reserve(room_of(pieces.as_slice()))?;
+    for piece in pieces {
+        text.extend(&piece)?;
+        text.digest_all();
+    }
+    Ok(())
+}
+
+/// Puts pieces at the end of a text while its digest takes each. Each is let go of once it is put.
+fn put_pieces_beside<R: Threads>(
+    rt: &R,
+    text: &mut DigestedText,
+    pieces: Vec<Vec<u8>>,
+) -> Result<(), AllocError>
+    ensures { OnOk result (text.new ≡ text.old ++ joined pieces.items) }
+{
+    for piece in pieces {
+        text.extend_beside(rt, &piece)?;
+    }
+    Ok(())
+}
+
+/// Puts what waits at the end of a text, and behind it what stands before the text of a column.
+fn open_part(
+    text: &mut DigestedText,
+    waiting: Vec<Vec<u8>>,
+    front: &[u8],
+    length: usize,
+) -> Result<(), AllocError>
+    ensures { OnOk result (text.new ≡ text.old ++ joined waiting.items ++ front.now) }
+{
+    put_pieces_of(text, waiting)?;
+    text.reserve(length.saturating_add(FRONT))?;
+    text.extend(front)
 }
 
 impl GrowingFile {
@@ -108,8 +144,9 @@ impl GrowingFile {
         ensures { IfOk result (λ file. file ≡ head_text p s rows (length (projection catalog.now p).columns)) }
     {
         Ok(GrowingFile {
-            text: head_of(alloc, catalog, p, s, rows)?,
-            digest: GrowingDigest::new(),
+            alloc,
+            front: DigestedText::new(head_of(alloc, catalog, p, s, rows)?),
+            waiting: Vec::new(alloc),
         })
     }
 
@@ -117,26 +154,7 @@ impl GrowingFile {
     pub fn reserve(&mut self, bytes: usize) -> Result<(), AllocError>
         ensures { self.new ≡ self.old }
     {
-        self.text.reserve(bytes)
-    }
-
-    /// Puts what stands before the text of a column: its code, its kind, and how many bytes the text has.
-    fn open_part(&mut self, code: Code, kind: Kind, length: usize) -> Result<(), AllocError>
-        requires { length < 2 ^ 32 }
-        ensures { OnOk result (self.new ≡ self.old ++ part_front code kind length) }
-    {
-        // so that the digest behind the last part finds room too
-        self.text.reserve(length.saturating_add(6 + DIGEST))?;
-        self.text.push(code_number(code))?;
-        self.text.push(kind_number(kind))?;
-        self.text.extend_from_slice(&(length as u32).to_be_bytes())
-    }
-
-    /// Puts bytes at the end.
-    fn extend(&mut self, bytes: &[u8]) -> Result<(), AllocError>
-        ensures { OnOk result (self.new ≡ self.old ++ bytes.now) }
-    {
-        self.text.extend_from_slice(bytes)
+        self.front.reserve(bytes)
     }
 
     /// Puts the part of a column, of which this is the text, at the end. A refusal may leave the beginning of the part there.
@@ -144,23 +162,11 @@ impl GrowingFile {
         requires { length text.now < 2 ^ 32 }
         ensures { OnOk result (self.new ≡ self.old ++ body_part code kind text.now) }
     {
-        self.open_part(code, kind, text.len())?;
-        self.extend(text)
-    }
-
-    /// Puts bytes at the end while the digest takes them.
-    fn extend_beside<R: Threads>(&mut self, rt: &R, bytes: &[u8]) -> Result<(), AllocError>
-        ensures { OnOk result (self.new ≡ self.old ++ bytes.now) }
-    {
-        if bytes.len() < WORTH_THREADS {
-            return self.extend(bytes);
-        }
-        let put = extend_both(rt, &mut self.text, &mut self.digest, bytes);
-        if put.is_err() {
-            // the digest took what does not stand there
-            self.digest = GrowingDigest::new();
-        }
-        put
+        let length = text.len();
+        let front = front_of(self.alloc, code, kind, length)?;
+        let waiting = replace(&mut self.waiting, Vec::new(self.alloc));
+        open_part(&mut self.front, waiting, &front, length)?;
+        self.front.extend(text)
     }
 
     /// As `push`, of a text that stands in pieces, one after the other, while the digest takes each. Each is let go of once it
@@ -175,15 +181,15 @@ impl GrowingFile {
         requires { length (joined text.items) < 2 ^ 32 }
         ensures { OnOk result (self.new ≡ self.old ++ body_part code kind (joined text.items)) }
     {
-        self.open_part(code, kind, length_of(text.as_slice()))?;
-        for piece in text {
-            self.extend_beside(rt, &piece)?;
-        }
-        Ok(())
+        let length = length_of(text.as_slice());
+        let front = front_of(self.alloc, code, kind, length)?;
+        let waiting = replace(&mut self.waiting, Vec::new(self.alloc));
+        open_part(&mut self.front, waiting, &front, length)?;
+        put_pieces_beside(rt, &mut self.front, text)
     }
 
-    /// As `push`, of a text that stands in pieces, one after the other. The digest takes them at the end of all. Each is let go of
-    /// once it is put.
+    /// As `push`, of a text that stands in pieces, one after the other. They wait, and no byte of them is looked at until the
+    /// next push or the end.
     pub fn put_pieces(
         &mut self,
         code: Code,
@@ -193,21 +199,19 @@ impl GrowingFile {
         requires { length (joined text.items) < 2 ^ 32 }
         ensures { OnOk result (self.new ≡ self.old ++ body_part code kind (joined text.items)) }
     {
-        self.open_part(code, kind, length_of(text.as_slice()))?;
-        for piece in text {
-            self.extend(&piece)?;
-        }
-        Ok(())
+        let front = front_of(self.alloc, code, kind, length_of(text.as_slice()))?;
+        let mut text = text;
+        self.waiting.push(front)?;
+        self.waiting.append(&mut text)
     }
 
     /// The whole file: what stands there, and its digest.
     pub fn finish(self) -> Result<Vec<u8>, AllocError>
         ensures { IfOk result (λ out. out.items ≡ sealed self) }
     {
-        let GrowingFile { text, digest } = self;
-        let mut text = text;
-        let end = digest.digest(&text);
-        text.extend_from_slice(&end)?;
-        Ok(text)
+        let GrowingFile { front, waiting, .. } = self;
+        let mut front = front;
+        put_pieces_of(&mut front, waiting)?;
+        front.sealed()
     }
 }

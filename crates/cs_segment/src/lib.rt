@@ -6,6 +6,7 @@
 
 pub mod bodies;
 pub mod bytes;
+mod digested;
 pub mod fault;
 pub mod growing;
 pub mod laws;

@@ -1,6 +1,0 @@
-use Rattle.std.proofs.Common.{◌≡◌, ◌++◌}
-use Rattle.cs_segment.specs.Growing.{joined}
-use Rattle.cs_segment.proofs.growing.GrowingFile.push_pieces.Given as goal
-
-abbrev pub invariant-loop-piece : goal.invariant-loop-piece
-invariant-loop-piece g l = l.self ≡ l.initial.self ++ joined l.yielded
