@@ -1,7 +1,9 @@
 //! Pieces of columns: their texts in each code, and which of them join.
+ghost use Rattle.std.specs.Prelude.{◌≤◌};
+
 use crate::made::are_made;
 use cs_codec::encoding::CodecFault;
-use cs_piece::{Piece, encode_piece, join_pieces, read_column, write_piece};
+use cs_piece::{Piece, encode_piece, join_pieces, read_column, write_piece, write_runs};
 use cs_schema::{Code, Kind};
 use std::alloc::{AllocError, Global};
 
@@ -64,20 +66,23 @@ fn runs_merge_where_pieces_join_with_ample_memory(rt: HostRuntime) {
     assert!(rt; are_made(text_of(alloc, whole), &[1, 97, 0, 0, 0, 1, 0, 0, 0, 2]));
 }
 
-/// The piece of runs of one text.
-fn run_of(alloc: Global, bytes: &[u8]) -> Result<Piece, CodecFault> {
-    let one = read_column(alloc, Code::Plain, Kind::Text, bytes, 1)?;
-    Ok(encode_piece(alloc, Code::Runs, &one)?)
+/// Whether this is the text of the runs of the texts a, a, b that begin from one of them up to another.
+fn is_part(alloc: Global, from: usize, to: usize, wanted: &[u8]) -> bool
+    requires { (from ≤ to) × (to ≤ 3) }
+{
+    match read_column(alloc, Code::Plain, Kind::Text, &[1, 97, 1, 98], 2) {
+        Ok(column) => are_made(write_runs(alloc, &column, &[0, 0, 1], from, to), wanted),
+        Err(_) => false,
+    }
 }
 
 #[test]
-fn runs_stand_apart_where_they_have_other_values_with_ample_memory(rt: HostRuntime) {
+fn parts_have_the_runs_that_begin_in_them_with_ample_memory(rt: HostRuntime) {
     let alloc = rt.alloc();
-    let left = run_of(alloc, &[1, 97]).expect(&rt, "the left piece");
-    let same = run_of(alloc, &[1, 97]).expect(&rt, "one with its value");
-    let other = run_of(alloc, &[1, 98]).expect(&rt, "one with another value");
-    assert!(rt; left.stands_apart(&other));
-    assert!(rt; !left.stands_apart(&same));
+    assert!(rt; is_part(alloc, 0, 3, RUNS));
+    assert!(rt; is_part(alloc, 0, 1, &[1, 97, 0, 0, 0, 1, 0, 0, 0, 2]));
+    assert!(rt; is_part(alloc, 1, 2, &[]));
+    assert!(rt; is_part(alloc, 1, 3, &[1, 98, 0, 0, 0, 3, 0, 0, 0, 1]));
 }
 
 fn do_join(left: Piece, right: Piece) -> bool {
