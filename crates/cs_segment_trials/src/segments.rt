@@ -1,4 +1,5 @@
 //! Segments' files: vectors, each byte of them changed, and long files that several threads read.
+mod growing;
 mod hostile;
 mod long_files;
 mod vectors;
