@@ -1,15 +1,15 @@
 //! The verb `check`.
 ghost use Rattle.std.specs.Prelude.{IfOk, OnErr};
-ghost use Rattle.cs_places.specs.Finding.{LooksUp};
-ghost use Rattle.cs_reading.specs.Standing.{standing};
+ghost use Rattle.pinepolo_places.specs.Finding.{LooksUp};
+ghost use Rattle.cs_parallel_io.specs.Standing.{standing};
 ghost use Rattle.cs_checking.specs.Checks.{ChecksStore};
 
 use crate::judging::judge;
-use cs_answers::Checked;
-use cs_operator_words::Checking;
-use cs_places::{Listings, Stop, find_store};
-use cs_progress::Progress;
-use cs_reading::load_readable_side_by_side;
+use pinepolo_text::Checked;
+use pinepolo_args::Checking;
+use pinepolo_places::{Listings, Stop, find_store};
+use pinepolo_progress::Progress;
+use cs_parallel_io::load_readable_side_by_side;
 use cs_rebuild::Run;
 use cs_schema::Loss;
 use std::marker::Sync;

@@ -5,14 +5,14 @@ ghost use Rattle.cs_schema.specs.Losses.{Sites};
 ghost use Rattle.cs_store.specs.FileSet.{contents_of};
 ghost use Rattle.cs_recovery.specs.Claims.{IsCheckAnswer};
 ghost use Rattle.cs_inspection.specs.BadFiles.{AreBadFiles};
-ghost use Rattle.cs_answers.specs.declared.checked.Verdict.TheVariants.{Fatal};
+ghost use Rattle.pinepolo_text.specs.declared.checked.Verdict.TheVariants.{Fatal};
 ghost use Rattle.cs_checking.specs.Checks.{IsChosen, HasFatal, IsFirstFatal, IsJudged};
 
-use cs_answers::Verdict;
+use pinepolo_text::Verdict;
 use cs_design::{fatal_losses, greatest_k};
 use cs_inspection::{Badness, bad_files};
-use cs_places::Stop;
-use cs_progress::{Progress, Stage};
+use pinepolo_places::Stop;
+use pinepolo_progress::{Progress, Stage};
 use cs_rebuild::{Run, check_gated};
 use cs_schema::{Catalog, FileName, Loss};
 use cs_store::{Fault, FileSet};

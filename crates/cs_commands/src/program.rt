@@ -2,18 +2,18 @@
 ghost use Rattle.std.specs.Prelude.{◌≡◌, ◌≢◌, ◌≤◌, ◌⊎◌, IfOk, OnErr, length};
 ghost use Rattle.cs_commands.specs.Commands.{LooksUp, LoadsStore, ChecksStore, RecoversStore, StopsRecovery, Stops, Performs};
 ghost use Rattle.cs_commands.specs.declared.program.Answer.{Answer};
-ghost use Rattle.cs_reading.specs.Standing.{standing};
+ghost use Rattle.cs_parallel_io.specs.Standing.{standing};
 
 use crate::places::Places;
 use crate::request::{Recovery, Request, WordsFault, parse};
 use crate::sample;
 use crate::stop::{DEVICE, DONE, Stop, report};
 use cs_catalog::read_catalog;
-use cs_reading::load_side_by_side;
+use cs_parallel_io::load_side_by_side;
 use cs_rebuild::{Run, check_owned, rebuild, rebuild_owned};
 use cs_schema::{Catalog, Loss};
 use cs_store::{FileSet, StoreFault};
-use cs_writing::save_batch;
+use cs_parallel_io::save_batch;
 use std::alloc::Global;
 use std::fmt;
 use std::io::Write;

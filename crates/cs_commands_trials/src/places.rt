@@ -8,7 +8,7 @@ use cs_commands::Places;
 use cs_schema::FileName;
 use cs_store::memory::{Failure, MemorySink};
 use cs_store::{FileSet, Sink, StoreFault};
-use cs_writing::{BatchSink, NoWriter};
+use cs_parallel_io::{BatchSink, NoWriter};
 use std::alloc::{AllocError, Global};
 use std::cell::RefCell;
 use std::rc::Rc;

@@ -2,7 +2,7 @@
 ghost use Rattle.std.specs.Prelude.{◌≡◌, ◌≤◌, ⊤, IsErrOf};
 ghost use Rattle.cs_store.specs.Fault.{CountsFault};
 
-use cs_reading::SharedSource;
+use cs_parallel_io::SharedSource;
 use cs_schema::FileName;
 use cs_store::{FileSet, Source, StoreFault};
 use std::alloc::Global;

@@ -1,12 +1,55 @@
-//! What explains a store that may be broken: which losses of sites, whether these agree on one table, and the steps by which
-//! they are searched.
+//! What explains a store that may be broken: which files are bad, which losses of sites explain the rest, whether these agree
+//! on one table, and where two tables differ.
 //!
-//! A loss is accepted where it is safe and what survives it holds a table; an accepted loss of which no smaller part is
-//! accepted explains the store. Where files were changed under valid digests, it is the sites that lie that explain it.
+//! A loss is accepted if it is safe and what survives it holds a table; an accepted loss of which no smaller part is
+//! accepted explains the store. If files were changed under valid digests, it is the sites that lie that explain it.
+//!
+//! The survivors of a loss are read once. Every larger loss is then judged by them: those it leaves are walked to the rows of
+//! a table, and one pass over all files finds with which pairs of sites that table is in conflict. From then on a loss is
+//! accepted with the table exactly if it has a site of each of these pairs, and no file is looked at again. Of 16 sites there
+//! are 136 pairs at most, those of a site with itself among them, however many files are in conflict.
 #![tactic(auto)]
 
+mod absent;
+mod around;
+mod candidate;
+mod candidates;
+mod comparing;
+pub mod conflict_laws;
+mod conflicts;
+mod diagnosing;
+mod disputing;
 pub mod explained;
+mod explaining;
 pub mod findings;
+mod forcing;
+mod gathering;
+mod images;
+mod joins;
+mod judging;
+mod known;
 pub mod laws;
+mod merging;
+mod missing;
+mod reaching;
 pub mod search;
+mod sites;
 pub mod summary;
+mod tables;
+mod walks;
+
+pub use absent::are_absent;
+pub use around::without;
+pub use candidate::Candidate;
+pub use candidates::{Remains, find_candidate};
+pub use conflicts::Conflicts;
+pub use cs_inspection::Badness;
+pub use diagnosing::{Diagnosis, diagnose};
+pub use disputing::{TableDisputes, disputed_rows};
+pub use findings::{Explanation, Verdict};
+pub use forcing::bad_sites;
+pub use judging::conflicts_of;
+pub use merging::{Dispute, Disputes, find_disputes};
+pub use missing::others;
+pub use reaching::Reach;
+pub use tables::FoundTable;

@@ -5,7 +5,7 @@ ghost use Rattle.cs_store.specs.Fault.{CountsFault};
 use crate::limits::{CATALOG_LIMIT, FileLimits};
 use crate::paths::{file_in, no_memory, path_in};
 use crate::reading::read_file;
-use cs_reading::SharedSource;
+use cs_parallel_io::SharedSource;
 use cs_schema::FileName;
 use cs_store::{Source, StoreFault};
 use std::alloc::{AllocError, Global};

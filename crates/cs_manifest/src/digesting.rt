@@ -1,10 +1,10 @@
 //! The digests of the files of a store.
 ghost use Rattle.std.specs.Prelude.{◌≡◌, [], IfOk};
 ghost use Rattle.cs_schema.specs.FileNames.{surviving};
-ghost use Rattle.cs_reading.specs.Standing.{standing};
+ghost use Rattle.cs_parallel_io.specs.Standing.{standing};
 ghost use Rattle.cs_manifest.specs.Digests.{digest, DigestsFiles, DigestsFile};
 
-use cs_reading::SharedSource;
+use cs_parallel_io::SharedSource;
 use cs_schema::{Catalog, FileName, Loss};
 use cs_store::StoreFault;
 use sha2::{Digest, Sha256};

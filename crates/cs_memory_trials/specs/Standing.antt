@@ -13,9 +13,9 @@ use Rattle.cs_store.specs.FileSet.{Files}
 use Rattle.cs_store.specs.declared.fault.StoreFault.{StoreFault}
 use Rattle.cs_store.specs.declared.fault.StoreFault.TheVariants.{Device}
 use Rattle.cs_shelf.specs.declared.memory.MemoryShelf.{MemoryShelf}
-use Rattle.cs_taking.specs.declared.record.Work.{Work}
-use Rattle.cs_taking.specs.declared.record.Work.TheVariants.{Restore, Undo}
-use Rattle.cs_taking.specs.declared.record.WorkKind.{WorkKind}
+use Rattle.cs_shelf.specs.declared.work.Work.{Work}
+use Rattle.cs_shelf.specs.declared.work.Work.TheVariants.{Restore, Undo}
+use Rattle.cs_shelf.specs.declared.work.WorkKind.{WorkKind}
 use Rattle.cs_memory_trials.specs.declared.places.MemoryPlaces.{MemoryPlaces}
 use Rattle.cs_memory_trials.specs.declared.standing.Standing.{Standing}
 use Rattle.cs_memory_trials.specs.declared.outputs.MemoryOutput.{MemoryOutput}

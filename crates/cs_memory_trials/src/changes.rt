@@ -2,7 +2,7 @@
 use crate::names::CATALOG;
 use crate::places::MemoryPlaces;
 use anyhow::{Result, anyhow};
-use cs_places::RESTORING;
+use pinepolo_places::RESTORING;
 use cs_store::FileSet;
 
 /// Puts these bytes in the place of some files of a store, or removes the files.

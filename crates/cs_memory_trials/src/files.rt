@@ -4,7 +4,7 @@ ghost use Rattle.cs_store.specs.FileSet.{contents_of};
 ghost use Rattle.cs_store.specs.declared.fault.StoreFault.{StoreFault};
 
 use crate::places::copy;
-use cs_reading::SharedSource;
+use cs_parallel_io::SharedSource;
 use cs_schema::FileName;
 use cs_store::{FileSet, StoreFault};
 use std::alloc::Global;

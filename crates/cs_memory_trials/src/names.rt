@@ -6,7 +6,7 @@ ghost use Rattle.cs_schema.specs.FileNames.{file_path};
 ghost use Rattle.cs_memory_trials.specs.Standing.{names_of};
 
 use crate::standing::Standing;
-use cs_places::RESTORING;
+use pinepolo_places::RESTORING;
 use cs_store::FileSet;
 use std::alloc::{AllocError, Global};
 

@@ -6,7 +6,7 @@ use crate::standing::{Standing, copy_files};
 use cs_schema::FileName;
 use cs_store::memory::MemorySink;
 use cs_store::{FileSet, Sink, StoreFault};
-use cs_writing::{BatchSink, NoWriter};
+use cs_parallel_io::{BatchSink, NoWriter};
 use std::alloc::{AllocError, Global};
 use std::cell::RefCell;
 use std::rc::Rc;

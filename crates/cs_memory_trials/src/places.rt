@@ -6,7 +6,7 @@ ghost use Rattle.cs_memory_trials.specs.Standing.{Denies, IsSame, MakesOutput, P
 use crate::files::MemoryFiles;
 use crate::outputs::{Marked, MemoryOutput};
 use crate::standing::{Standing, copy_files};
-use cs_places::Places;
+use pinepolo_places::Places;
 use cs_schema::Catalog;
 use cs_shelf::Stop;
 use cs_store::{FileSet, StoreFault};

@@ -3,7 +3,7 @@ use crate::names::sorted_names;
 use crate::places::MemoryPlaces;
 use crate::standing::copy_files;
 use crate::undos::{number_of, put_shelf, undoable_of};
-use cs_places::{GivenBack, Listings, Shelves, UndoOf, Undoable, Untaken, Work, WorkKind};
+use pinepolo_places::{GivenBack, Listings, Shelves, UndoOf, Undoable, Untaken, Work, WorkKind};
 use cs_schema::{Catalog, Loss};
 use cs_shelf::MemoryShelf;
 use cs_store::StoreFault;

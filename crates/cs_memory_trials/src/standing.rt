@@ -1,7 +1,7 @@
 //! Stores that stand in memory.
 ghost use Rattle.std.specs.Prelude.{◌≡◌, IfOk};
 
-use cs_places::{Undoable, Work};
+use pinepolo_places::{Undoable, Work};
 use cs_shelf::{MemoryShelf, Stop};
 use cs_store::FileSet;
 use cs_store::memory::{MemorySink, save_to_memory};

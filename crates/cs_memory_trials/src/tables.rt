@@ -1,7 +1,7 @@
 //! Tables and new stores in memory.
 use crate::outputs::MemoryOutput;
 use crate::places::{MemoryPlaces, copy};
-use cs_places::{Tables, Way};
+use pinepolo_places::{Tables, Way};
 use cs_store::StoreFault;
 use std::io::Cursor;
 

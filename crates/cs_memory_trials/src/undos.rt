@@ -2,7 +2,7 @@
 ghost use Rattle.std.specs.Prelude.{◌≡◌, true, None, OnOk};
 
 use crate::standing::{Standing, copy_files};
-use cs_places::{GivenBack, UndoOf, Undoable, Untaken, Work};
+use pinepolo_places::{GivenBack, UndoOf, Undoable, Untaken, Work};
 use cs_restore::names_of;
 use cs_schema::FileName;
 use cs_shelf::MemoryShelf;

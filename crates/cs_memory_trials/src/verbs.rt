@@ -1,8 +1,8 @@
 //! Verbs over places in memory, with what they print.
 use crate::places::MemoryPlaces;
 use anyhow::Result;
-use cs_operator::{Host, World, run};
-use cs_progress::OpenGate;
+use pinepolo_run::{Host, World, run};
+use pinepolo_progress::OpenGate;
 use std::marker::Sync;
 use std::thread::Threads;
 

@@ -9,7 +9,7 @@ mod verbs;
 
 use anyhow::Result;
 use changes::changed;
-use cs_operator::Folders;
+use pinepolo_folders::Folders;
 use verbs::answered;
 
 fn main(rt: HostRuntime) -> Result<()> {

@@ -1,7 +1,7 @@
 //! Verbs, with what they print.
 use anyhow::Result;
-use cs_operator::{Host, World, run};
-use cs_progress::OpenGate;
+use pinepolo_progress::OpenGate;
+use pinepolo_run::{Host, World, run};
 use std::io;
 use std::io::Write;
 use std::marker::Sync;

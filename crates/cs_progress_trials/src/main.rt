@@ -3,7 +3,7 @@
 
 use anyhow::Result;
 use cs_board::{Gate, Round};
-use cs_progress::{Progress, ProgressLine, Stage};
+use pinepolo_progress::{Progress, ProgressLine, Stage};
 use std::io;
 use std::sync::atomic::{AtomicU64, Ordering};
 use std::time::{Clock, Duration};

@@ -1,3 +1,6 @@
+mod Backs
+mod Comes
+mod UndoLoop
 mod Again
 mod Among
 mod Compared

@@ -1,2 +1,3 @@
+pub mod Undoing
 pub mod Placing
 pub mod Restoring

@@ -5,7 +5,7 @@ use cs_restore::names_of;
 use cs_schema::FileName;
 use cs_shelf::{MemoryShelf, Stop};
 use cs_store::FileSet;
-use cs_undo::put_back;
+use cs_restore::put_back;
 use std::alloc::Global;
 use std::marker::Sync;
 use std::thread::Threads;

@@ -14,8 +14,8 @@ use Rattle.cs_inspection.specs.BadFiles.{IsBad}
 use Rattle.cs_inspection.specs.declared.badness.Badness.{Badness}
 use Rattle.cs_diagnosis.specs.Findings.{IsExplained, IsFound}
 use Rattle.cs_diagnosis.specs.declared.findings.Verdict.TheVariants.{Ambiguous}
-use Rattle.cs_file_diagnosis.specs.Diagnoses.{IsDiagnosis}
-use Rattle.cs_file_diagnosis.specs.declared.diagnosing.Diagnosis.{Diagnosis}
+use Rattle.cs_diagnosis.specs.Diagnoses.{IsDiagnosis}
+use Rattle.cs_diagnosis.specs.declared.diagnosing.Diagnosis.{Diagnosis}
 
 -- A diagnosis makes it doubtful that just these sites were lost: they hold an explanation, and explanations have different
 -- tables, or the sites are not an explanation themselves, so that fewer would do. Where a restore goes on that has put files in

@@ -8,11 +8,11 @@ use Rattle.cs_store.specs.FileSet.{Files}
 use Rattle.cs_store.specs.declared.readable.Readable.{Readable}
 use Rattle.cs_shelf.specs.Shelf.{Follows, IsNoMore, IsReadOf}
 use Rattle.cs_restore.specs.Restoring.{IsFinished, PlansFor, PlansRestore, ReadsBack}
-use Rattle.cs_places.specs.Finding.{FindsStore}
-use Rattle.cs_places.specs.declared.stop.Stop.{Stop}
-use Rattle.cs_answers.specs.declared.doubted.Doubted.{Doubted}
-use Rattle.cs_answers.specs.declared.restoration.Restoration.{Restoration}
-use Rattle.cs_answers.specs.declared.restoration.Restoration.TheVariants as restoration
+use Rattle.pinepolo_places.specs.Finding.{FindsStore}
+use Rattle.pinepolo_places.specs.declared.stop.Stop.{Stop}
+use Rattle.pinepolo_text.specs.declared.doubted.Doubted.{Doubted}
+use Rattle.pinepolo_text.specs.declared.restoration.Restoration.{Restoration}
+use Rattle.pinepolo_text.specs.declared.restoration.Restoration.TheVariants as restoration
 use Rattle.cs_restoring.specs.Doubts.{IsDoubtful, IsUndoubtedOf}
 
 -- a restore has a plan for what is held

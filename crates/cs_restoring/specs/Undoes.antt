@@ -4,11 +4,11 @@ use Rattle.cs_schema.specs.CatalogData.{CatalogData}
 use Rattle.cs_schema.specs.declared.file_name.FileName.{FileName}
 use Rattle.cs_store.specs.FileSet.{Files}
 use Rattle.cs_shelf.specs.Shelf.{Follows}
-use Rattle.cs_taking.specs.declared.undoing.UndoOf.{UndoOf}
-use Rattle.cs_taking.specs.declared.undoing.UndoOf.TheVariants.{Last, Number, Unfinished}
-use Rattle.cs_undo.specs.Undoing.{IsBack}
-use Rattle.cs_places.specs.Finding.{FindsStore}
-use Rattle.cs_answers.specs.declared.undone.Undone.{Undone}
+use Rattle.cs_shelf.specs.declared.work.UndoOf.{UndoOf}
+use Rattle.cs_shelf.specs.declared.work.UndoOf.TheVariants.{Last, Number, Unfinished}
+use Rattle.cs_restore.specs.Undoing.{IsBack}
+use Rattle.pinepolo_places.specs.Finding.{FindsStore}
+use Rattle.pinepolo_text.specs.declared.undone.Undone.{Undone}
 
 -- Each name that had changed has what it had before, now and after a stop, and no other changed; the store was given back
 -- as finished, and these files and names are the answer.

@@ -2,17 +2,17 @@
 ghost use Rattle.std.specs.Prelude.{◌≡◌, ◌≤◌, true, Some, IfOk, MatchBool, MatchOption};
 ghost use Rattle.cs_store.specs.FileSet.{contents_of};
 ghost use Rattle.cs_inspection.specs.Laws.{AreAbsent};
-ghost use Rattle.cs_file_diagnosis.specs.Diagnoses.{IsDiagnosis};
+ghost use Rattle.cs_diagnosis.specs.Diagnoses.{IsDiagnosis};
 ghost use Rattle.cs_restoring.specs.Doubts.{IsDoubtful, IsEachBad, IsUndoubted};
 
 use cs_design::within::is_within;
 use cs_diagnosis::explained::{is_explained, is_found};
-use cs_file_diagnosis::{
+use cs_diagnosis::{
     Diagnosis, TableDisputes, Verdict, bad_sites, diagnose, disputed_rows, others,
 };
 use cs_inspection::bad_survivors;
-use cs_places::Stop;
-use cs_progress::{Progress, Stage};
+use pinepolo_places::Stop;
+use pinepolo_progress::{Progress, Stage};
 use cs_rebuild::Run;
 use cs_safety::safe;
 use cs_schema::{Catalog, Loss};

@@ -1,5 +1,5 @@
 //! How a restore or an undo ends early.
-use cs_places::{GivenBack, Stop, Untaken, WorkKind, refused, stop_of};
+use pinepolo_places::{GivenBack, Stop, Untaken, WorkKind, refused, stop_of};
 use cs_schema::{Catalog, Loss};
 use cs_store::{Fault, StoreFault};
 use std::alloc::Global;

@@ -3,10 +3,10 @@ ghost use Rattle.std.specs.Prelude.{◌≡◌, IfOk, None};
 ghost use Rattle.cs_restoring.specs.Restores.{PlansFrom};
 
 use crate::ending::LostStore;
-use cs_answers::Restored;
+use pinepolo_text::Restored;
 use cs_design::greatest_k;
-use cs_places::{Stop, stop_of};
-use cs_progress::Progress;
+use pinepolo_places::{Stop, stop_of};
+use pinepolo_progress::Progress;
 use cs_rebuild::Run;
 use cs_restore::{Step, plan_restore};
 use cs_schema::{Catalog, Loss};

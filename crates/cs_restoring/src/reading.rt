@@ -9,10 +9,10 @@ ghost use Rattle.cs_restoring.specs.Doubts.{IsDoubtful, IsUndoubted};
 ghost use Rattle.cs_restoring.specs.declared.doubting.Doubt.{Doubt as DoubtData};
 
 use crate::doubting::{Doubt, find_doubt};
-use cs_answers::{Diagnosed, Doubted};
-use cs_operator_words::Restoring;
-use cs_places::Stop;
-use cs_progress::Progress;
+use pinepolo_text::{Diagnosed, Doubted};
+use pinepolo_args::Restoring;
+use pinepolo_places::Stop;
+use pinepolo_progress::Progress;
 use cs_rebuild::Run;
 use cs_schema::{Catalog, Loss};
 use cs_shelf::{Shelf, load_readable_held};

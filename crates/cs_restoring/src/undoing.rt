@@ -4,11 +4,11 @@ ghost use Rattle.cs_restoring.specs.Undoes.{DoesUndo, EndsUndo, undo_asked};
 
 use crate::ending::{LostStore, stop_unended, stop_untaken};
 use crate::working::leave;
-use cs_answers::Undone;
-use cs_operator_words::Undoing;
-use cs_places::{Shelves, Stop, UndoOf, Undoable, WorkKind, find_store};
+use pinepolo_text::Undone;
+use pinepolo_args::Undoing;
+use pinepolo_places::{Shelves, Stop, UndoOf, Undoable, WorkKind, find_store};
 use cs_schema::{Catalog, Loss};
-use cs_undo::put_back;
+use cs_restore::put_back;
 use std::alloc::Global;
 
 /// Which work a request asks to undo.

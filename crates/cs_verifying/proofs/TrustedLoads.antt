@@ -7,7 +7,7 @@ use Rattle.cs_store.specs.LoadReadable.{Outcomes, gave, failed, AttemptsInTurn, 
 use Rattle.cs_store.specs.declared.fault.StoreFault.{StoreFault}
 use Rattle.cs_store.specs.declared.fault.StoreFault.TheVariants.{Device}
 use Rattle.cs_manifest.specs.declared.manifest.Manifest.{Manifest}
-use Rattle.cs_reading.specs.Standing.{standing}
+use Rattle.cs_parallel_io.specs.Standing.{standing}
 use Rattle.cs_verifying.specs.Trust.{is_changed, gives_trusted, refuses_trusted}
 
 module _ {S X : Type 0} (m : Manifest) (answers : S → FileName → Option (List ℕ) → Type 0) (fails : S → FileName → StoreFault → Type 0) (says : X → FileName → Option (List ℕ) → Type 0) (refuses : X → FileName → StoreFault → Type 0) (s : S) (x : X)

@@ -10,7 +10,7 @@ use Rattle.cs_manifest.specs.Lines.{manifest_text}
 use Rattle.cs_manifest.specs.Reading.{IsReading}
 use Rattle.cs_manifest.specs.declared.digesting.Digested.{Digested}
 use Rattle.cs_manifest.specs.declared.manifest.Manifest.{Manifest}
-use Rattle.cs_places.specs.Finding.{FindsStoreText}
+use Rattle.pinepolo_places.specs.Finding.{FindsStoreText}
 use Rattle.cs_verifying.specs.declared.listed.Listed.{Listed}
 use Rattle.cs_verifying.specs.declared.verified.Verified.{Verified}
 

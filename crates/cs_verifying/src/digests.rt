@@ -1,11 +1,11 @@
 //! The digests of a store.
 ghost use Rattle.std.specs.Prelude.{◌≡◌, ℕ, List, IfOk};
 ghost use Rattle.cs_manifest.specs.Digests.{digest};
-ghost use Rattle.cs_reading.specs.Standing.{standing};
+ghost use Rattle.cs_parallel_io.specs.Standing.{standing};
 ghost use Rattle.cs_verifying.specs.Promises.{DigestsStore};
 
 use cs_manifest::{Digested, digest_files, digest_of};
-use cs_places::{Places, Stop, find_store_text};
+use pinepolo_places::{Places, Stop, find_store_text};
 use cs_schema::{Catalog, FileName};
 use std::alloc::Global;
 

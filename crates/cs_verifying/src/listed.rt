@@ -5,7 +5,7 @@ ghost use Rattle.cs_verifying.specs.Statuses.{listed_status, is_missing, is_unre
 
 use crate::file_line::FileLine;
 use cs_manifest::Digested;
-use cs_places::{DEVICE, DONE, REFUSED};
+use pinepolo_places::{DEVICE, DONE, REFUSED};
 use cs_schema::{Catalog, FileName};
 use std::fmt;
 

@@ -1,12 +1,12 @@
 //! The verb `manifest`.
 ghost use Rattle.std.specs.Prelude.{IfOk};
-ghost use Rattle.cs_reading.specs.Standing.{standing};
+ghost use Rattle.cs_parallel_io.specs.Standing.{standing};
 ghost use Rattle.cs_verifying.specs.Promises.{ListsStore};
 
 use crate::digests::digest_store;
 use crate::listed::Listed;
 use cs_manifest::write_manifest;
-use cs_places::{Places, Stop};
+use pinepolo_places::{Places, Stop};
 use std::alloc::Global;
 
 /// The manifest of a store: its files that are there, with their digests; and those that are not.

@@ -2,7 +2,7 @@
 use crate::listed::Listed;
 use crate::verified::{Verified, difference_word};
 use cs_manifest::{CATALOG, Difference};
-use cs_places::DONE;
+use pinepolo_places::DONE;
 use cs_reports::object::{Object, number_or_null};
 use cs_reports::site_of;
 use cs_schema::FileName;

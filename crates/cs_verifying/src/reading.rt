@@ -3,7 +3,7 @@ ghost use Rattle.std.specs.Prelude.{◌≡◌, IfOk};
 ghost use Rattle.cs_verifying.specs.Promises.{AreAllOf, ReadsManifest};
 
 use cs_manifest::{Manifest, ManifestFault, read_manifest};
-use cs_places::{Stop, Tables, refused};
+use pinepolo_places::{Stop, Tables, refused};
 use cs_store::StoreFault;
 use std::alloc::Global;
 use std::io;

@@ -6,8 +6,8 @@ ghost use Rattle.cs_verifying.specs.Trust.{is_changed, MayReadManifest};
 
 use crate::reading::manifest_at;
 use cs_manifest::{Manifest, digest_of};
-use cs_places::{Stop, Tables};
-use cs_reading::SharedSource;
+use pinepolo_places::{Stop, Tables};
+use cs_parallel_io::SharedSource;
 use cs_schema::FileName;
 use cs_store::StoreFault;
 use std::alloc::Global;

@@ -5,7 +5,7 @@ ghost use Rattle.cs_verifying.specs.Statuses.{verified_status, differing_status,
 
 use crate::file_line::FileLine;
 use cs_manifest::{CATALOG, Comparison, Difference};
-use cs_places::{DEVICE, DONE, REFUSED};
+use pinepolo_places::{DEVICE, DONE, REFUSED};
 use cs_schema::{Catalog, FileName};
 use std::fmt;
 

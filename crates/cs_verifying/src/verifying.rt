@@ -1,13 +1,13 @@
 //! The verb `verify`.
 ghost use Rattle.std.specs.Prelude.{IfOk};
-ghost use Rattle.cs_reading.specs.Standing.{standing};
+ghost use Rattle.cs_parallel_io.specs.Standing.{standing};
 ghost use Rattle.cs_verifying.specs.Promises.{VerifiesStore};
 
 use crate::digests::digest_store;
 use crate::reading::manifest_at;
 use crate::verified::Verified;
 use cs_manifest::compare;
-use cs_places::{Places, Stop, Tables};
+use pinepolo_places::{Places, Stop, Tables};
 use std::alloc::Global;
 
 /// Which files of a store are not those of a manifest.

@@ -2,7 +2,7 @@
 use crate::sinks::{Failing, Noted, Noting};
 use cs_schema::FileName;
 use cs_store::{Fault, FileSet};
-use cs_writing::save_batch;
+use cs_parallel_io::save_batch;
 use std::alloc::Global;
 use std::cell::RefCell;
 use std::marker::Sync;

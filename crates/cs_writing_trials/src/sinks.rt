@@ -4,7 +4,7 @@ ghost use Rattle.cs_store.specs.Fault.{CountsFault};
 
 use cs_schema::FileName;
 use cs_store::{Sink, StoreFault};
-use cs_writing::{BatchSink, FileWriter};
+use cs_parallel_io::{BatchSink, FileWriter};
 use std::alloc::Global;
 use std::cell::RefCell;
 use std::rc::Rc;

@@ -1,10 +1,11 @@
 //! pinepolo, the operator's program: checks column stores, and rebuilds what lost sites took from them.
 //!
-//! The verbs are cs_operator's; here they meet the system's words, folders and streams.
+//! The verbs are pinepolo_run's; here they meet the system's words, folders and streams.
 #![tactic(auto)]
 
-use cs_operator::{CUT, Folders, Host, Stop, report, run};
-use cs_progress::ProgressLine;
+use pinepolo_folders::Folders;
+use pinepolo_progress::ProgressLine;
+use pinepolo_run::{CUT, Host, Stop, report, run};
 use std::io::IsTerminal;
 use std::process::ExitCode;
 use std::{env, io, thread};

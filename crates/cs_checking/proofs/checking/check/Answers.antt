@@ -3,7 +3,7 @@ use Rattle.cs_schema.specs.FileNames.{surviving}
 use Rattle.cs_schema.specs.declared.file_name.FileName.{FileName}
 use Rattle.cs_store.specs.FileSet.{contents_of}
 use Rattle.cs_store.specs.LoadReadable.{LoadsReadable}
-use Rattle.cs_reading.specs.Standing.{standing}
+use Rattle.cs_parallel_io.specs.Standing.{standing}
 use Rattle.cs_checking.specs.Checks.{IsJudged}
 use Rattle.cs_checking.proofs.checking.check.Goals as goal
 

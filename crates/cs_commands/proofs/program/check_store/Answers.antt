@@ -1,5 +1,5 @@
 use Rattle.std.proofs.Common.{subst}
-use Rattle.cs_reading.specs.Standing.{standing}
+use Rattle.cs_parallel_io.specs.Standing.{standing}
 use Rattle.cs_commands.specs.Commands.{LoadsStore}
 use Rattle.cs_commands.proofs.program.check_store.Goals as goal
 

@@ -2,7 +2,7 @@ use Rattle.std.proofs.Common.{◌<◌, ◌+◌, sym, subst, length, get_or, arit
 use Rattle.std.proofs.lemmas.List.{get_or_default}
 use Rattle.cs_schema.specs.declared.file_name.FileName.TheVariants.{Seg}
 use Rattle.cs_manifest.proofs.DigestLemmas.{digest_more, DigestedSoFar}
-use Rattle.cs_reading.specs.Standing.{standing}
+use Rattle.cs_parallel_io.specs.Standing.{standing}
 use Rattle.cs_manifest.proofs.digesting.digest_names.Goals as goal
 
 pub loop-name-preserved : goal.loop-name-preserved

@@ -1,5 +1,5 @@
 use Rattle.cs_manifest.proofs.DigestLemmas.{DigestedSoFar}
-use Rattle.cs_reading.specs.Standing.{standing}
+use Rattle.cs_parallel_io.specs.Standing.{standing}
 use Rattle.cs_manifest.proofs.digesting.digest_names.Given as goal
 
 abbrev pub invariant-loop-name : goal.invariant-loop-name

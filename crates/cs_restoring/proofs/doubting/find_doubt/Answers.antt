@@ -1,6 +1,6 @@
 use Rattle.std.proofs.Common.{arith, sym, ◌∙◌}
 use Rattle.cs_schema.proofs.Ascending.{false≢true}
-use Rattle.cs_file_diagnosis.proofs.Corrected.{few_sites}
+use Rattle.cs_diagnosis.proofs.Corrected.{few_sites}
 use Rattle.cs_restoring.specs.Doubts.{IsUndoubted}
 use Rattle.cs_restoring.proofs.doubting.find_doubt.Goals as goal
 use Rattle.cs_restoring.proofs.doubting.find_doubt.Goals.{then-not-has_sites-via-then-not-has_sites, then-not-has_sites-via-else-not-has_sites+then-not-safe}

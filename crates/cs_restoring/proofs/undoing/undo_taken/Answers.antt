@@ -1,6 +1,6 @@
 use Rattle.std.proofs.Common.{refl, subst}
 use Rattle.cs_shelf.specs.Shelf.{Follows}
-use Rattle.cs_undo.specs.Undoing.{IsBack}
+use Rattle.cs_restore.specs.Undoing.{IsBack}
 use Rattle.cs_restoring.proofs.undoing.undo_taken.Goals as goal
 
 pub returns-in-Ok : goal.returns-in-Ok

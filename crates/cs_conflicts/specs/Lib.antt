@@ -1,4 +1,0 @@
-pub mod Pairs
-pub mod Conflicts
-pub mod Candidates
-pub mod Laws

@@ -1,0 +1,59 @@
+//! The conflicts of a table.
+ghost use Rattle.cs_diagnosis.specs.Pairs.{AreKeptOnce};
+
+use cs_design::within::is_within;
+use cs_schema::Loss;
+
+/// With which pairs of sites a table is in conflict: a loss that is accepted with it has a site of each.
+#[derive(Clone, Copy)]
+pub struct Conflicts {
+    /// For each site from 1 to 16 those from it on with whose files its own are in conflict: itself where one of its files
+    /// contradicts the table alone. So each pair is kept once, and there are 136 at most.
+    pub with: [Loss; 16],
+    pub ghost once: { AreKeptOnce with },
+}
+
+impl Conflicts {
+    ghost use Rattle.std.specs.Prelude.{◌≡◌, ◌≤◌, ◌⊎◌, ◌↔◌, IsTrue};
+    ghost use Rattle.cs_schema.specs.Lists.{member};
+    ghost use Rattle.cs_schema.specs.Losses.{Sites};
+    ghost use Rattle.cs_diagnosis.specs.Conflicts.{AreAllHit};
+
+    /// No conflict.
+    pub(crate) fn none() -> Self
+        ensures { (L : Sites) → AreAllHit result L }
+    {
+        Conflicts {
+            with: [Loss::none(); 16],
+        }
+    }
+
+    /// These conflicts, and one of two sites or of a single one.
+    pub(crate) fn with_pair(&self, first: u8, second: u8) -> Self
+        requires first { (1 ≤ first) × (first ≤ 16) }
+        requires second { (1 ≤ second) × (second ≤ 16) }
+        ensures { (L : Sites) → AreAllHit result L ↔ (AreAllHit self.now L × (IsTrue (member L first) ⊎ IsTrue (member L second))) }
+    {
+        let (low, high) = if first < second {
+            (first, second)
+        } else {
+            (second, first)
+        };
+        let mut with = self.with;
+        let place = low as usize - 1;
+        with[place] = with[place].with(high);
+        Conflicts { with }
+    }
+
+    /// Whether a loss has a site of each conflict.
+    pub fn are_hit(&self, loss: Loss) -> bool
+        ensures { IsTrue result ↔ AreAllHit self.now loss }
+    {
+        for site in 1..17u8 {
+            if !loss.has(site) && !is_within(self.with[site as usize - 1], loss) {
+                return false;
+            }
+        }
+        true
+    }
+}

@@ -1,3 +1,0 @@
-pub mod Merged
-pub mod TableRows
-pub mod Steps

@@ -1,0 +1,26 @@
+//! Work on a store in one folder, so that a stop at any moment costs nothing, and no second one begins beside it.
+//!
+//! A record of the work stands in the folder until it is finished, and then beside what the work keeps in `replaced/N/`; a
+//! line of each finished work stands in a journal. A file is written beside its name and synced, then renamed; old files are
+//! kept in `replaced/N/` by hard links, all made and synced before the first is replaced. No contract is told what a folder
+//! holds: of what a disk keeps, nothing is proved.
+#![tactic(auto)]
+
+mod digests;
+mod files;
+mod finishing;
+mod giving_back;
+mod journal;
+mod keeping;
+mod names;
+mod owner;
+mod record;
+mod recording;
+mod replaced;
+mod shelf;
+mod taking;
+mod undoing;
+
+pub use shelf::FolderShelf;
+pub use taking::{Taken, resume, take, unfinished_kind};
+pub use undoing::take_undo;

@@ -1,0 +1,177 @@
+//! What is written down of work on a store: as long as it is not finished, and afterwards, for an undo.
+use crate::names::name_of;
+use cs_schema::{FileName, Loss};
+use cs_shelf::Work;
+use std::alloc::{AllocError, Global};
+use std::collections::BTreeMap;
+use std::fmt;
+
+/// What becomes of a name.
+#[derive(Clone, Copy, Debug, PartialEq, Eq)]
+pub enum Change {
+    /// Nothing stood there.
+    New,
+    /// What stood there is kept.
+    Replaces,
+}
+
+/// Work on a store.
+#[derive(Drop)]
+pub struct Record {
+    pub work: Work,
+    /// The N of `replaced/N`, which keeps what is replaced, from 1.
+    pub kept: u32,
+    /// What becomes of each name that changes; none before the first does.
+    pub changes: Option<BTreeMap<FileName, Change>>,
+}
+
+/// The highest number of a site.
+const LAST_SITE: u8 = 16;
+
+/// The word for what becomes of a name.
+pub fn change_word(change: Change) -> &'static str {
+    match change {
+        Change::New => "new",
+        Change::Replaces => "replaces",
+    }
+}
+
+impl fmt::Display for Record {
+    fn fmt<W: fmt::Write>(&self, f: &mut fmt::Formatter<W>) -> fmt::Result {
+        write!(f, "{} kept={}", self.work, self.kept)?;
+        let Some(changes) = &self.changes else {
+            return writeln!(f);
+        };
+        writeln!(f, " changes={}", changes.len())?;
+        for (name, change) in changes {
+            let word = change_word(*change);
+            writeln!(f, "{word} {name}")?;
+        }
+        Ok(())
+    }
+}
+
+/// The loss that these sites make, as `2,3`.
+fn loss_of(text: &str) -> Option<Loss> {
+    let mut loss = Loss::none();
+    for site in text.split(',') {
+        let site = site.parse::<u8>().ok()?;
+        if !(1..=LAST_SITE).contains(&site) {
+            return None;
+        }
+        loss = loss.with(site);
+    }
+    Some(loss)
+}
+
+/// What changes a store, as `lost=2,3` or `undo=1`.
+fn work_of(text: &str) -> Option<Work> {
+    if let Some(lost) = text.strip_prefix("lost=") {
+        return Some(Work::Restore(loss_of(lost)?));
+    }
+    let number = text.strip_prefix("undo=")?.parse::<u32>().ok()?;
+    Some(Work::Undo(number))
+}
+
+/// What becomes of a name, as `new p0.s0.seg`.
+fn change_of(line: &str) -> Option<(FileName, Change)> {
+    let (word, name) = line.split_once(" ")?;
+    let change = match word {
+        "new" => Change::New,
+        "replaces" => Change::Replaces,
+        _ => return None,
+    };
+    Some((name_of(name)?, change))
+}
+
+/// So many changes, a line for each.
+fn changes_of(
+    alloc: Global,
+    lines: &str,
+    count: usize,
+) -> Result<Option<BTreeMap<FileName, Change>>, AllocError> {
+    let mut changes = BTreeMap::new(alloc);
+    for line in lines.split('\n') {
+        let Some((name, change)) = change_of(line) else {
+            return Ok(None);
+        };
+        changes.insert(name, change)?;
+    }
+    if changes.len() == count {
+        Ok(Some(changes))
+    } else {
+        Ok(None)
+    }
+}
+
+/// The first line of a record: the work, its number, and how many changes follow where they do.
+#[derive(Clone, Copy)]
+struct Head {
+    work: Work,
+    kept: u32,
+    changes: Option<usize>,
+}
+
+/// The first line that a text is, if it is one.
+fn head_of(line: &str) -> Option<Head> {
+    let (work, rest) = line.split_once(" ")?;
+    let (kept, changes) = match rest.split_once(" ") {
+        Some((kept, changes)) => {
+            let count = changes.strip_prefix("changes=")?.parse::<usize>().ok()?;
+            (kept, Some(count))
+        }
+        None => (rest, None),
+    };
+    Some(Head {
+        work: work_of(work)?,
+        kept: kept.strip_prefix("kept=")?.parse::<u32>().ok()?,
+        changes,
+    })
+}
+
+impl Record {
+    /// The record's text: a line, and one for each name that changes.
+    pub fn text(&self, alloc: Global) -> Result<String, AllocError> {
+        format!(in alloc; "{self}")
+    }
+
+    /// The record that a text is, if it is one.
+    pub fn parse(alloc: Global, text: &str) -> Result<Option<Record>, AllocError> {
+        let Some(text) = text.strip_suffix("\n") else {
+            return Ok(None);
+        };
+        let (line, lines) = match text.split_once("\n") {
+            Some((line, lines)) => (line, Some(lines)),
+            None => (text, None),
+        };
+        let Some(head) = head_of(line) else {
+            return Ok(None);
+        };
+        let changes = match (head.changes, lines) {
+            (Some(count), Some(lines)) => changes_of(alloc, lines, count)?,
+            (None, None) => None,
+            _ => return Ok(None),
+        };
+        if changes.is_none() && head.changes.is_some() {
+            return Ok(None);
+        }
+        Ok(Some(Record {
+            work: head.work,
+            kept: head.kept,
+            changes,
+        }))
+    }
+
+    /// Whether what stood under a name is kept.
+    pub fn keeps_any(&self) -> bool {
+        let Some(changes) = &self.changes else {
+            return false;
+        };
+        for (_, change) in changes {
+            if *change == Change::Replaces {
+                return true;
+            }
+        }
+        false
+    }
+}

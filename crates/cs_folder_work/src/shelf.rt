@@ -1,0 +1,211 @@
+//! A shelf over a folder.
+ghost use Rattle.std.specs.Prelude.{◌≡◌, ◌≤◌, ⊤, IsErrOf};
+ghost use Rattle.cs_store.specs.Fault.{CountsFault};
+
+use crate::digests::Digests;
+use crate::files::{remove_if_there, sync_folder};
+use crate::owner::give_owner;
+use crate::taking::Taken;
+use cs_folders::{FileLimits, StoreFolder};
+use cs_schema::FileName;
+use cs_shelf::Shelf;
+use cs_store::{Source, StoreFault};
+use std::alloc::{AllocError, Global};
+use std::fs::{File, OpenFile, OpenOptions};
+use std::io::{ErrorKind, Write};
+use std::rt::Files;
+use std::{fs, io};
+
+/// A store in one folder, and the folder `replaced/N` in it that keeps what is replaced.
+#[derive(Drop)]
+pub struct FolderShelf<R> {
+    pub(crate) alloc: Global,
+    pub(crate) rt: R,
+    pub(crate) path: String,
+    /// By what the folder is taken, unless it is only looked at.
+    pub(crate) taken: Option<Taken>,
+    source: StoreFolder<R>,
+    /// Whether an old file is kept.
+    pub(crate) has_kept: bool,
+    /// Whether a name may have been given new bytes.
+    pub(crate) has_changed: bool,
+    /// The digests of files that change, for the journal.
+    pub(crate) digests: Digests,
+    pub(crate) faults: u64,
+}
+
+impl<R: Files + Copy + Drop> FolderShelf<R> {
+    /// The store at this path, whose files have at most so many bytes. It is only looked at: nothing is read or made.
+    pub fn new(alloc: Global, rt: R, path: &str, limits: FileLimits) -> Result<Self, StoreFault> {
+        let source = StoreFolder::new(alloc, rt, path, limits).map_err(no_memory)?;
+        let path = String::from_str(alloc, path).map_err(no_memory)?;
+        Ok(Self {
+            alloc,
+            rt,
+            path,
+            taken: None,
+            source,
+            has_kept: false,
+            has_changed: false,
+            digests: Digests::new(alloc, Vec::new(alloc)),
+            faults: 0,
+        })
+    }
+
+    /// The same store, whose folder was taken so. What is known to change may have been given new bytes already. Of these
+    /// names, which ascend, the digests of what is read are kept for the journal.
+    pub fn taken_by(self, taken: Taken, noted: Vec<FileName>) -> Self {
+        let has_kept = taken.record.keeps_any();
+        let has_changed = taken.record.changes.is_some();
+        Self {
+            taken: Some(taken),
+            has_kept,
+            has_changed,
+            digests: Digests::new(self.alloc, noted),
+            ..self
+        }
+    }
+
+    /// The N of `replaced/N`.
+    pub(crate) fn number(&self) -> u32 {
+        match &self.taken {
+            Some(taken) => taken.record.kept,
+            None => 0,
+        }
+    }
+
+    /// Whether a name may have been given new bytes.
+    pub fn has_changed(&self) -> bool {
+        self.has_changed
+    }
+
+    /// The path of a store's file.
+    pub(crate) fn file(&self, name: FileName) -> Result<String, AllocError> {
+        format!(in self.alloc; "{}/{name}", self.path)
+    }
+
+    /// Writes the bytes beside the name, as the owner of what stands there, and brings them to the disk. What a stopped
+    /// call left there goes first.
+    fn write_beside(&self, file: &str, beside: &str, bytes: &[u8]) -> io::Result<()> {
+        remove_if_there(&self.rt, beside)?;
+        let mut how = OpenOptions::new();
+        let mut made = how.write(true).create_new(true).open(&self.rt, beside)?;
+        made.write_all(bytes)?;
+        give_owner(&self.rt, self.path.as_str(), file, beside)?;
+        made.sync_all()
+    }
+
+    /// Puts the bytes under the name: what stood there stays until the rename, which is one step.
+    fn replace_file(&mut self, name: FileName, bytes: &[u8]) -> io::Result<()>
+        ensures { self.new.faults ≡ self.old.faults }
+    {
+        let file = self.file(name)?;
+        let beside = format!(in self.alloc; "{}/{name}.restoring", self.path)?;
+        self.write_beside(file.as_str(), beside.as_str(), bytes)?;
+        self.has_changed = true;
+        fs::rename(&self.rt, beside.as_str(), file.as_str())
+    }
+
+    /// Takes what stands under the name away, which is one step. It was kept before.
+    fn remove_one(&mut self, name: FileName) -> io::Result<()>
+        ensures { self.new.faults ≡ self.old.faults }
+    {
+        let file = self.file(name)?;
+        self.has_changed = true;
+        remove_if_there(&self.rt, file.as_str())
+    }
+
+    /// Counts a fault of the device, or takes the answer.
+    fn told(&mut self, answer: io::Result<()>) -> Result<(), StoreFault>
+        ensures device { IsErrOf result StoreFault.Device → CountsFault self.old.faults self.new.faults }
+        ensures counted { self.old.faults ≤ self.new.faults }
+    {
+        match answer {
+            Ok(()) => Ok(()),
+            Err(e) if e.kind() == ErrorKind::OutOfMemory => Err(StoreFault::Memory),
+            Err(_) => {
+                self.faults = self.faults.saturating_add(1);
+                Err(StoreFault::Device)
+            }
+        }
+    }
+}
+
+impl<R: Files + Copy + Drop> Source for FolderShelf<R> {
+    ghost gives = { λ s name file t. ⊤ };
+
+    ghost refuses = { λ s name fault t. ⊤ };
+
+    ghost fault_count = { λ s. s.faults };
+
+    fn read(&mut self, name: FileName) -> Result<Option<Vec<u8>>, StoreFault> {
+        let read = self.source.read(name);
+        match &read {
+            Ok(Some(bytes)) => {
+                if self.digests.note(name, bytes.as_slice()).is_err() {
+                    return Err(StoreFault::Memory);
+                }
+            }
+            Err(StoreFault::Device) => self.faults = self.faults.saturating_add(1),
+            _ => {}
+        }
+        read
+    }
+
+    fn faults(&self) -> u64 {
+        self.faults
+    }
+}
+
+impl<R: Files<File = File> + Copy + Drop> Shelf for FolderShelf<R> {
+    ghost use Rattle.cs_folder_work.specs.Claims.{no_claim};
+
+    ghost holds = { λ s c. ⊥ };
+
+    ghost may_leave = { λ s c. ⊥ };
+
+    ghost kept = { λ s c. ⊥ };
+
+    ghost moment = { λ s. 0 };
+
+    ghost left_since = { λ s t c. ⊥ };
+
+    ghost holds_now = { λ s c now. now };
+
+    ghost counts_now = { λ s t c le now. now };
+
+    ghost only_now = { λ s c left. left };
+
+    ghost reads_find = { λ s name file t given c held. absurd held };
+
+    ghost reads_change_nothing = { λ s name file t given. no_claim s t };
+
+    ghost refusals_change_nothing = { λ s name why t refused. no_claim s t };
+
+    fn keep(&mut self, names: &[FileName]) -> Result<(), StoreFault> {
+        let kept = self.keep_all(names);
+        self.told(kept)
+    }
+
+    fn replace(&mut self, name: FileName, bytes: &[u8]) -> Result<(), StoreFault> {
+        let replaced = self.replace_file(name, bytes);
+        self.told(replaced)
+    }
+
+    fn remove(&mut self, name: FileName) -> Result<(), StoreFault> {
+        let removed = self.remove_one(name);
+        self.told(removed)
+    }
+
+    fn sync(&mut self) -> Result<(), StoreFault> {
+        let synced = sync_folder(&self.rt, self.path.as_str());
+        self.told(synced)
+    }
+}
+
+/// The fault of a refused allocation.
+fn no_memory(_refused: AllocError) -> StoreFault
+    ensures { result ≡ StoreFault.Memory }
+{
+    StoreFault::Memory
+}

@@ -1,0 +1,256 @@
+//! Taking a store's folder for a restore or an undo, so that no second one begins beside it.
+use crate::files::{remove_if_there, sync_folder};
+use crate::record::{Change, Record};
+use crate::recording::{read_record, write_record};
+use crate::replaced::last_number;
+use cs_schema::FileName;
+use cs_shelf::{RESTORING, Untaken, Work, WorkKind};
+use std::alloc::{AllocError, Global};
+use std::collections::BTreeMap;
+use std::fs::{File, OpenFile, OpenOptions, TryLockError};
+use std::io::ErrorKind;
+use std::os::unix::fs::MetadataExt;
+use std::rt::Files;
+use std::{fs, io};
+
+/// How many names beside the record are tried, at most: each is of one program that is about to take the folder.
+const BESIDE_LIMIT: u32 = 64;
+
+/// A folder that is taken: while this lives, nothing else can take it.
+#[derive(Drop)]
+pub struct Taken {
+    pub record: Record,
+    /// The locked file of the record.
+    lock: File,
+}
+
+impl Taken {
+    /// Writes down what becomes of each name, in the place of the record: whole or not at all.
+    pub fn note<R: Files<File = File>>(
+        &mut self,
+        alloc: Global,
+        rt: &R,
+        store: &str,
+        changes: BTreeMap<FileName, Change>,
+    ) -> io::Result<()> {
+        self.record.changes = Some(changes);
+        let path = format!(in alloc; "{store}/{RESTORING}")?;
+        let (beside, mut file) = new_beside(alloc, rt, path.as_str())?;
+        write_record(alloc, &mut file, &self.record)?;
+        if let Err(TryLockError::Error(e)) = file.try_lock() {
+            return Err(e);
+        }
+        fs::rename(rt, beside.as_str(), path.as_str())?;
+        self.lock = file;
+        sync_folder(rt, store)
+    }
+}
+
+/// The failure of a call.
+pub fn failed(error: io::Error) -> Untaken {
+    if error.kind() == ErrorKind::OutOfMemory {
+        Untaken::Memory
+    } else {
+        Untaken::Device
+    }
+}
+
+/// Which kind of work on the store in this folder is not finished, if any; a restore where its record can't be read.
+pub fn unfinished_kind<R: Files>(
+    alloc: Global,
+    rt: &R,
+    store: &str,
+) -> Result<Option<WorkKind>, AllocError> {
+    if !is_unfinished(alloc, rt, store)? {
+        return Ok(None);
+    }
+    let path = format!(in alloc; "{store}/{RESTORING}")?;
+    match record_at(alloc, rt, path.as_str()) {
+        Ok(record) => Ok(Some(record.work.kind())),
+        Err(Untaken::Memory) => Err(AllocError),
+        Err(_) => Ok(Some(WorkKind::Restore)),
+    }
+}
+
+/// Whether a restore or an undo of the store in this folder is not finished, or it can't be told that none is.
+fn is_unfinished<R: Files>(alloc: Global, rt: &R, store: &str) -> Result<bool, AllocError> {
+    let path = format!(in alloc; "{store}/{RESTORING}")?;
+    match fs::symlink_metadata(rt, path.as_str()) {
+        Ok(_) => Ok(true),
+        Err(e) => Ok(e.kind() != ErrorKind::NotFound),
+    }
+}
+
+/// A new file beside the record that is this program's own, with its path.
+fn new_beside<R: Files>(alloc: Global, rt: &R, record: &str) -> io::Result<(String, R::File)> {
+    for number in 1..=BESIDE_LIMIT {
+        let path = format!(in alloc; "{record}.{number}")?;
+        let mut how = OpenOptions::new();
+        let made = how.write(true).create_new(true).open(rt, path.as_str());
+        match made {
+            Ok(file) => return Ok((path, file)),
+            Err(e) if e.kind() == ErrorKind::AlreadyExists => {}
+            Err(e) => return Err(e),
+        }
+    }
+    Err(io::Error::from(ErrorKind::AlreadyExists))
+}
+
+/// The record at this path; `Busy` where it is gone meanwhile.
+fn record_at<R: Files>(alloc: Global, rt: &R, path: &str) -> Result<Record, Untaken> {
+    match fs::open(rt, path) {
+        Ok(mut file) => read_record(alloc, &mut file),
+        Err(e) if e.kind() == ErrorKind::NotFound => Err(Untaken::Busy),
+        Err(e) => Err(failed(e)),
+    }
+}
+
+/// Which work is not finished, of which the record is there.
+fn unfinished<R: Files>(alloc: Global, rt: &R, path: &str) -> Untaken {
+    match record_at(alloc, rt, path) {
+        Ok(record) => match record.work.kind() {
+            WorkKind::Restore => Untaken::Unfinished,
+            WorkKind::Undo => Untaken::UnfinishedUndo,
+        },
+        Err(untaken) => untaken,
+    }
+}
+
+/// Removes what stopped programs left beside the record.
+fn sweep<R: Files>(alloc: Global, rt: &R, record: &str) -> io::Result<()> {
+    for number in 1..=BESIDE_LIMIT {
+        let path = format!(in alloc; "{record}.{number}")?;
+        remove_if_there(rt, path.as_str())?;
+    }
+    Ok(())
+}
+
+/// A record of new work, of which nothing is known yet but what it is.
+fn new_record<R: Files + Alloc + Clone + Drop>(
+    alloc: Global,
+    rt: &R,
+    store: &str,
+    work: Work,
+) -> io::Result<Record> {
+    match last_number(alloc, rt, store)?.checked_add(1) {
+        Some(kept) => Ok(Record {
+            work,
+            kept,
+            changes: None,
+        }),
+        None => Err(io::Error::from(ErrorKind::AlreadyExists)),
+    }
+}
+
+/// Takes the store in this folder for this work, unless other work is unfinished. The record is there whole or not at all,
+/// and locked as long as it is taken.
+pub fn take<R: Files<File = File> + Alloc + Clone + Drop>(
+    alloc: Global,
+    rt: &R,
+    store: &str,
+    work: Work,
+) -> Result<Taken, Untaken> {
+    let path = match format!(in alloc; "{store}/{RESTORING}") {
+        Ok(path) => path,
+        Err(_) => return Err(Untaken::Memory),
+    };
+    match is_unfinished(alloc, rt, store) {
+        Ok(false) => {}
+        Ok(true) => return Err(unfinished(alloc, rt, path.as_str())),
+        Err(_) => return Err(Untaken::Memory),
+    }
+    let record = new_record(alloc, rt, store, work).map_err(failed)?;
+    let (beside, mut file) = new_beside(alloc, rt, path.as_str()).map_err(failed)?;
+    let written = write_record(alloc, &mut file, &record).map_err(failed);
+    let linked = match written {
+        Ok(()) => link_locked(rt, store, &file, beside.as_str(), path.as_str()),
+        Err(untaken) => Err(untaken),
+    };
+    match linked {
+        Ok(true) => {
+            let _swept = sweep(alloc, rt, path.as_str()).is_ok();
+        }
+        Ok(false) => {
+            remove_if_there(rt, beside.as_str()).map_err(failed)?;
+            return Err(unfinished(alloc, rt, path.as_str()));
+        }
+        Err(untaken) => {
+            remove_if_there(rt, beside.as_str()).map_err(failed)?;
+            return Err(untaken);
+        }
+    }
+    Ok(Taken { record, lock: file })
+}
+
+/// Locks the record that was written beside, and gives it its name. Not where another has taken the folder meanwhile, which
+/// may have swept the record away.
+fn link_locked<R: Files>(
+    rt: &R,
+    store: &str,
+    file: &File,
+    beside: &str,
+    path: &str,
+) -> Result<bool, Untaken> {
+    lock(file)?;
+    match fs::hard_link(rt, beside, path) {
+        Ok(()) => match sync_folder(rt, store) {
+            Ok(()) => Ok(true),
+            Err(e) => {
+                remove_if_there(rt, path).map_err(failed)?;
+                Err(failed(e))
+            }
+        },
+        Err(e) if e.kind() == ErrorKind::AlreadyExists || e.kind() == ErrorKind::NotFound => Ok(
+            false,
+        ),
+        Err(e) => Err(failed(e)),
+    }
+}
+
+/// Locks a record, unless another program has.
+fn lock(file: &File) -> Result<(), Untaken> {
+    match file.try_lock() {
+        Ok(()) => Ok(()),
+        Err(TryLockError::WouldBlock) => Err(Untaken::Busy),
+        Err(TryLockError::Error(e)) => Err(failed(e)),
+    }
+}
+
+/// Takes the store in this folder to go on with its unfinished restore or undo.
+pub fn resume<R: Files<File = File>>(alloc: Global, rt: &R, store: &str) -> Result<Taken, Untaken> {
+    let path = match format!(in alloc; "{store}/{RESTORING}") {
+        Ok(path) => path,
+        Err(_) => return Err(Untaken::Memory),
+    };
+    let mut file = match fs::open(rt, path.as_str()) {
+        Ok(file) => file,
+        Err(e) if e.kind() == ErrorKind::NotFound => return Err(Untaken::Finished),
+        Err(e) => return Err(failed(e)),
+    };
+    lock(&file)?;
+    if !is_there(rt, &file, path.as_str()) {
+        return Err(Untaken::Finished);
+    }
+    match read_record(alloc, &mut file) {
+        Ok(record) => {
+            let _swept = sweep(alloc, rt, path.as_str()).is_ok();
+            Ok(Taken { record, lock: file })
+        }
+        Err(untaken) => Err(untaken),
+    }
+}
+
+/// Whether the record still has its name: the program that had it locked may have ended meanwhile.
+fn is_there<R: Files>(rt: &R, file: &File, path: &str) -> bool {
+    match (OpenFile::metadata(file), fs::metadata(rt, path)) {
+        (Ok(opened), Ok(named)) => opened.ino() == named.ino() && opened.dev() == named.dev(),
+        _ => false,
+    }
+}
+
+/// Removes the record of the store in this folder: its work is finished, or changed nothing.
+pub fn remove_record<R: Files>(alloc: Global, rt: &R, store: &str) -> io::Result<()> {
+    let path = format!(in alloc; "{store}/{RESTORING}")?;
+    remove_if_there(rt, path.as_str())?;
+    sync_folder(rt, store)
+}

@@ -1,5 +1,0 @@
-pub mod LoadLemmas
-pub mod RepeatLemmas
-pub mod CountLemmas
-pub mod TableLemmas
-pub mod DumpLemmas

@@ -1,6 +1,0 @@
-use Rattle.cs_schema.specs.Values.{values}
-use Rattle.cs_loading.proofs.RepeatLemmas.{AreSeen}
-use Rattle.cs_loading.proofs.repeats.first_repeat.Given as goal
-
-abbrev pub invariant-loop-again : goal.invariant-loop-again
-invariant-loop-again l = AreSeen (values l.cells) l.again l.seen

@@ -1,3 +1,0 @@
-pub mod Repeats
-pub mod Loading
-pub mod Dumping

@@ -1,9 +1,0 @@
-use Rattle.cs_csv.proofs.OutcomeLemmas.{if-ok-then}
-use Rattle.cs_operator.proofs.making.make_store.Goals as goal
-
-pub returns-in-Ok : goal.returns-in-Ok
-returns-in-Ok g c = if-ok-then c.finish.result _ _ (λ store h. record {
-  written = rw c.as_slice.ensures.value at c.in-Ok.ensures;
-  same_files = h.0;
-  same_rows = h.1;
-}) c.finish.ensures

@@ -1,6 +1,0 @@
-use Rattle.std.proofs.Common.{refl}
-use Rattle.cs_answers.specs.declared.answer.Answer.TheVariants.{Told}
-use Rattle.cs_operator.proofs.program.run.Goals as goal
-
-pub returns-in-Err-Told-clause-done : goal.returns-in-Err-Told-clause-done
-returns-in-Err-Told-clause-done g c = λ done. (Told c.in-Err-Told.text, refl, refl)

@@ -1,0 +1,3 @@
+mod AllSaid
+pub mod Stands
+pub mod Behind

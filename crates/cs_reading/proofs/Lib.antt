@@ -1,2 +1,0 @@
-mod AllSaid
-pub mod Stands

@@ -1,5 +1,0 @@
-use Rattle.cs_relayout.proofs.ArrangeLemmas.{AreArrangedBefore}
-use Rattle.cs_relayout.proofs.arranging.arrange_columns.Given as goal
-
-abbrev pub invariant-loop-c : goal.invariant-loop-c
-invariant-loop-c l = AreArrangedBefore l.old l.new l.fn.columns.items l.columns.items l.arranged.items l.c

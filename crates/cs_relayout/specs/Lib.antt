@@ -1,4 +1,0 @@
-pub mod ByName
-pub mod Differences
-pub mod Relayout
-pub mod Laws

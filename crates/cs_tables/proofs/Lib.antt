@@ -1,0 +1,15 @@
+pub mod LoadLemmas
+pub mod RepeatLemmas
+pub mod CountLemmas
+pub mod LoadedTableLemmas
+pub mod DumpLemmas
+pub mod NameLemmas
+pub mod ArrangeLemmas
+pub mod CatalogNames
+pub mod RowLemmas
+pub mod RelayoutTableLemmas
+pub mod DifferenceLemmas
+pub mod BackLemmas
+pub mod AnswerLemmas
+pub mod RoomLemmas
+pub mod RelayoutDumpLemmas

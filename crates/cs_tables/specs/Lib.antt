@@ -1,0 +1,7 @@
+pub mod Repeats
+pub mod Loading
+pub mod Dumping
+pub mod ByName
+pub mod Differences
+pub mod Relayout
+pub mod RelayoutLaws

@@ -1,0 +1,71 @@
+//! The files of a store from rows, and which rows make none.
+ghost use Rattle.std.specs.Prelude.{◌≡◌, [], true, false, Some};
+ghost use Rattle.cs_safety.specs.Safety.{IsSafe};
+ghost use Rattle.cs_store.specs.Fault.{MemoryOr};
+ghost use Rattle.cs_recovery.specs.BuildAnswers.{build_fault};
+ghost use Rattle.cs_recovery.specs.Columns.{AreTableColumns, rows_in};
+ghost use Rattle.cs_tables.specs.Loading.{BuildsTable, IsBuildRefusal, IsTwiceFault};
+
+use crate::counting::rows_in_range;
+use crate::load_fault::LoadFault;
+use crate::repeats::first_repeat;
+use cs_rebuild::{Fault, FileSet, Gate, Run, build};
+use cs_safety::safe;
+use cs_schema::{Catalog, Cells, Loss};
+use std::alloc::Global;
+use std::marker::Sync;
+use std::thread::Threads;
+
+/// Whether a catalog is safe where no site is lost, as that of a new store has to be.
+pub fn is_safe(catalog: &Catalog) -> bool
+    ensures yes { result ≡ true → IsSafe catalog.now [] }
+    ensures no { result ≡ false → ¬ IsSafe catalog.now [] }
+{
+    safe(catalog, Loss::none())
+}
+
+/// The rows whose primary key stands twice.
+fn twice(alloc: Global, catalog: &Catalog, rows: &[Cells]) -> LoadFault
+    requires { AreTableColumns catalog.now rows.now }
+    ensures { IsTwiceFault catalog.now rows.now result }
+{
+    let _rules = catalog.projection_count();
+    match first_repeat(alloc, &rows[catalog.key as usize]) {
+        Ok(Some(repeat)) => LoadFault::Twice(repeat),
+        // where a key stands twice there is one
+        Ok(None) | Err(_) => LoadFault::Memory,
+    }
+}
+
+/// Why rows are refused, where `build` gives this fault.
+fn refusal(alloc: Global, catalog: &Catalog, rows: &[Cells], fault: Fault) -> LoadFault
+    requires columns { AreTableColumns catalog.now rows.now }
+    requires refused { MemoryOr fault (build_fault catalog.now (rows_in rows.now) ≡ Some fault) }
+    ensures { IsBuildRefusal catalog.now rows.now result }
+{
+    match fault {
+        Fault::Twice => twice(alloc, catalog, rows),
+        Fault::Full { p, s } => LoadFault::Full {
+            p,
+            s,
+            rows: rows_in_range(catalog, rows, p, s),
+        },
+        // no other fault is one of rows
+        _ => LoadFault::Memory,
+    }
+}
+
+/// The files of a new store that holds the table of these rows: as `build`, but a refusal names the rows.
+pub fn build_rows<R: Threads + Sync, G: Gate + Sync>(
+    run: &Run<'_, R, G>,
+    catalog: &Catalog,
+    rows: &[Cells],
+) -> Result<FileSet, LoadFault>
+    requires columns { AreTableColumns catalog.now rows.now }
+    ensures { BuildsTable catalog.now rows.now result }
+{
+    match build(run, catalog, rows) {
+        Ok(files) => Ok(files),
+        Err(fault) => Err(refusal(run.alloc, catalog, rows, fault)),
+    }
+}

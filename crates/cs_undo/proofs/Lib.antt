@@ -1,3 +1,0 @@
-mod Backs
-mod Comes
-mod Loop

@@ -1,0 +1,269 @@
+//! The folders of the system. No contract is told what they hold.
+ghost use Rattle.std.specs.Prelude.{◌≡◌, ◌≤◌, ⊤, IsErrOf};
+ghost use Rattle.cs_store.specs.Fault.{CountsFault};
+
+use crate::listing::names_in;
+use crate::rebuilt::rebuilt_names;
+use cs_folder_work::{FolderShelf, Taken, resume, take, take_undo, unfinished_kind};
+use cs_folders::{
+    FileLimits, NewStoreFolder, OutputFolder, StoreFolder, open_text, read_catalog_file, way_to,
+    write_picture, write_text,
+};
+use cs_schema::{Catalog, Loss};
+use cs_store::StoreFault;
+use pinepolo_places::{
+    GivenBack, Listings, Places, Shelves, Tables, UndoOf, Undoable, Untaken, Way, Work, WorkKind,
+};
+use pinepolo_run::World;
+use std::alloc::{AllocError, Global};
+use std::fs::File;
+use std::marker::Sync;
+use std::rt::Files;
+use std::time::Clock;
+
+/// The folders of the system, with the number of faults that were met in finding and making what stands in them.
+#[derive(Drop)]
+pub struct Folders<R> {
+    alloc: Global,
+    rt: R,
+    faults: u64,
+}
+
+impl<R> Folders<R> {
+    /// The system's folders; no fault was met.
+    pub fn new(alloc: Global, rt: R) -> Self {
+        Self {
+            alloc,
+            rt,
+            faults: 0,
+        }
+    }
+}
+
+impl<R: Files + Copy> Folders<R> {
+    /// What a read of a catalog came to. One that isn't there is a fault of the device.
+    fn found(&mut self, read: Result<Option<Vec<u8>>, StoreFault>) -> Result<Vec<u8>, StoreFault>
+        ensures device { IsErrOf result StoreFault.Device → CountsFault self.old.faults self.new.faults }
+        ensures counted { self.old.faults ≤ self.new.faults }
+    {
+        match read {
+            Ok(Some(bytes)) => Ok(bytes),
+            Err(StoreFault::Memory) => Err(StoreFault::Memory),
+            Ok(None) | Err(StoreFault::Device) => {
+                self.faults = self.faults.saturating_add(1);
+                Err(StoreFault::Device)
+            }
+        }
+    }
+
+    /// Counts a fault of the device in what was answered.
+    fn told<T>(&mut self, answer: Result<T, StoreFault>) -> Result<T, StoreFault>
+        ensures device { IsErrOf result StoreFault.Device → CountsFault self.old.faults self.new.faults }
+        ensures counted { self.old.faults ≤ self.new.faults }
+    {
+        match answer {
+            Err(StoreFault::Device) => {
+                self.faults = self.faults.saturating_add(1);
+                Err(StoreFault::Device)
+            }
+            other => other,
+        }
+    }
+}
+
+impl<R: Files + Copy + Sync> Places for Folders<R> {
+    type Store = StoreFolder<R>;
+
+    type Output = OutputFolder<R>;
+
+    ghost reads = { λ s path bytes t. ⊤ };
+
+    ghost misses = { λ s path fault t. ⊤ };
+
+    ghost opens = { λ s path catalog store. ⊤ };
+
+    ghost makes = { λ s path output t. ⊤ };
+
+    ghost denies = { λ s path fault t. ⊤ };
+
+    ghost draws = { λ s path bytes t. ⊤ };
+
+    ghost fault_count = { λ s. s.faults };
+
+    fn catalog(&mut self, path: &str) -> Result<Vec<u8>, StoreFault> {
+        let read = match StoreFolder::new(self.alloc, self.rt, path, FileLimits::Fixed) {
+            Ok(mut folder) => folder.catalog(),
+            Err(_) => Err(StoreFault::Memory),
+        };
+        self.found(read)
+    }
+
+    fn catalog_or_file(&mut self, path: &str) -> Result<Vec<u8>, StoreFault> {
+        let read = read_catalog_file(self.alloc, &self.rt, path);
+        self.found(read)
+    }
+
+    fn files(&self, path: &str, catalog: &Catalog) -> Result<StoreFolder<R>, AllocError> {
+        StoreFolder::new(self.alloc, self.rt, path, FileLimits::of(catalog))
+    }
+
+    fn output(&mut self, path: &str) -> Result<OutputFolder<R>, StoreFault> {
+        let made = OutputFolder::make(self.alloc, self.rt, path);
+        self.told(made)
+    }
+
+    fn picture(&mut self, path: &str, bytes: &[u8]) -> Result<(), StoreFault> {
+        let written = write_picture(&self.rt, path, bytes);
+        self.told(written)
+    }
+
+    fn faults(&self) -> u64 {
+        self.faults
+    }
+}
+
+impl<R: Files + Alloc + Copy + Drop + Sync> Listings for Folders<R> {
+    ghost lists = { λ s path names t. ⊤ };
+
+    ghost leaves = { λ s path kind. ⊤ };
+
+    fn names(&mut self, path: &str) -> Result<Vec<String>, StoreFault> {
+        let names = names_in(self.alloc, &self.rt, path);
+        self.told(names)
+    }
+
+    fn unfinished(&self, path: &str) -> Result<Option<WorkKind>, AllocError> {
+        unfinished_kind(self.alloc, &self.rt, path)
+    }
+}
+
+impl<R: Files + Copy> Tables for Folders<R> {
+    type Input = R::File;
+
+    type NewStore = NewStoreFolder<R>;
+
+    ghost opens_table = { λ s path input t. ⊤ };
+
+    ghost begins = { λ s path catalog store t. ⊤ };
+
+    ghost writes_table = { λ s path text t. ⊤ };
+
+    fn way(&self, path: &str) -> Result<Way, StoreFault> {
+        way_to(self.alloc, &self.rt, path)
+    }
+
+    fn table(&mut self, path: &str) -> Result<R::File, StoreFault> {
+        let opened = open_text(&self.rt, path);
+        self.told(opened)
+    }
+
+    fn new_store(&mut self, path: &str, catalog: &[u8]) -> Result<NewStoreFolder<R>, StoreFault> {
+        let made = NewStoreFolder::make(self.alloc, self.rt, path, catalog);
+        self.told(made)
+    }
+
+    fn write_table(&mut self, path: &str, text: &[u8]) -> Result<(), StoreFault> {
+        let written = write_text(self.alloc, &self.rt, path, text);
+        self.told(written)
+    }
+}
+
+impl<R: Files + Copy + Drop> Folders<R> {
+    /// The store at this path, to be looked at alone.
+    fn shelf(&self, path: &str, catalog: &Catalog) -> Result<FolderShelf<R>, StoreFault> {
+        FolderShelf::new(self.alloc, self.rt, path, FileLimits::of(catalog))
+    }
+}
+
+/// The sites whose loss a store was taken to restore, if it was.
+fn lost_of(taken: &Taken) -> Option<Loss> {
+    match taken.record.work {
+        Work::Restore(lost) => Some(lost),
+        Work::Undo(_) => None,
+    }
+}
+
+impl<R: Files<File = File> + Alloc + Clock + Copy + Drop + Sync> Shelves for Folders<R> {
+    type Shelf = FolderShelf<R>;
+
+    ghost takes_store = { λ s path catalog lost store t. ⊤ };
+
+    ghost takes_undo = { λ s path catalog asked back names store t. ⊤ };
+
+    ghost looks_at = { λ s path catalog store. ⊤ };
+
+    ghost gives_back = { λ s store finished t. ⊤ };
+
+    fn take(
+        &mut self,
+        path: &str,
+        catalog: &Catalog,
+        lost: Loss,
+    ) -> Result<FolderShelf<R>, Untaken> {
+        let shelf = match self.shelf(path, catalog) {
+            Ok(shelf) => shelf,
+            Err(_) => return Err(Untaken::Memory),
+        };
+        let Ok(names) = rebuilt_names(self.alloc, catalog, lost) else {
+            return Err(Untaken::Memory);
+        };
+        match take(self.alloc, &self.rt, path, Work::Restore(lost)) {
+            Ok(taken) => Ok(shelf.taken_by(taken, names)),
+            Err(untaken) => Err(untaken),
+        }
+    }
+
+    fn resume(&mut self, path: &str, catalog: &Catalog) -> Result<(FolderShelf<R>, Loss), Untaken> {
+        let taken = match resume(self.alloc, &self.rt, path) {
+            Ok(taken) => taken,
+            Err(untaken) => return Err(untaken),
+        };
+        let Some(lost) = lost_of(&taken) else {
+            return Err(Untaken::UnfinishedUndo);
+        };
+        let Ok(names) = rebuilt_names(self.alloc, catalog, lost) else {
+            return Err(Untaken::Memory);
+        };
+        match self.shelf(path, catalog) {
+            Ok(shelf) => Ok((shelf.taken_by(taken, names), lost)),
+            Err(_) => Err(Untaken::Memory),
+        }
+    }
+
+    fn take_undo(
+        &mut self,
+        path: &str,
+        catalog: &Catalog,
+        asked: UndoOf,
+    ) -> Result<(FolderShelf<R>, Undoable), Untaken> {
+        let shelf = match self.shelf(path, catalog) {
+            Ok(shelf) => shelf,
+            Err(_) => return Err(Untaken::Memory),
+        };
+        match take_undo(self.alloc, &self.rt, path, asked) {
+            Ok((taken, undoable)) => Ok((shelf.taken_by(taken, Vec::new(self.alloc)), undoable)),
+            Err(untaken) => Err(untaken),
+        }
+    }
+
+    fn look(&self, path: &str, catalog: &Catalog) -> Result<FolderShelf<R>, StoreFault> {
+        self.shelf(path, catalog)
+    }
+
+    fn give_back(
+        &mut self,
+        store: FolderShelf<R>,
+        is_finished: bool,
+    ) -> Result<GivenBack, StoreFault> {
+        let is_unfinished = store.has_changed() && !is_finished;
+        match store.give_back(is_finished) {
+            Ok(kept) => Ok(GivenBack {
+                kept,
+                is_unfinished,
+            }),
+            Err(fault) => Err(fault),
+        }
+    }
+}
+
+impl<R: Files<File = File> + Alloc + Clock + Copy + Drop + Sync> World for Folders<R> {}

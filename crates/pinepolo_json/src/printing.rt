@@ -1,0 +1,139 @@
+//! Answers on standard output, and what of them is for standard error.
+ghost use Rattle.std.specs.Prelude.{◌≡◌, ◌≤◌, ◌⊎◌};
+ghost use Rattle.pinepolo_text.specs.Statuses.{answer_status};
+ghost use Rattle.cs_verifying.specs.Statuses.{listed_status};
+
+use crate::json::{answer_object, refusal_object};
+use cs_verifying::Listed;
+use pinepolo_places::{DEVICE, DONE, MEMORY, REFUSED, WorkKind};
+use pinepolo_text::{Answer, Dumped, Unfinished};
+use serde_json::Value;
+use std::alloc::{AllocError, Global};
+use std::io::Write;
+
+/// The status that tells an answer.
+fn status(answer: &Answer) -> u8
+    ensures { result ≡ answer_status answer.now }
+{
+    match answer {
+        Answer::Checked(checked) => checked.status(),
+        Answer::Diagnosed(diagnosed) => diagnosed.status(),
+        Answer::Restored(restoration) => restoration.status(),
+        Answer::Listed(listed) => listed.status(),
+        Answer::Verified(verified) => verified.status(),
+        _ => DONE,
+    }
+}
+
+/// An object's text, ended by a line break.
+fn object_text(alloc: Global, object: Result<Value, AllocError>) -> Option<String> {
+    let object = object.ok()?;
+    let mut text = object.to_string(alloc).ok()?;
+    match text.push_str("\n") {
+        Ok(()) => Some(text),
+        Err(_) => None,
+    }
+}
+
+/// An answer's text.
+fn text_of(alloc: Global, answer: &Answer, json: bool) -> Option<String> {
+    if json {
+        object_text(alloc, answer_object(alloc, answer))
+    } else {
+        format!(in alloc; "{answer}").ok()
+    }
+}
+
+/// Writes a text, and gives the status where that was possible.
+fn print<W: Write>(text: Option<String>, status: u8, out: &mut W) -> u8
+    requires { status ≤ 6 }
+    ensures { (result ≡ status) ⊎ ((result ≡ MEMORY) ⊎ (result ≡ DEVICE)) }
+{
+    let Some(text) = text else {
+        return MEMORY;
+    };
+    match out.write_all(text.as_bytes()) {
+        Ok(()) => status,
+        Err(_) => DEVICE,
+    }
+}
+
+/// Prints an answer, and gives its status: that of a device where it can't be written. What stands beside the text of a table
+/// goes to `err`.
+pub fn say<W: Write, E: Write>(
+    alloc: Global,
+    answer: &Answer,
+    json: bool,
+    out: &mut W,
+    err: &mut E,
+) -> u8
+    ensures { (result ≡ answer_status answer.now) ⊎ ((result ≡ MEMORY) ⊎ (result ≡ DEVICE)) }
+{
+    if let Some(kind) = unfinished(answer) {
+        if warn(kind, err) != DONE {
+            return DEVICE;
+        }
+    }
+    match answer {
+        Answer::Dumped(
+            Dumped {
+                text: Some(text),
+                ..
+            },
+        ) => print_bytes(text.as_slice(), DONE, out),
+        Answer::Listed(listed) => print_listed(listed, out, err),
+        _ => print(text_of(alloc, answer, json), status(answer), out),
+    }
+}
+
+/// Which kind of work was left unfinished on a store of which a table was written.
+fn unfinished(answer: &Answer) -> Option<WorkKind> {
+    match answer {
+        Answer::Dumped(dumped) => dumped.unfinished,
+        _ => None,
+    }
+}
+
+/// Says that work was left unfinished, and gives the status.
+fn warn<E: Write>(kind: WorkKind, err: &mut E) -> u8 {
+    let unfinished = Unfinished {
+        kind,
+        store: "STORE",
+    };
+    match write!(err, "{unfinished}") {
+        Ok(()) => DONE,
+        Err(_) => DEVICE,
+    }
+}
+
+/// Writes a text of bytes, and gives the status where that was possible.
+fn print_bytes<W: Write>(text: &[u8], status: u8, out: &mut W) -> u8
+    ensures { (result ≡ status) ⊎ (result ≡ DEVICE) }
+{
+    match out.write_all(text) {
+        Ok(()) => status,
+        Err(_) => DEVICE,
+    }
+}
+
+/// Writes a manifest, and on `err` the files that have no line in it, and gives the status where that was possible.
+fn print_listed<W: Write, E: Write>(listed: &Listed, out: &mut W, err: &mut E) -> u8
+    ensures { (result ≡ listed_status listed.now.files.items) ⊎ (result ≡ DEVICE) }
+{
+    let status = print_bytes(listed.text.as_slice(), listed.status(), out);
+    match write!(err, "{listed}") {
+        Ok(()) => status,
+        Err(_) => DEVICE,
+    }
+}
+
+/// Prints that a verb was refused as JSON.
+pub fn say_refusal<W: Write>(alloc: Global, verb: &str, lines: &str, out: &mut W) -> u8
+    ensures { (result ≡ REFUSED) ⊎ ((result ≡ MEMORY) ⊎ (result ≡ DEVICE)) }
+{
+    print(
+        object_text(alloc, refusal_object(alloc, verb, lines)),
+        REFUSED,
+        out,
+    )
+}

@@ -1,0 +1,26 @@
+//! What came of a whole table, as JSON.
+use cs_reports::object::{Object, sites};
+use pinepolo_text::{Dumped, NewStore};
+use serde_json::Value;
+use std::alloc::{AllocError, Global};
+
+/// A store that this verb made.
+pub fn new_store_object(alloc: Global, verb: &str, store: &NewStore) -> Result<Value, AllocError> {
+    Object::of_verb(alloc, verb)
+        .truth("ok", true)
+        .number("rows", store.rows as u64)
+        .number("files", store.files.len() as u64)
+        .number("k", u64::from(store.k))
+        .member("fatal", sites(alloc, store.fatal))
+        .member("fault", Ok(Value::Null))
+        .finish()
+}
+
+/// A table that was written to a file.
+pub fn dumped_object(alloc: Global, dumped: &Dumped) -> Result<Value, AllocError> {
+    Object::of_verb(alloc, "dump")
+        .truth("ok", true)
+        .number("bytes", dumped.bytes as u64)
+        .member("fault", Ok(Value::Null))
+        .finish()
+}

@@ -1,0 +1,32 @@
+//! What an undo came to, as JSON.
+use crate::json::file_object;
+use crate::restored_json::known;
+use cs_reports::object::Object;
+use pinepolo_text::{Undone, undone_word};
+use serde_json::Value;
+use std::alloc::{AllocError, Global};
+
+/// A store that has again what stood there before.
+pub fn undone_object(alloc: Global, undone: &Undone) -> Result<Value, AllocError> {
+    Object::of_verb(alloc, "undo")
+        .truth("ok", true)
+        .number("of", u64::from(undone.undoable.number))
+        .member("files", name_objects(alloc, undone))
+        .member("kept", Ok(known(undone.kept.map(u64::from))))
+        .member("fault", Ok(Value::Null))
+        .finish()
+}
+
+/// What became of each name. What is gone has no size.
+fn name_objects(alloc: Global, undone: &Undone) -> Result<Value, AllocError> {
+    let mut list = Vec::new(alloc);
+    for name in &undone.undoable.names {
+        let back = undone.undoable.back.get(*name);
+        let size = back.map(|bytes| bytes.len() as u64);
+        let object = file_object(alloc, &undone.catalog, *name)
+            .text("what", undone_word(back))
+            .member("bytes", Ok(known(size)));
+        list.push(object.finish()?)?;
+    }
+    Ok(Value::Array(list))
+}

@@ -1,0 +1,69 @@
+//! Stores that can be changed, by path.
+ghost use Rattle.std.specs.Prelude.{ℕ, List, Bool, IfOk, OnOk};
+ghost use Rattle.cs_schema.specs.CatalogData.{CatalogData};
+ghost use Rattle.cs_schema.specs.Losses.{Sites};
+ghost use Rattle.cs_schema.specs.declared.file_name.FileName.{FileName};
+ghost use Rattle.cs_store.specs.FileSet.{Files};
+ghost use Rattle.cs_shelf.specs.declared.work.UndoOf.{UndoOf};
+
+use crate::places::Places;
+use cs_schema::{Catalog, Loss};
+use cs_shelf::{Shelf, UndoOf, Undoable, Untaken};
+use cs_store::StoreFault;
+
+/// What is left of a restore or an undo, once its store was given back.
+#[derive(Clone, Copy, Debug)]
+pub struct GivenBack {
+    /// The N of `replaced/N`, where old files are kept there.
+    pub kept: Option<u32>,
+    /// Whether it is still to be finished.
+    pub is_unfinished: bool,
+}
+
+/// Places with stores that can be changed. Those in memory can say by their ghost members what they found; those over
+/// folders say nothing.
+pub trait Shelves: Places {
+    /// A store that can be changed.
+    type Shelf: Shelf + Drop;
+
+    /// A store that was taken: the state before, the path, the catalog, the lost sites, the store, and the state after.
+    ghost takes_store: { Self → List ℕ → CatalogData → Sites → Self.Shelf → Self → Type 0 };
+
+    /// A store that was taken for an undo: the state before, the path, the catalog, what is undone, the files that are put
+    /// back, the names that change, the store, and the state after.
+    ghost takes_undo: { Self → List ℕ → CatalogData → UndoOf → Files → List FileName → Self.Shelf → Self → Type 0 };
+
+    /// A store that is only looked at: the state, the path, the catalog, and the store.
+    ghost looks_at: { Self → List ℕ → CatalogData → Self.Shelf → Type 0 };
+
+    /// A store that was given back: the state before, the store, whether its work is finished, and the state after.
+    ghost gives_back: { Self → Self.Shelf → Bool → Self → Type 0 };
+
+    /// Takes the store at this path, which has this catalog, to restore what these sites lost. While it is taken, and until
+    /// its restore is finished, it is not taken again.
+    fn take(&mut self, path: &str, catalog: &Catalog, lost: Loss) -> Result<Self::Shelf, Untaken>
+        ensures { IfOk result (λ store. takes_store self.old path.now catalog.now lost store self.new) };
+
+    /// Takes the store at this path to go on with its unfinished restore, and says which sites are lost.
+    fn resume(&mut self, path: &str, catalog: &Catalog) -> Result<(Self::Shelf, Loss), Untaken>
+        ensures { IfOk result (λ found. takes_store self.old path.now catalog.now found.1 found.0 self.new) };
+
+    /// Takes the store at this path for an undo, and says what that puts back: the files that stood under the names that
+    /// change, where something did.
+    fn take_undo(
+        &mut self,
+        path: &str,
+        catalog: &Catalog,
+        asked: UndoOf,
+    ) -> Result<(Self::Shelf, Undoable), Untaken>
+        ensures { IfOk result (λ taken. takes_undo self.old path.now catalog.now asked
+            taken.1.back taken.1.names.items taken.0 self.new) };
+
+    /// The store at this path, to be looked at alone.
+    fn look(&self, path: &str, catalog: &Catalog) -> Result<Self::Shelf, StoreFault>
+        ensures { IfOk result (λ store. looks_at self.now path.now catalog.now store) };
+
+    /// Gives a store back whose restore or undo is finished, or ended early.
+    fn give_back(&mut self, store: Self::Shelf, is_finished: bool) -> Result<GivenBack, StoreFault>
+        ensures { OnOk result (gives_back self.old store is_finished self.new) };
+}

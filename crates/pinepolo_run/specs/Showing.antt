@@ -1,0 +1,47 @@
+-- What the verb `show` does, by what the places and the store say of one call.
+use Rattle.std.specs.Prelude.{◌≡◌, ℕ, List, [], Option, Some}
+use Rattle.cs_schema.specs.CatalogData.{CatalogData}
+use Rattle.cs_schema.specs.FileNames.{surviving, HasName, file_path}
+use Rattle.cs_schema.specs.declared.file_name.FileName.{FileName}
+use Rattle.cs_store.specs.FileSet.{Files, contents_of}
+use Rattle.cs_store.specs.LoadReadable.{LoadsReadable}
+use Rattle.cs_store.specs.declared.fault.StoreFault.{StoreFault}
+use Rattle.cs_inspection.specs.BadFiles.{AreBadFiles}
+use Rattle.cs_inspection.specs.declared.badness.Badness.{Badness}
+use Rattle.cs_reports.specs.Design.{IsDesign}
+use Rattle.cs_file_decode.specs.Reports.{IsReportOf}
+use Rattle.pinepolo_text.specs.declared.store_view.StoreView.{StoreView}
+use Rattle.pinepolo_text.specs.declared.file_view.FileView.{FileView}
+use Rattle.pinepolo_places.specs.Finding.{FindsStore}
+use Rattle.cs_shelf.specs.declared.work.WorkKind.{WorkKind}
+
+-- each file of the store was read, and these are the bad ones
+pub record LooksOver {S : Type 0} (gives : S → FileName → Option (List ℕ) → S → Type 0) (refuses : S → FileName → StoreFault → S → Type 0) (C : CatalogData) (store : S) (bad : List (FileName × Badness)) (left : S) : Type 0 where
+  pub files : Files
+  pub unreadable : List FileName
+  pub loads : LoadsReadable gives refuses (surviving C []) store files unreadable left
+  pub inspected : AreBadFiles C (contents_of files) unreadable bad
+
+module _ {P S : Type 0} (reads : P → List ℕ → List ℕ → P → Type 0) (opens : P → List ℕ → CatalogData → S → Type 0) (gives : S → FileName → Option (List ℕ) → S → Type 0) where
+  -- The store at this path was found and its folder listed, and each of its files was read; these are the bad ones, and this is what its catalog says of losses.
+  pub record ShowsStore (refuses : S → FileName → StoreFault → S → Type 0) (lists : P → List ℕ → List (List ℕ) → P → Type 0) (leaves : P → List ℕ → Option WorkKind → Type 0) (s : P) (path : List ℕ) (view : StoreView) (t : P) : Type 0 where
+    pub reached : P
+    pub store : S
+    pub left : S
+    pub names : List (List ℕ)
+    pub finds : FindsStore reads opens s path view.catalog store reached
+    pub listed : lists reached path names t
+    pub looks : LooksOver gives refuses view.catalog store view.bad.items left
+    pub design : IsDesign view.catalog [] view.design
+    pub unfinished : leaves t path view.unfinished
+
+  -- The store at this path was found, and its file of this name read, whose bytes say this.
+  pub record ShowsFile (s : P) (path text : List ℕ) (view : FileView) (t : P) : Type 0 where
+    pub store : S
+    pub left : S
+    pub bytes : List ℕ
+    pub finds : FindsStore reads opens s path view.catalog store t
+    pub named : HasName view.catalog view.name
+    pub called : file_path view.name ≡ text
+    pub given : gives store view.name (Some bytes) left
+    pub report : IsReportOf view.catalog view.name bytes view.report

@@ -1,0 +1,127 @@
+//! The verb `dump`.
+ghost use Rattle.std.specs.Prelude.{◌≡◌, IfOk};
+ghost use Rattle.cs_parallel_io.specs.Standing.{standing};
+ghost use Rattle.pinepolo_run.specs.TablePromises.{DumpsStore, GivesText, ReadsText, WritesText};
+
+use crate::host::{Host, World};
+use crate::surviving::{Surviving, read_survivors, refuse};
+use crate::ways::{see_way, unmade};
+use cs_parallel_io::SharedSource;
+use cs_rebuild::Run;
+use cs_tables::DumpFault;
+use pinepolo_args::Dumping;
+use pinepolo_places::{Stop, Tables, WorkKind, find_store};
+use pinepolo_progress::{Progress, Stage};
+use pinepolo_text::Dumped;
+use std::alloc::Global;
+use std::marker::Sync;
+use std::thread::Threads;
+
+/// The text of a store's table, and which kind of work on the store was left unfinished.
+#[derive(Drop)]
+struct TableText {
+    text: Vec<u8>,
+    unfinished: Option<WorkKind>,
+}
+
+/// Writes the table of a store as CSV, to a new file or as the answer.
+pub fn dump<R: Threads + Sync, G: Progress + Sync, P: World>(
+    host: &Host<'_, R, G>,
+    places: &mut P,
+    request: &Dumping<'_>,
+) -> Result<Dumped, Stop>
+    ensures { IfOk result (λ dumped. DumpsStore P.reads P.opens (standing P.Store.answers) P.leaves P.writes_table
+        places.old request.now.store.now request.now.lost dumped places.new) }
+{
+    let alloc = host.alloc;
+    if let Some(path) = request.table {
+        match see_way(alloc, places, path, true) {
+            Ok(()) => {}
+            Err(stop) => return Err(stop),
+        }
+    }
+    let text = match read_text(host, places, request) {
+        Ok(text) => text,
+        Err(stop) => return Err(stop),
+    };
+    host.gate.reached(Stage::Writing);
+    write_text(alloc, places, request.table, text)
+}
+
+/// The text of the table that a store holds, without the sites that are lost.
+fn read_text<R: Threads + Sync, G: Progress + Sync, P: World>(
+    host: &Host<'_, R, G>,
+    places: &mut P,
+    request: &Dumping<'_>,
+) -> Result<TableText, Stop>
+    ensures { IfOk result (λ found. ReadsText P.reads P.opens (standing P.Store.answers) P.leaves
+        places.old request.now.store.now request.now.lost found.text.items found.unfinished places.new) }
+{
+    let (catalog, source) = match find_store(host.alloc, places, request.store) {
+        Ok(found) => found,
+        Err(stop) => return Err(stop),
+    };
+    let Ok(unfinished) = places.unfinished(request.store) else {
+        return Err(Stop::Memory);
+    };
+    let store = Surviving {
+        catalog: &catalog,
+        lost: request.lost,
+        path: request.store,
+        unfinished,
+    };
+    let run = host.run_by(request.workers);
+    match text_of(host, &run, &store, &source) {
+        Ok(text) => Ok(TableText { text, unfinished }),
+        Err(stop) => Err(stop),
+    }
+}
+
+/// The text of the table that the survivors of a store hold.
+fn text_of<R: Threads + Sync, G: Progress + Sync, S: SharedSource>(
+    host: &Host<'_, R, G>,
+    run: &Run<'_, R, G>,
+    store: &Surviving<'_>,
+    source: &S,
+) -> Result<Vec<u8>, Stop>
+    ensures { IfOk result (λ text. GivesText (standing S.answers) store.now.catalog.now store.now.lost source.now text.items source.now) }
+{
+    let files = match read_survivors(host, store, source) {
+        Ok(files) => files,
+        Err(stop) => return Err(stop),
+    };
+    match cs_tables::dump(run, store.catalog, &files, store.lost, Vec::new(host.alloc)) {
+        Ok(text) => Ok(text),
+        Err(DumpFault::Store(fault)) => Err(refuse(host, store, &files, &[], &fault)),
+        Err(DumpFault::Text(_)) => Err(Stop::Memory),
+    }
+}
+
+/// Writes a text to a new file, or hands it on as the answer.
+fn write_text<P: Tables>(
+    alloc: Global,
+    places: &mut P,
+    path: Option<&str>,
+    found: TableText,
+) -> Result<Dumped, Stop>
+    ensures { IfOk result (λ dumped. WritesText P.writes_table places.old found.text.items dumped places.new
+        × (dumped.unfinished ≡ found.unfinished)) }
+{
+    let TableText { text, unfinished } = found;
+    let bytes = text.len();
+    let Some(path) = path else {
+        return Ok(Dumped {
+            text: Some(text),
+            bytes,
+            unfinished,
+        });
+    };
+    match places.write_table(path, text.as_slice()) {
+        Ok(()) => Ok(Dumped {
+            text: None,
+            bytes,
+            unfinished,
+        }),
+        Err(fault) => Err(unmade(alloc, fault, path)),
+    }
+}

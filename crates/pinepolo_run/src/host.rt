@@ -1,0 +1,38 @@
+//! What a program runs on, and by what its verbs work.
+ghost use Rattle.std.specs.Prelude.{◌≤◌};
+
+use cs_rebuild::Run;
+use pinepolo_places::{Listings, Places, Shelves, Tables};
+use std::alloc::Global;
+
+/// How many rows a piece of work has.
+pub const CUT: u32 = 65_536;
+
+/// What a program runs on.
+#[derive(Drop)]
+pub struct Host<'a, R, G> {
+    pub rt: &'a R,
+    pub alloc: Global,
+    /// How many processors there are.
+    pub processors: u32,
+    /// What is told how far a verb has come.
+    pub gate: &'a G,
+}
+
+impl<'a, R, G> Host<'a, R, G> {
+    /// By what and how so many workers do the rounds of a verb.
+    pub fn run_by(&self, workers: u32) -> Run<'a, R, G>
+        requires { (1 ≤ workers) × (workers ≤ 64) }
+    {
+        Run {
+            rt: self.rt,
+            alloc: self.alloc,
+            workers,
+            cut: CUT,
+            gate: self.gate,
+        }
+    }
+}
+
+/// All that the verbs of a program find and make by path.
+pub trait World: Places + Tables + Listings + Shelves {}

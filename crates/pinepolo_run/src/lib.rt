@@ -1,0 +1,37 @@
+//! The verbs of pinepolo, each a public call over `Places`: where stores are found, and outputs and pictures are made.
+//!
+//! A verb answers what it did, or why it ended early; `run` does what words ask for, prints the answer as text or as one
+//! object of JSON, and gives the status. Promised: the status is 0 only where the verb's promise was performed.
+#![tactic(auto)]
+
+mod designing;
+mod diagnosing;
+mod dumping;
+mod host;
+mod loading;
+mod making;
+mod program;
+mod recovering;
+mod relaying;
+mod showing;
+mod surviving;
+mod trusted;
+mod ways;
+
+pub use cs_checking::check;
+pub use cs_restoring::{restore, undo};
+pub use cs_verifying::{Listed, Verified, list, verify};
+pub use designing::design;
+pub use diagnosing::diagnose;
+pub use dumping::dump;
+pub use host::{CUT, Host, World};
+pub use loading::load;
+pub use pinepolo_places::{Listings, Places, Shelves, Stop, report};
+pub use pinepolo_text::{
+    Answer, Checked, Designed, Diagnosed, Dumped, FileView, NewStore, Recovered, Restoration,
+    StoreView, Undone, Verdict,
+};
+pub use program::run;
+pub use recovering::recover;
+pub use relaying::relayout;
+pub use showing::{show, show_file};

@@ -1,0 +1,77 @@
+//! New stores, whatever their rows come from.
+ghost use Rattle.std.specs.Prelude.{◌≡◌, IfOk, OnOk};
+ghost use Rattle.pinepolo_run.specs.TablePromises.{MakesStore, WritesStore};
+
+use crate::ways::unmade;
+use cs_design::{fatal_losses, greatest_k};
+use cs_schema::{Catalog, Loss};
+use cs_store::{Fault, FileSet, save};
+use pinepolo_places::{Stop, Tables, stop_of};
+use pinepolo_text::NewStore;
+use std::alloc::Global;
+
+/// Writes a new store of a catalog, of which these are the bytes. It gets its name last, when all of it is written.
+pub fn make_store<P: Tables>(
+    alloc: Global,
+    places: &mut P,
+    found: (Catalog, Vec<u8>),
+    files: FileSet,
+    rows: usize,
+    path: &str,
+) -> Result<NewStore, Stop>
+    ensures { IfOk result (λ store. MakesStore P.begins P.NewStore.takes P.NewStore.marks
+        places.old path.now found.1.items files rows store places.new) }
+{
+    let (catalog, bytes) = found;
+    match write_store(alloc, places, &catalog, bytes.as_slice(), &files, path) {
+        Ok(()) => finish(alloc, catalog, files, rows),
+        Err(stop) => Err(stop),
+    }
+}
+
+/// How a catalog ends the making of a store that is unsafe without any loss.
+pub fn unsafe_already(alloc: Global, catalog: &Catalog) -> Stop {
+    stop_of(alloc, catalog, Loss::none(), &Fault::Unsafe(Loss::none()))
+}
+
+/// Begins the store, puts the files there and gives it its name.
+fn write_store<P: Tables>(
+    alloc: Global,
+    places: &mut P,
+    catalog: &Catalog,
+    bytes: &[u8],
+    files: &FileSet,
+    path: &str,
+) -> Result<(), Stop>
+    ensures { OnOk result (WritesStore P.begins P.NewStore.takes P.NewStore.marks places.old path.now bytes.now files.now places.new) }
+{
+    let mut sink = match places.new_store(path, bytes) {
+        Ok(sink) => sink,
+        Err(fault) => return Err(unmade(alloc, fault, path)),
+    };
+    match save(files, &mut sink) {
+        Ok(()) => Ok(()),
+        Err(fault) => Err(stop_of(alloc, catalog, Loss::none(), &fault)),
+    }
+}
+
+/// What is answered once the store is there.
+fn finish(alloc: Global, catalog: Catalog, files: FileSet, rows: usize) -> Result<NewStore, Stop>
+    ensures { IfOk result (λ store. (store.files ≡ files) × (store.rows ≡ rows)) }
+{
+    let k = greatest_k(&catalog, Loss::none()).unwrap_or(0);
+    let Ok(fatal) = fatal_losses(alloc, &catalog, Loss::none()) else {
+        return Err(Stop::Memory);
+    };
+    let fatal = match fatal.first() {
+        Some(loss) => *loss,
+        None => Loss::none(),
+    };
+    Ok(NewStore {
+        catalog,
+        rows,
+        files,
+        k,
+        fatal,
+    })
+}

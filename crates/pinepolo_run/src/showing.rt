@@ -1,0 +1,174 @@
+//! The verb `show`.
+ghost use Rattle.std.specs.Prelude.{◌≡◌, IsTrue, IfOk, IfSome};
+ghost use Rattle.cs_schema.specs.FileNames.{HasName, file_path};
+ghost use Rattle.cs_parallel_io.specs.Standing.{standing};
+ghost use Rattle.pinepolo_run.specs.Showing.{ShowsStore, ShowsFile, LooksOver};
+
+use crate::host::Host;
+use cs_file_decode::look_into;
+use cs_inspection::{Badness, bad_files};
+use cs_parallel_io::{SharedSource, load_readable_side_by_side};
+use cs_reports::design_of;
+use cs_schema::{Catalog, FileName, Loss};
+use cs_store::{Fault, StoreFault};
+use pinepolo_places::{Listings, Places, Stop, find_store, stop_of};
+use pinepolo_progress::{Progress, Stage};
+use pinepolo_text::{FileLine, FileView, StoreView, lines_of, strays_of};
+use std::alloc::{AllocError, Global};
+use std::marker::Sync;
+use std::thread::Threads;
+
+/// The bad files of a store, and what is said of each of its files.
+#[derive(Drop)]
+struct Seen {
+    bad: Vec<(FileName, Badness)>,
+    lines: Vec<FileLine>,
+}
+
+/// Reads the files of a store, and looks at each.
+fn look_over<R: Threads + Sync, G: Progress + Sync, S: SharedSource>(
+    host: &Host<'_, R, G>,
+    catalog: &Catalog,
+    source: &S,
+) -> Result<Seen, Stop>
+    ensures { IfOk result (λ seen. LooksOver (standing S.answers) (standing S.fails) catalog.now source.now seen.bad.items source.now) }
+{
+    let alloc = host.alloc;
+    let Ok(found) = load_readable_side_by_side(host.rt, alloc, catalog, Loss::none(), source) else {
+        return Err(Stop::Memory);
+    };
+    let unreadable = found.unreadable.as_slice();
+    host.gate.reached(Stage::Inspecting);
+    let Ok(bad) = bad_files(host.rt, alloc, catalog, &found.files, unreadable) else {
+        return Err(Stop::Memory);
+    };
+    match lines_of(alloc, catalog, &found.files, bad.as_slice()) {
+        Ok(lines) => Ok(Seen { bad, lines }),
+        Err(_) => Err(Stop::Memory),
+    }
+}
+
+/// How a folder ends the verb that could not be listed.
+fn unlisted(alloc: Global, fault: StoreFault, path: &str) -> Stop {
+    if let StoreFault::Memory = fault {
+        return Stop::Memory;
+    }
+    let text = format!(in alloc;
+        "fault: list STORE\nnext: see that {path} is a folder and may be read\n"
+    );
+    match text {
+        Ok(text) => Stop::Device(text),
+        Err(_) => Stop::Memory,
+    }
+}
+
+/// What a store holds: its catalog, its files, those that are bad, and what else stands in its folder.
+pub fn show<R: Threads + Sync, G: Progress + Sync, P: Listings>(
+    host: &Host<'_, R, G>,
+    places: &mut P,
+    path: &str,
+) -> Result<StoreView, Stop>
+    ensures { IfOk result (λ view. ShowsStore P.reads P.opens (standing P.Store.answers) (standing P.Store.fails) P.lists P.leaves
+        places.old path.now view places.new) }
+{
+    let alloc = host.alloc;
+    let (catalog, source) = match find_store(alloc, places, path) {
+        Ok(found) => found,
+        Err(stop) => return Err(stop),
+    };
+    let names = match places.names(path) {
+        Ok(names) => names,
+        Err(fault) => return Err(unlisted(alloc, fault, path)),
+    };
+    let Seen { bad, lines } = match look_over(host, &catalog, &source) {
+        Ok(seen) => seen,
+        Err(stop) => return Err(stop),
+    };
+    let Ok(design) = design_of(alloc, &catalog, Loss::none()) else {
+        return Err(Stop::Memory);
+    };
+    let Ok(unfinished) = places.unfinished(path) else {
+        return Err(Stop::Memory);
+    };
+    match strays_of(alloc, lines.as_slice(), names) {
+        Ok(strays) => Ok(StoreView {
+            catalog,
+            design,
+            bad,
+            lines,
+            strays,
+            unfinished,
+        }),
+        Err(_) => Err(Stop::Memory),
+    }
+}
+
+/// Whether a text is the name of a file.
+fn is_called(name: FileName, text: &str) -> bool
+    ensures { IsTrue result → file_path name ≡ text.now }
+{
+    let path = name.path();
+    path.as_str() == text
+}
+
+/// The name of the file that a text names, if the catalog has it.
+fn file_named(alloc: Global, catalog: &Catalog, text: &str) -> Result<Option<FileName>, AllocError>
+    ensures { IfOk result (λ found. IfSome found (λ name. HasName catalog.now name × (file_path name ≡ text.now))) }
+{
+    let _rules = catalog.projection_count();
+    let names = catalog.surviving(alloc, Loss::none())?;
+    for name in &names {
+        if is_called(*name, text) {
+            return Ok(Some(*name));
+        }
+    }
+    Ok(None)
+}
+
+/// How a text ends the verb that names no file.
+fn unnamed(alloc: Global, text: &str) -> Stop {
+    let text = format!(in alloc;
+        "fault: the catalog has no file {text:?}\nnext: pinepolo show STORE lists its files\n"
+    );
+    match text {
+        Ok(text) => Stop::Refused(text),
+        Err(_) => Stop::Memory,
+    }
+}
+
+/// What the bytes of one file of a store say.
+pub fn show_file<P: Places>(
+    alloc: Global,
+    places: &mut P,
+    path: &str,
+    file: &str,
+) -> Result<FileView, Stop>
+    ensures { IfOk result (λ view. ShowsFile P.reads P.opens (standing P.Store.answers)
+        places.old path.now file.now view places.new) }
+{
+    let (catalog, source) = match find_store(alloc, places, path) {
+        Ok(found) => found,
+        Err(stop) => return Err(stop),
+    };
+    let name = match file_named(alloc, &catalog, file) {
+        Ok(Some(name)) => name,
+        Ok(None) => return Err(unnamed(alloc, file)),
+        Err(_) => return Err(Stop::Memory),
+    };
+    let fault = match source.read_shared(name) {
+        Ok(Some(bytes)) => match look_into(alloc, &catalog, name, bytes.as_slice()) {
+            Ok(report) => {
+                return Ok(FileView {
+                    catalog,
+                    name,
+                    report,
+                });
+            }
+            Err(_) => Fault::Memory,
+        },
+        Ok(None) => Fault::Missing(name),
+        Err(StoreFault::Device) => Fault::Read(name),
+        Err(StoreFault::Memory) => Fault::Memory,
+    };
+    Err(stop_of(alloc, &catalog, Loss::none(), &fault))
+}

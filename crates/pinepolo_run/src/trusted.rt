@@ -1,0 +1,106 @@
+//! The files of a store, of which a manifest may say that some are not to be trusted.
+ghost use Rattle.std.specs.Prelude.{◌≡◌, [], None, IfOk, OnErr};
+ghost use Rattle.std.specs.List.{AllByRecursion};
+ghost use Rattle.cs_schema.specs.FileNames.{surviving};
+ghost use Rattle.cs_store.specs.FileSet.{contents_of};
+ghost use Rattle.cs_store.specs.LoadReadable.{LoadsReadable};
+ghost use Rattle.pinepolo_places.specs.Finding.{LooksUp};
+ghost use Rattle.cs_parallel_io.specs.Standing.{standing};
+ghost use Rattle.cs_verifying.specs.Trust.{gives_trusted, refuses_trusted};
+ghost use Rattle.pinepolo_run.specs.Promises.{FindsTrusted};
+
+use crate::host::Host;
+use cs_inspection::bad_files;
+use cs_manifest::{CATALOG, Manifest};
+use cs_parallel_io::{SharedSource, load_readable_side_by_side};
+use cs_schema::{Catalog, FileName, Loss};
+use cs_store::{FileSet, Readable};
+use cs_verifying::{Trusted, is_changed};
+use pinepolo_places::{Places, Stop, find_store_text, refused};
+use pinepolo_progress::Progress;
+use pinepolo_text::ChangedFile;
+use std::alloc::{AllocError, Global};
+use std::marker::Sync;
+use std::thread::Threads;
+
+/// How a catalog ends a verb of which the manifest says another digest.
+fn changed_catalog(alloc: Global, path: &str) -> Stop {
+    let text = format!(in alloc;
+        "fault: {path}/{CATALOG} has another digest than the manifest's\nnext: give the manifest of this store, or bring its catalog back\n"
+    );
+    refused(text.ok())
+}
+
+/// The store at this path, with its catalog, of which the manifest says no other digest.
+pub fn find_trusted<P: Places>(
+    alloc: Global,
+    places: &mut P,
+    path: &str,
+    manifest: &Manifest,
+) -> Result<(Catalog, P::Store), Stop>
+    ensures ok { IfOk result (λ found. FindsTrusted P.reads P.opens manifest.now places.old path.now found.0 found.1 places.new) }
+    ensures err { OnErr result (LooksUp P.reads P.misses places.old path.now places.new) }
+{
+    let (catalog, bytes, source) = match find_store_text(alloc, places, path) {
+        Ok(found) => found,
+        Err(stop) => return Err(stop),
+    };
+    if is_changed(manifest, CATALOG, bytes.as_slice()) {
+        return Err(changed_catalog(alloc, path));
+    }
+    Ok((catalog, source))
+}
+
+/// Reads each file of a store that can be read, and of which the manifest says no other digest.
+pub fn read_trusted<R: Threads + Sync, G: Progress + Sync, S: SharedSource>(
+    host: &Host<'_, R, G>,
+    catalog: &Catalog,
+    source: &S,
+    manifest: &Manifest,
+) -> Result<Readable, AllocError>
+    ensures loads { IfOk result (λ found. LoadsReadable (gives_trusted manifest.now (standing S.answers)) (refuses_trusted manifest.now (standing S.answers) (standing S.fails))
+        (surviving catalog.now []) source.now found.files found.unreadable.items source.now) }
+    ensures apart { IfOk result (λ found. AllByRecursion (λ name. contents_of found.files name ≡ None) found.unreadable.items) }
+{
+    let trusted = Trusted { source, manifest };
+    load_readable_side_by_side(host.rt, host.alloc, catalog, Loss::none(), &trusted)
+}
+
+/// Whether these bytes alone are no file of this name.
+fn is_damaged<R: Threads + Sync, G: Progress + Sync>(
+    host: &Host<'_, R, G>,
+    catalog: &Catalog,
+    name: FileName,
+    bytes: Vec<u8>,
+) -> Result<bool, AllocError> {
+    let mut alone = FileSet::new(host.alloc)?;
+    alone.put(name, bytes)?;
+    for (bad, _) in bad_files(host.rt, host.alloc, catalog, &alone, &[])? {
+        if bad == name {
+            return Ok(true);
+        }
+    }
+    Ok(false)
+}
+
+/// Which files could not be read because the manifest says another digest of them. Each is read once more.
+pub fn changed_files<R: Threads + Sync, G: Progress + Sync, S: SharedSource>(
+    host: &Host<'_, R, G>,
+    catalog: &Catalog,
+    source: &S,
+    manifest: &Manifest,
+    unreadable: &[FileName],
+) -> Result<Vec<ChangedFile>, AllocError> {
+    let mut changed = Vec::new(host.alloc);
+    for name in unreadable {
+        if let Ok(Some(bytes)) = source.read_shared(*name) {
+            if is_changed(manifest, name.path().as_str(), bytes.as_slice()) {
+                changed.push(ChangedFile {
+                    name: *name,
+                    is_damaged: is_damaged(host, catalog, *name, bytes)?,
+                })?;
+            }
+        }
+    }
+    Ok(changed)
+}

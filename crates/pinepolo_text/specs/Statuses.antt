@@ -1,0 +1,38 @@
+-- The status that tells an answer.
+use Rattle.std.specs.Prelude.{ℕ, Bool, true, false}
+use Rattle.cs_verifying.specs.Statuses.{listed_status, verified_status}
+use Rattle.pinepolo_text.specs.declared.checked.Verdict.{Verdict}
+use Rattle.pinepolo_text.specs.declared.checked.Verdict.TheVariants.{Sound}
+use Rattle.cs_diagnosis.specs.declared.findings.Verdict.{Verdict as FoundVerdict}
+use Rattle.cs_diagnosis.specs.declared.findings.Verdict.TheVariants as Found
+use Rattle.pinepolo_text.specs.declared.restoration.Restoration.{Restoration}
+use Rattle.pinepolo_text.specs.declared.restoration.Restoration.TheVariants as restoration
+use Rattle.pinepolo_text.specs.declared.answer.Answer.{Answer}
+use Rattle.pinepolo_text.specs.declared.answer.Answer.TheVariants as answer
+
+-- 0 where the store is sound, 4 where a file could not be read, else 1
+abbrev pub checked_status : Verdict → Bool → ℕ
+checked_status (Sound rows k) is_unreadable = 0
+checked_status _ true = 4
+checked_status _ false = 1
+
+-- 0 where the store is sound, 1 where one table explains it, 5 where more than one does, 6 where none does
+abbrev pub diagnosed_status : FoundVerdict → ℕ
+diagnosed_status Found.Sound = 0
+diagnosed_status Found.OneTable = 1
+diagnosed_status Found.Ambiguous = 5
+diagnosed_status Found.NotRecoverable = 6
+
+-- 0 where a store was restored, 5 where its loss is doubtful
+abbrev pub restoration_status : Restoration → ℕ
+restoration_status (restoration.Done _) = 0
+restoration_status (restoration.Doubted _) = 5
+
+-- 0, but of a check, of a diagnosis, of a restore and of manifests that of what they came to
+abbrev pub answer_status : Answer → ℕ
+answer_status (answer.Checked checked) = checked_status checked.verdict checked.is_unreadable
+answer_status (answer.Diagnosed diagnosed) = diagnosed_status diagnosed.diagnosis.verdict
+answer_status (answer.Restored restored) = restoration_status restored
+answer_status (answer.Listed listed) = listed_status listed.files.items
+answer_status (answer.Verified verified) = verified_status verified.comparison
+answer_status _ = 0

@@ -1,0 +1,152 @@
+//! What a check answers.
+ghost use Rattle.std.specs.Prelude.{◌≡◌};
+ghost use Rattle.pinepolo_text.specs.Statuses.{checked_status};
+
+use crate::Unfinished;
+use crate::bad_files::FileLines;
+use cs_inspection::Badness;
+use cs_reports::{FaultWords, Next, SiteWords, site_of, with_site};
+use cs_safety::safe;
+use cs_schema::{Catalog, FileName, Loss};
+use cs_store::Fault;
+use pinepolo_places::{DEVICE, DONE, REFUSED, WorkKind};
+use std::fmt;
+
+/// What a check came to.
+#[derive(Clone, Copy)]
+pub enum Verdict {
+    /// The store is sound, has so many rows, and any `k` sites may fail.
+    Sound { rows: u64, k: u8 },
+    /// Any `k` sites must not fail: this loss is not safe.
+    Fatal { k: u8, loss: Loss },
+    /// Some files are bad.
+    BadFiles,
+    /// The files contradict each other.
+    Unsound(Fault),
+}
+
+/// What a check found.
+#[derive(Drop)]
+pub struct Checked {
+    /// The catalog of the store.
+    pub catalog: Catalog,
+    /// The bad files, in the order of their names.
+    pub bad: Vec<(FileName, Badness)>,
+    /// Whether a file could not be read.
+    pub is_unreadable: bool,
+    /// What it came to.
+    pub verdict: Verdict,
+    /// Which kind of work on it was left unfinished.
+    pub unfinished: Option<WorkKind>,
+}
+
+impl Checked {
+    /// The status that tells it: 0 where the store is sound, 4 where a file could not be read, else 1.
+    pub fn status(&self) -> u8
+        ensures { result ≡ checked_status self.now.verdict self.now.is_unreadable }
+    {
+        match self.verdict {
+            Verdict::Sound { .. } => DONE,
+            _ => { if self.is_unreadable { DEVICE } else { REFUSED } }
+        }
+    }
+
+    /// The sites of the bad files.
+    pub fn bad_sites(&self) -> Loss {
+        let catalog = &self.catalog;
+        let mut loss = Loss::none();
+        for (name, _) in &self.bad {
+            let site = site_of(catalog, name.projection(), name.segment());
+            loss = with_site(loss, site);
+        }
+        loss
+    }
+}
+
+/// What is wrong with a store that is not sound, in words of one line.
+#[derive(Clone, Copy)]
+pub struct Wrong<'a>(pub &'a Checked);
+
+impl fmt::Display for Wrong<'_> {
+    fn fmt<W: fmt::Write>(&self, f: &mut fmt::Formatter<W>) -> fmt::Result {
+        let checked = self.0;
+        let catalog = &checked.catalog;
+        match &checked.verdict {
+            Verdict::Sound { .. } => Ok(()),
+            Verdict::Fatal { k, loss } => {
+                let fault = &Fault::Unsafe(*loss);
+                let words = FaultWords { catalog, fault };
+                write!(f, "k={k} is too high, {words}")
+            }
+            Verdict::BadFiles => {
+                let count = checked.bad.len();
+                write!(f, "bad files: {count}")
+            }
+            Verdict::Unsound(fault) => {
+                let words = FaultWords { catalog, fault };
+                write!(f, "{words}")
+            }
+        }
+    }
+}
+
+impl Checked {
+    /// What to do next about bad files.
+    fn write_recovery<W: fmt::Write>(&self, f: &mut fmt::Formatter<W>) -> fmt::Result {
+        let loss = self.bad_sites();
+        let sites = SiteWords(loss);
+        if safe(&self.catalog, loss) {
+            writeln!(f, "next: pinepolo recover STORE OUT{sites}")
+        } else {
+            writeln!(
+                f,
+                "next: bring files of some of these sites back, {loss} can't be recovered together"
+            )
+        }
+    }
+
+    /// What to do next.
+    fn write_next<W: fmt::Write>(&self, f: &mut fmt::Formatter<W>) -> fmt::Result {
+        if let Some(kind) = self.unfinished {
+            let unfinished = Unfinished {
+                kind,
+                store: "STORE",
+            };
+            return write!(f, "{unfinished}");
+        }
+        match &self.verdict {
+            Verdict::Sound { .. } => Ok(()),
+            Verdict::BadFiles => self.write_recovery(f),
+            Verdict::Fatal { loss, .. } => self.write_step(f, &Fault::Unsafe(*loss)),
+            Verdict::Unsound(fault) => self.write_step(f, fault),
+        }
+    }
+
+    /// What to do next after a fault.
+    fn write_step<W: fmt::Write>(&self, f: &mut fmt::Formatter<W>, fault: &Fault) -> fmt::Result {
+        let next = Next {
+            catalog: &self.catalog,
+            lost: Loss::none(),
+            fault,
+        };
+        writeln!(f, "next: {next}")
+    }
+}
+
+impl fmt::Display for Checked {
+    fn fmt<W: fmt::Write>(&self, f: &mut fmt::Formatter<W>) -> fmt::Result {
+        let lines = FileLines {
+            catalog: &self.catalog,
+            bad: self.bad.as_slice(),
+        };
+        write!(f, "{lines}")?;
+        match &self.verdict {
+            Verdict::Sound { rows, k } => writeln!(f, "ok rows={rows} k={k}")?,
+            _ => {
+                let wrong = Wrong(self);
+                writeln!(f, "fault: {wrong}")?;
+            }
+        }
+        self.write_next(f)
+    }
+}

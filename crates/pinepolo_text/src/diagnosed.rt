@@ -1,0 +1,193 @@
+//! What a diagnosis answers.
+ghost use Rattle.std.specs.Prelude.{◌≡◌, IfOk};
+ghost use Rattle.pinepolo_text.specs.Statuses.{diagnosed_status};
+
+use crate::Unfinished;
+use crate::bad_files::BadLines;
+use crate::changed::{ChangedFile, reads_well};
+use crate::disputed::DisputeLines;
+use crate::explained::{ExplanationLines, VerdictLine};
+use crate::unrecoverable::BringBack;
+use cs_design::fatal_losses;
+use cs_diagnosis::{Diagnosis, TableDisputes, Verdict};
+use cs_reports::SiteWords;
+use cs_schema::{Catalog, Loss};
+use pinepolo_places::{DONE, REFUSED, WorkKind};
+use std::alloc::{AllocError, Global};
+use std::fmt;
+
+/// The status of a store that more than one table explains.
+pub const AMBIGUOUS: u8 = 5;
+
+/// The status of a store that nothing explains.
+pub const NOT_RECOVERABLE: u8 = 6;
+
+/// What a diagnosis found.
+#[derive(Drop)]
+pub struct Diagnosed {
+    /// The catalog of the store.
+    pub catalog: Catalog,
+    /// What is wrong with the store.
+    pub diagnosis: Diagnosis,
+    /// The least losses that must not come beside the first explanation, where all explanations have one table.
+    pub fatal: Vec<Loss>,
+    /// Where each two tables differ, where they were compared.
+    pub disputes: Vec<TableDisputes>,
+    /// The bad files of which a manifest says another digest.
+    pub changed: Vec<ChangedFile>,
+    /// Which kind of work on it was left unfinished.
+    pub unfinished: Option<WorkKind>,
+}
+
+/// The losses that must not come beside the first explanation, where one table explains a store.
+fn fatal_beside(
+    alloc: Global,
+    catalog: &Catalog,
+    diagnosis: &Diagnosis,
+) -> Result<Vec<Loss>, AllocError> {
+    match (diagnosis.verdict, diagnosis.explanations.first()) {
+        (Verdict::OneTable, Some(first)) => fatal_losses(alloc, catalog, first.loss),
+        _ => Ok(Vec::new(alloc)),
+    }
+}
+
+impl Diagnosed {
+    /// What a diagnosis found, where its tables differ, which files a manifest says are others, and which work was left
+    /// unfinished.
+    pub fn new(
+        alloc: Global,
+        catalog: Catalog,
+        diagnosis: Diagnosis,
+        disputes: Vec<TableDisputes>,
+        changed: Vec<ChangedFile>,
+        unfinished: Option<WorkKind>,
+    ) -> Result<Self, AllocError>
+        ensures found { IfOk result (λ found. (found.catalog ≡ catalog) × (found.diagnosis ≡ diagnosis)) }
+        ensures compared { IfOk result (λ found. (found.disputes ≡ disputes) × (found.unfinished ≡ unfinished)) }
+    {
+        match fatal_beside(alloc, &catalog, &diagnosis) {
+            Ok(fatal) => Ok(Self {
+                catalog,
+                diagnosis,
+                fatal,
+                disputes,
+                changed,
+                unfinished,
+            }),
+            Err(refused) => Err(refused),
+        }
+    }
+
+    /// The status that tells it: 0 where the store is sound, 1 where one table explains it, 5 where more than one does, 6 where
+    /// none does.
+    pub fn status(&self) -> u8
+        ensures { result ≡ diagnosed_status self.now.diagnosis.verdict }
+    {
+        match self.diagnosis.verdict {
+            Verdict::Sound => DONE,
+            Verdict::OneTable => REFUSED,
+            Verdict::Ambiguous => AMBIGUOUS,
+            Verdict::NotRecoverable => NOT_RECOVERABLE,
+        }
+    }
+
+    /// That work was left unfinished, and how it is finished.
+    fn write_unfinished<W: fmt::Write>(&self, f: &mut fmt::Formatter<W>) -> fmt::Result {
+        let Some(kind) = self.unfinished else {
+            return Ok(());
+        };
+        let unfinished = Unfinished {
+            kind,
+            store: "STORE",
+        };
+        write!(f, "{unfinished}")
+    }
+
+    /// The sites whose files are not to be kept.
+    fn write_forced<W: fmt::Write>(&self, f: &mut fmt::Formatter<W>) -> fmt::Result {
+        let forced = self.diagnosis.forced;
+        if forced.count() == 0 {
+            return Ok(());
+        }
+        writeln!(f, "not to be kept: sites {forced}")
+    }
+
+    /// The restoring that one table allows, and what must not be lost after the first explanation.
+    fn write_restoring<W: fmt::Write>(&self, f: &mut fmt::Formatter<W>) -> fmt::Result {
+        let Some(first) = self.diagnosis.explanations.first() else {
+            return Ok(());
+        };
+        let sites = SiteWords(first.loss);
+        // (a restore finds nothing wrong with what a manifest alone says is changed)
+        let option = if reads_well(self.changed.as_slice()) {
+            " --accept-loss"
+        } else {
+            ""
+        };
+        writeln!(f, "next: pinepolo restore{option} STORE{sites}")?;
+        if self.fatal.is_empty() {
+            return Ok(());
+        }
+        let mut separator = "then fatal: ";
+        for loss in &self.fatal {
+            write!(f, "{separator}{loss}")?;
+            separator = "  ";
+        }
+        writeln!(f)
+    }
+
+    /// Where the tables differ, and what may tell which is the store's.
+    fn write_disputes<W: fmt::Write>(&self, f: &mut fmt::Formatter<W>) -> fmt::Result {
+        for of in &self.disputes {
+            let lines = DisputeLines {
+                catalog: &self.catalog,
+                diagnosis: &self.diagnosis,
+                of,
+            };
+            write!(f, "{lines}")?;
+        }
+        f.write_str(
+            "which of the tables is the store's, its files don't say: compare them with a manifest (pinepolo diagnose --manifest FILE STORE) or a backup, or look at the files (pinepolo show STORE FILE)\n",
+        )
+    }
+
+    /// What to do next.
+    fn write_next<W: fmt::Write>(&self, f: &mut fmt::Formatter<W>) -> fmt::Result {
+        match self.diagnosis.verdict {
+            Verdict::Sound => Ok(()),
+            Verdict::OneTable => self.write_restoring(f),
+            Verdict::Ambiguous => self.write_disputes(f),
+            Verdict::NotRecoverable => {
+                let back = BringBack {
+                    catalog: &self.catalog,
+                    forced: self.diagnosis.forced,
+                };
+                write!(f, "{back}")
+            }
+        }
+    }
+}
+
+impl fmt::Display for Diagnosed {
+    fn fmt<W: fmt::Write>(&self, f: &mut fmt::Formatter<W>) -> fmt::Result {
+        let diagnosis = &self.diagnosis;
+        let verdict = VerdictLine(diagnosis);
+        if let Verdict::Sound = diagnosis.verdict {
+            write!(f, "{verdict}")?;
+            return self.write_unfinished(f);
+        }
+        let bad = BadLines {
+            catalog: &self.catalog,
+            bad: diagnosis.bad.as_slice(),
+            changed: self.changed.as_slice(),
+        };
+        write!(f, "{bad}")?;
+        self.write_forced(f)?;
+        let explanations = ExplanationLines(diagnosis);
+        write!(f, "{explanations}{verdict}")?;
+        if self.unfinished.is_some() {
+            return self.write_unfinished(f);
+        }
+        self.write_next(f)
+    }
+}

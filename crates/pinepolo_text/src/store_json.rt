@@ -1,0 +1,72 @@
+//! What is said of a store as a whole, as JSON.
+use crate::file_lines::FileLine;
+use crate::memory::recovery_memory;
+use crate::store_text::state_word;
+use crate::store_view::StoreView;
+use cs_reports::object::{Object, losses, number_or_null};
+use cs_reports::site_of;
+use cs_schema::{Catalog, FileName};
+use serde_json::Value;
+use std::alloc::{AllocError, Global};
+
+/// What `show --json` prints of a store.
+pub fn store_object(alloc: Global, view: &StoreView) -> Result<Value, AllocError> {
+    let catalog = &view.catalog;
+    let memory = recovery_memory(catalog, view.lines.as_slice());
+    Object::of_verb(alloc, "show")
+        .text("table", catalog.table.as_str())
+        .number("sites", u64::from(catalog.sites))
+        .member("k", Ok(number_or_null(view.design.k)))
+        .member("fatal", losses(alloc, view.design.fatal.as_slice()))
+        .member("files", line_objects(alloc, view))
+        .member("strays", texts(alloc, view.strays.as_slice()))
+        .truth("restoring", view.unfinished.is_some())
+        .number("memory", memory)
+        .finish()
+}
+
+/// Texts.
+fn texts(alloc: Global, texts: &[String]) -> Result<Value, AllocError> {
+    let mut list = Vec::new(alloc);
+    for text in texts {
+        list.push(Value::try_from_str(alloc, text.as_str())?)?;
+    }
+    Ok(Value::Array(list))
+}
+
+/// The files, in the order of their names.
+fn line_objects(alloc: Global, view: &StoreView) -> Result<Value, AllocError> {
+    let mut list = Vec::new(alloc);
+    for line in &view.lines {
+        list.push(line_object(alloc, &view.catalog, line)?)?;
+    }
+    Ok(Value::Array(list))
+}
+
+/// A number, or null where it isn't known.
+fn known(number: Option<u64>) -> Value {
+    match number {
+        Some(number) => Value::from(number),
+        None => Value::Null,
+    }
+}
+
+/// A file.
+fn line_object(alloc: Global, catalog: &Catalog, line: &FileLine) -> Result<Value, AllocError> {
+    let name = line.name;
+    let path = name.path();
+    let site = site_of(catalog, name.projection(), name.segment());
+    let counted = match name {
+        FileName::Seg { .. } => "rows",
+        FileName::Del { .. } => "items",
+        FileName::Jix { .. } => "entries",
+    };
+    Object::new(alloc)
+        .text("path", path.as_str())
+        .member("site", Ok(number_or_null(site)))
+        .number("projection", u64::from(name.projection()))
+        .member("bytes", Ok(known(line.bytes)))
+        .member(counted, Ok(known(line.count)))
+        .text("state", state_word(line))
+        .finish()
+}

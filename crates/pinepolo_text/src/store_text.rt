@@ -1,0 +1,144 @@
+//! What is said of a store as a whole, as text.
+use crate::catalog_words::CatalogWords;
+use crate::counted::Counted;
+use crate::file_lines::FileLine;
+use crate::memory::recovery_memory;
+use crate::store_view::StoreView;
+use crate::unfinished::Unfinished;
+use cs_inspection::Badness;
+use cs_reports::{DesignHead, site_of};
+use cs_schema::FileName;
+use std::fmt;
+
+/// How many bytes a mebibyte has.
+const MEBIBYTE: u64 = 1_048_576;
+
+/// How a file is.
+pub fn state_word(line: &FileLine) -> &'static str {
+    match line.badness {
+        None => "sound",
+        Some(Badness::Unreadable) => "unreadable",
+        Some(Badness::Missing) => "missing",
+        Some(Badness::Damaged) => "damaged",
+    }
+}
+
+/// A number, or a stroke where it isn't known.
+#[derive(Clone, Copy)]
+struct NumberOrStroke(Option<u64>);
+
+impl fmt::Display for NumberOrStroke {
+    fn fmt<W: fmt::Write>(&self, f: &mut fmt::Formatter<W>) -> fmt::Result {
+        match self.0 {
+            Some(number) => write!(f, "{number:>11}"),
+            None => write!(f, "{:>11}", "-"),
+        }
+    }
+}
+
+/// What a file has so many of.
+pub fn count_word(name: FileName, count: Option<u64>) -> &'static str {
+    let is_one = count == Some(1);
+    match name {
+        FileName::Seg { .. } if is_one => "row",
+        FileName::Seg { .. } => "rows",
+        FileName::Del { .. } if is_one => "item",
+        FileName::Del { .. } => "items",
+        FileName::Jix { .. } if is_one => "entry",
+        FileName::Jix { .. } => "entries",
+    }
+}
+
+impl StoreView {
+    /// The line of a file, if it stands on this site.
+    fn write_line<W: fmt::Write>(
+        &self,
+        f: &mut fmt::Formatter<W>,
+        site: u8,
+        line: &FileLine,
+    ) -> fmt::Result {
+        let name = line.name;
+        let p = name.projection();
+        if site_of(&self.catalog, p, name.segment()) != Some(site) {
+            return Ok(());
+        }
+        let projection = match self.catalog.projections.get(usize::from(p)) {
+            Some(projection) => projection.name.as_str(),
+            None => "",
+        };
+        let path = name.path();
+        let path = path.as_str();
+        let word = count_word(name, line.count);
+        let (count, bytes) = (NumberOrStroke(line.count), NumberOrStroke(line.bytes));
+        let state = state_word(line);
+        writeln!(
+            f,
+            "{site:>4}  {path:<13} {projection:<12}{count} {word:<7}{bytes} bytes  {state}"
+        )
+    }
+
+    /// The table of files, by sites.
+    fn write_table<W: fmt::Write>(&self, f: &mut fmt::Formatter<W>) -> fmt::Result {
+        writeln!(f, "site  file          projection")?;
+        for site in 1..17u8 {
+            if site > self.catalog.sites {
+                return Ok(());
+            }
+            for line in &self.lines {
+                self.write_line(f, site, line)?;
+            }
+        }
+        Ok(())
+    }
+
+    /// How many files there are, and how much memory a recovery takes, in whole mebibytes, at least one.
+    fn write_sums<W: fmt::Write>(&self, f: &mut fmt::Formatter<W>) -> fmt::Result {
+        let files = Counted {
+            count: self.lines.len() as u64,
+            one: "file",
+            several: "files",
+        };
+        let bad = self.bad.len();
+        let mebibytes = recovery_memory(&self.catalog, self.lines.as_slice()) / MEBIBYTE + 1;
+        writeln!(
+            f,
+            "{files}, {bad} bad; a recovery takes about {mebibytes} MiB of memory"
+        )
+    }
+
+    /// What the catalog doesn't name.
+    fn write_strays<W: fmt::Write>(&self, f: &mut fmt::Formatter<W>) -> fmt::Result {
+        for name in &self.strays {
+            let name = name.as_str();
+            writeln!(f, "not named by the catalog: {name:?}")?;
+        }
+        Ok(())
+    }
+
+    /// That work was left unfinished, and what to do next.
+    fn write_unfinished<W: fmt::Write>(&self, f: &mut fmt::Formatter<W>) -> fmt::Result {
+        let Some(kind) = self.unfinished else {
+            return Ok(());
+        };
+        let unfinished = Unfinished {
+            kind,
+            store: "STORE",
+        };
+        write!(f, "{unfinished}")
+    }
+}
+
+impl fmt::Display for StoreView {
+    fn fmt<W: fmt::Write>(&self, f: &mut fmt::Formatter<W>) -> fmt::Result {
+        let catalog = CatalogWords(&self.catalog);
+        let head = DesignHead {
+            catalog: &self.catalog,
+            design: &self.design,
+        };
+        write!(f, "{catalog}{head}")?;
+        self.write_table(f)?;
+        self.write_sums(f)?;
+        self.write_strays(f)?;
+        self.write_unfinished(f)
+    }
+}
