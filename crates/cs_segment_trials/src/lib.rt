@@ -1,5 +1,0 @@
-//! Trials of segments' files.
-#![tactic(auto)]
-
-#[cfg(test)]
-mod segments;

@@ -1,7 +1,0 @@
-//! Trials of saves whose files are written side by side.
-#![tactic(auto)]
-
-#[cfg(test)]
-mod saves;
-#[cfg(test)]
-mod sinks;

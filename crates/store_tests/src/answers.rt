@@ -1,0 +1,193 @@
+//! What a store answers, asked with few and many workers, and with small and large cuts.
+use crate::stores::Store;
+use cs_rebuild::{check, rebuild};
+use cs_schema::FileName;
+use cs_store::{Fault, FileSet};
+use std::alloc::Global;
+use std::marker::Sync;
+use std::process::Abort;
+use std::test::Fail;
+use std::thread::Threads;
+use test_support::files::sealed;
+use test_support::stores::loss_of;
+
+/// A file: its name, its length, and what stands before its digest, in hexadecimal digits.
+pub type Written = (FileName, usize, &'static str);
+
+/// Why a store is refused: a `Fault` that holds no `Loss`, since no constant can lend one.
+#[derive(Clone, Copy)]
+pub enum Refusal<'a> {
+    Site,
+    BadK,
+    /// The loss of these sites is unsafe.
+    Unsafe(&'a [u8]),
+    Missing(FileName),
+    Damaged(FileName),
+    Astray { p: u16, s: u16, row: u32 },
+    Twice,
+    Misplaced { p: u16, s: u16 },
+    Misled { p: u16, s: u16, q: u16 },
+}
+
+impl Refusal<'_> {
+    fn fault(self) -> Fault {
+        match self {
+            Refusal::Site => Fault::Site,
+            Refusal::BadK => Fault::BadK,
+            Refusal::Unsafe(sites) => Fault::Unsafe(loss_of(sites)),
+            Refusal::Missing(name) => Fault::Missing(name),
+            Refusal::Damaged(name) => Fault::Damaged(name),
+            Refusal::Astray { p, s, row } => Fault::Astray { p, s, row },
+            Refusal::Twice => Fault::Twice,
+            Refusal::Misplaced { p, s } => Fault::Misplaced { p, s },
+            Refusal::Misled { p, s, q } => Fault::Misled { p, s, q },
+        }
+    }
+}
+
+/// What a rebuild or a check is asked, and answers.
+#[derive(Drop)]
+pub enum Ask<'a> {
+    /// The loss of these sites costs just these files.
+    Files(&'a [u8], &'a [Written]),
+    /// The loss of these sites costs just these files, which come back as they stand in the store.
+    Restored(&'a [u8], &'a [FileName]),
+    /// A rebuild after the loss of these sites is refused.
+    Refused(&'a [u8], Refusal<'a>),
+    /// A check for so many lost sites.
+    Checked(u8, Result<u64, Refusal<'a>>),
+}
+
+/// Asks a store, and asks for the answers.
+pub fn expect(rt: &(impl Threads + Sync + Abort), store: &Store, asks: &[Ask]) -> Result<(), Fail> {
+    for ask in asks {
+        match ask {
+            Ask::Files(sites, _) | Ask::Restored(sites, _) | Ask::Refused(sites, _) => {
+                expect_rebuilt(rt, store, sites, ask)?;
+            }
+            Ask::Checked(k, Ok(rows)) => expect_checked(rt, store, *k, Ok(*rows)),
+            Ask::Checked(k, Err(refusal)) => expect_checked(rt, store, *k, Err(refusal.fault())),
+        }
+    }
+    Ok(())
+}
+
+fn expect_rebuilt(
+    rt: &(impl Threads + Sync + Abort),
+    store: &Store,
+    sites: &[u8],
+    wanted: &Ask,
+) -> Result<(), Fail> {
+    let loss = loss_of(sites);
+    for workers in [1u32, 2, 64] {
+        for cut in [1u32, 2, 1_048_576] {
+            let out = rebuild(
+                rt,
+                store.alloc,
+                &store.catalog,
+                &store.files,
+                loss,
+                workers,
+                cut,
+            );
+            match out {
+                Ok(files) => expect_files(rt, store, &files, wanted)?,
+                Err(fault) => expect_refused(rt, fault, wanted)?,
+            }
+        }
+    }
+    Ok(())
+}
+
+fn expect_files(rt: &impl Abort, store: &Store, files: &FileSet, wanted: &Ask) -> Result<(), Fail> {
+    match wanted {
+        Ask::Files(_, wanted) => expect_written(rt, store.alloc, files, wanted),
+        Ask::Restored(_, names) => expect_restored(rt, store, files, names),
+        _ => Err(Fail::from("not refused")),
+    }
+}
+
+fn expect_refused(rt: &impl Abort, fault: Fault, wanted: &Ask) -> Result<(), Fail> {
+    let Ask::Refused(_, refusal) = wanted else {
+        return Err(Fail::from("refused"));
+    };
+    assert_eq!(rt; fault, refusal.fault());
+    Ok(())
+}
+
+/// The bytes that hexadecimal digits stand for. What else stands there is for reading only.
+fn bytes_of(alloc: Global, digits: &str) -> Result<Vec<u8>, Fail> {
+    let mut out = Vec::new(alloc);
+    let mut high = None;
+    for byte in digits.bytes() {
+        let digit = match byte {
+            b'0'..=b'9' => byte - b'0',
+            b'a'..=b'f' => byte - b'a' + 10,
+            _ => continue,
+        };
+        match high {
+            None => high = Some(digit << 4),
+            Some(bits) => {
+                out.push(bits | digit)?;
+                high = None;
+            }
+        }
+    }
+    Ok(out)
+}
+
+/// Asks that these are just these files.
+pub fn expect_written(
+    rt: &impl Abort,
+    alloc: Global,
+    files: &FileSet,
+    wanted: &[Written],
+) -> Result<(), Fail> {
+    assert_eq!(rt; files.len(), wanted.len());
+    for (name, length, digits) in wanted {
+        let body = bytes_of(alloc, digits)?;
+        let bytes = sealed(alloc, body.as_slice())?;
+        let (found, there) = (files.get(*name), Some(bytes.as_slice()));
+        assert_eq!(rt; (found, bytes.len()), (there, *length), "{name}");
+    }
+    Ok(())
+}
+
+/// Asks that these are just the files of these names, as they stand in the store.
+fn expect_restored(
+    rt: &impl Abort,
+    store: &Store,
+    files: &FileSet,
+    names: &[FileName],
+) -> Result<(), Fail> {
+    assert_eq!(rt; files.len(), names.len());
+    for name in names {
+        let Some(file) = files.get(*name) else {
+            return Err(Fail::from("a file is not there"));
+        };
+        assert_eq!(rt; Some(file), store.files.get(*name), "{name}");
+    }
+    Ok(())
+}
+
+fn expect_checked(
+    rt: &(impl Threads + Sync + Abort),
+    store: &Store,
+    k: u8,
+    wanted: Result<u64, Fault>,
+) {
+    for workers in [1u32, 2, 64] {
+        for cut in [1u32, 2, 1_048_576] {
+            let rows = check(
+                rt,
+                store.alloc,
+                &store.catalog,
+                &store.files,
+                k,
+                workers,
+                cut,
+            );
+            assert_eq!(rt; rows, wanted);
+        }
+    }
+}

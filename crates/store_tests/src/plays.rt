@@ -1,0 +1,75 @@
+//! Stores that are changed and asked, one step after the other.
+use crate::answers::{Ask, expect};
+use crate::stores::Store;
+use cs_schema::FileName;
+use std::marker::Sync;
+use std::process::Abort;
+use std::test::Fail;
+use std::thread::Threads;
+use test_support::catalogs::{Edit, edited};
+use test_support::columns::Column;
+use test_support::files::{Delta, changed};
+use test_support::stores::Parts;
+
+/// The edits of a catalog, the parts of a store under it, and what is done to the store and asked of it in turn.
+pub type Play<'a> = (&'a [Edit<'a>], &'a Parts<'a>, &'a [Step<'a>]);
+
+/// What is done to a store, or asked of it.
+#[derive(Drop)]
+pub enum Step<'a> {
+    Asked(&'a [Ask<'a>]),
+    /// Puts a segment there, by `p` and `s`, and its delta without items.
+    Segment(u16, u16, &'a [Column<'a>]),
+    /// Puts the delta of a segment there.
+    Delta(u16, u16, Delta<'a>),
+    /// Puts a join index there, by `p`, `s` and `q`.
+    Join(u16, u16, u16, &'a [(u16, u32)]),
+    /// Puts a file of one byte there.
+    OneByte(FileName),
+    LastByteChanged(FileName),
+    LastByteCut(FileName),
+    TakenAway(FileName),
+}
+
+/// Goes through the plays of a catalog, and asks for each answer.
+pub fn expect_plays(
+    rt: &(impl Threads + Sync + AllocGlobal + Abort),
+    catalog: &str,
+    plays: &[Play],
+) -> Result<(), Fail> {
+    for (edits, parts, steps) in plays {
+        let text = edited(rt.alloc(), catalog, edits)?;
+        expect_play(rt, text.as_str(), parts, steps)?;
+    }
+    Ok(())
+}
+
+fn expect_play(
+    rt: &(impl Threads + Sync + AllocGlobal + Abort),
+    catalog: &str,
+    parts: &Parts,
+    steps: &[Step],
+) -> Result<(), Fail> {
+    let mut store = Store::made(rt.alloc(), catalog, parts)?;
+    for step in steps {
+        take_step(rt, &mut store, step)?;
+    }
+    Ok(())
+}
+
+fn take_step(
+    rt: &(impl Threads + Sync + Abort),
+    store: &mut Store,
+    step: &Step,
+) -> Result<(), Fail> {
+    match step {
+        Step::Asked(asks) => expect(rt, store, asks),
+        Step::Segment(p, s, columns) => store.put_segment(*p, *s, columns),
+        Step::Delta(p, s, delta) => store.put_delta(*p, *s, *delta),
+        Step::Join(p, s, q, entries) => store.put_join(*p, *s, *q, entries),
+        Step::OneByte(name) => store.put_one_byte(*name),
+        Step::LastByteChanged(name) => store.change_last_byte(*name),
+        Step::LastByteCut(name) => store.cut_last_byte(*name),
+        Step::TakenAway(name) => store.take_away(*name),
+    }
+}
