@@ -101,8 +101,16 @@ pub fn expect_all(
     trials: &[Trial],
 ) -> Result<(), Fail> {
     for trial in trials {
-        let mut places = places_of(rt.alloc(), stored)?;
-        expect(rt, &mut places, trial)?;
+        expect_one(rt, stored, trial)?;
     }
     Ok(())
+}
+
+fn expect_one(
+    rt: &(impl Threads + Sync + AllocGlobal + Abort),
+    stored: &Stored,
+    trial: &Trial,
+) -> Result<(), Fail> {
+    let mut places = places_of(rt.alloc(), stored)?;
+    expect(rt, &mut places, trial)
 }

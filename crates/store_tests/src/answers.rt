@@ -90,13 +90,22 @@ fn expect_rebuilt(
                 workers,
                 cut,
             );
-            match out {
-                Ok(files) => expect_files(rt, store, &files, wanted)?,
-                Err(fault) => expect_refused(rt, fault, wanted)?,
-            }
+            expect_answer(rt, store, out, wanted)?;
         }
     }
     Ok(())
+}
+
+fn expect_answer(
+    rt: &impl Abort,
+    store: &Store,
+    answer: Result<FileSet, Fault>,
+    wanted: &Ask,
+) -> Result<(), Fail> {
+    match answer {
+        Ok(files) => expect_files(rt, store, &files, wanted),
+        Err(fault) => expect_refused(rt, fault, wanted),
+    }
 }
 
 fn expect_files(rt: &impl Abort, store: &Store, files: &FileSet, wanted: &Ask) -> Result<(), Fail> {
@@ -136,6 +145,12 @@ fn bytes_of(alloc: Global, digits: &str) -> Result<Vec<u8>, Fail> {
     Ok(out)
 }
 
+/// The file of which these digits say what stands before its digest.
+fn file_of(alloc: Global, digits: &str) -> Result<Vec<u8>, Fail> {
+    let body = bytes_of(alloc, digits)?;
+    Ok(sealed(alloc, body.as_slice())?)
+}
+
 /// Asks that these are just these files.
 pub fn expect_written(
     rt: &impl Abort,
@@ -145,8 +160,7 @@ pub fn expect_written(
 ) -> Result<(), Fail> {
     assert_eq!(rt; files.len(), wanted.len());
     for (name, length, digits) in wanted {
-        let body = bytes_of(alloc, digits)?;
-        let bytes = sealed(alloc, body.as_slice())?;
+        let bytes = file_of(alloc, digits)?;
         let (found, there) = (files.get(*name), Some(bytes.as_slice()));
         assert_eq!(rt; (found, bytes.len()), (there, *length), "{name}");
     }

@@ -11,7 +11,7 @@ use std::marker::Sync;
 use std::process::Abort;
 use std::test::Fail;
 use std::thread::Threads;
-use test_support::catalogs::{AS_IT_IS, BY_ROWS, Edit, edited};
+use test_support::catalogs::{AS_IT_IS, BY_ROWS, Edit};
 use test_support::columns::{Column, cells_of};
 use test_support::samples::{CITY_PARTS, ORDER_PARTS};
 use test_support::stores::{Parts, loss_of};
@@ -157,10 +157,19 @@ fn expect_built(
     };
     assert_eq!(rt; files.len(), store.files.len());
     expect_among(rt, &files, &store.files);
+    expect_losses(rt, store, &files, case)
+}
+
+fn expect_losses(
+    rt: &(impl Threads + Sync + Abort),
+    store: &Store,
+    files: &FileSet,
+    case: &Case,
+) -> Result<(), Fail> {
     for (sites, count) in case.losses {
         let loss = loss_of(sites);
-        expect_table(rt, store, &files, loss, case.by_key)?;
-        expect_rebuilt(rt, store, &files, loss, *count)?;
+        expect_table(rt, store, files, loss, case.by_key)?;
+        expect_rebuilt(rt, store, files, loss, *count)?;
     }
     Ok(())
 }
@@ -171,10 +180,13 @@ fn expect_case(
     case: &Case,
     rule: &[Edit],
 ) -> Result<(), Fail> {
-    let text = edited(rt.alloc(), case.text, rule)?;
-    let store = Store::made(rt.alloc(), text.as_str(), case.parts)?;
-    expect_built(rt, &store, 1, case)?;
-    expect_built(rt, &store, 4, case)
+    let store = Store::edited(rt.alloc(), case.text, rule, case.parts)?;
+    expect_cuts(rt, &store, case)
+}
+
+fn expect_cuts(rt: &(impl Threads + Sync + Abort), store: &Store, case: &Case) -> Result<(), Fail> {
+    expect_built(rt, store, 1, case)?;
+    expect_built(rt, store, 4, case)
 }
 
 const CASES: [(&Case, &[Edit]); 4] = [

@@ -9,13 +9,12 @@ use crate::{joined, three_orders};
 use cs_board::Gate;
 use cs_rebuild::{check_gated, rebuild_gated};
 use cs_schema::samples::{SPLIT_COLUMNS, THREE_PROJECTIONS};
-use std::alloc::Global;
 use std::marker::Sync;
 use std::process::Abort;
 use std::sync::atomic::{AtomicU64, Ordering};
 use std::test::Fail;
 use std::thread::Threads;
-use test_support::catalogs::{AS_IT_IS, BY_ROWS, Edit, edited};
+use test_support::catalogs::{AS_IT_IS, BY_ROWS, Edit};
 use test_support::samples::{JOINED_PARTS, ORDER_PARTS};
 use test_support::stores::{Parts, loss_of};
 
@@ -177,12 +176,6 @@ struct Work {
     ghost cut_range: { (1 ≤ cut) × (cut ≤ 1048576) },
 }
 
-/// The store under an edited catalog.
-fn store_of(alloc: Global, lost: &Lost, edits: &[Edit]) -> Result<Store, Fail> {
-    let text = edited(alloc, lost.catalog, edits)?;
-    Store::made(alloc, text.as_str(), lost.parts)
-}
-
 fn work_of(rt: &impl Abort, workers: u32, cut: u32) -> Work {
     assert!(rt; workers >= 1 && workers <= 64 && cut >= 1 && cut <= 1_048_576);
     Work { workers, cut }
@@ -194,12 +187,20 @@ fn expect_rebuilds(
     lost: &Lost,
     trials: &[Rebuild],
 ) -> Result<(), Fail> {
-    for (edits, workers, cut, held, pieces) in trials {
-        let store = store_of(rt.alloc(), lost, edits)?;
-        let work = work_of(rt, *workers, *cut);
-        expect_rebuilt(rt, &store, lost, &work, *held, *pieces)?;
+    for trial in trials {
+        expect_rebuild(rt, lost, trial)?;
     }
     Ok(())
+}
+
+fn expect_rebuild(
+    rt: &(impl Threads + Sync + AllocGlobal + Abort),
+    lost: &Lost,
+    (edits, workers, cut, held, pieces): &Rebuild,
+) -> Result<(), Fail> {
+    let store = Store::edited(rt.alloc(), lost.catalog, edits, lost.parts)?;
+    let work = work_of(rt, *workers, *cut);
+    expect_rebuilt(rt, &store, lost, &work, *held, *pieces)
 }
 
 /// Asks that so many workers check the store at once in each round, in so many pieces.
@@ -209,7 +210,7 @@ fn expect_checks(
     trials: &[Check],
 ) -> Result<(), Fail> {
     for (edits, k, workers, cut, pieces) in trials {
-        let store = store_of(rt.alloc(), lost, edits)?;
+        let store = Store::edited(rt.alloc(), lost.catalog, edits, lost.parts)?;
         let work = work_of(rt, *workers, *cut);
         expect_checked(rt, &store, *k, lost.rows, &work, *pieces);
     }

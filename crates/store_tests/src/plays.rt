@@ -6,7 +6,7 @@ use std::marker::Sync;
 use std::process::Abort;
 use std::test::Fail;
 use std::thread::Threads;
-use test_support::catalogs::{Edit, edited};
+use test_support::catalogs::Edit;
 use test_support::columns::Column;
 use test_support::files::{Delta, changed};
 use test_support::stores::Parts;
@@ -37,9 +37,8 @@ pub fn expect_plays(
     catalog: &str,
     plays: &[Play],
 ) -> Result<(), Fail> {
-    for (edits, parts, steps) in plays {
-        let text = edited(rt.alloc(), catalog, edits)?;
-        expect_play(rt, text.as_str(), parts, steps)?;
+    for play in plays {
+        expect_play(rt, catalog, play)?;
     }
     Ok(())
 }
@@ -47,12 +46,19 @@ pub fn expect_plays(
 fn expect_play(
     rt: &(impl Threads + Sync + AllocGlobal + Abort),
     catalog: &str,
-    parts: &Parts,
+    (edits, parts, steps): &Play,
+) -> Result<(), Fail> {
+    let mut store = Store::edited(rt.alloc(), catalog, edits, parts)?;
+    take_steps(rt, &mut store, steps)
+}
+
+fn take_steps(
+    rt: &(impl Threads + Sync + Abort),
+    store: &mut Store,
     steps: &[Step],
 ) -> Result<(), Fail> {
-    let mut store = Store::made(rt.alloc(), catalog, parts)?;
     for step in steps {
-        take_step(rt, &mut store, step)?;
+        take_step(rt, store, step)?;
     }
     Ok(())
 }

@@ -4,6 +4,7 @@ use cs_schema::{Catalog, FileName};
 use cs_store::FileSet;
 use std::alloc::Global;
 use std::test::Fail;
+use test_support::catalogs::{Edit, edited};
 use test_support::columns::Column;
 use test_support::file_sets::without;
 use test_support::files::{Delta, delta_file, join_file};
@@ -36,6 +37,12 @@ impl Store {
         let mut store = Store::of(alloc, text)?;
         put_parts(alloc, &mut store.files, &store.catalog, parts)?;
         Ok(store)
+    }
+
+    /// A store of these parts, under an edited catalog.
+    pub fn edited(alloc: Global, text: &str, edits: &[Edit], parts: &Parts) -> Result<Store, Fail> {
+        let text = edited(alloc, text, edits)?;
+        Store::made(alloc, text.as_str(), parts)
     }
 
     /// Puts a segment whose columns are written in the catalog's codes, and a delta without items.
