@@ -8,7 +8,15 @@ mod devices;
 #[cfg(test)]
 mod expecting;
 #[cfg(test)]
+mod folder_limits;
+#[cfg(test)]
+mod folder_reads;
+#[cfg(test)]
+mod folder_writes;
+#[cfg(test)]
 mod folders;
+#[cfg(test)]
+mod made_folders;
 #[cfg(test)]
 mod places;
 #[cfg(test)]

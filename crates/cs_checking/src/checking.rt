@@ -5,13 +5,13 @@ ghost use Rattle.cs_parallel_io.specs.Standing.{standing};
 ghost use Rattle.cs_checking.specs.Checks.{ChecksStore};
 
 use crate::judging::judge;
-use pinepolo_text::Checked;
-use pinepolo_args::Checking;
-use pinepolo_places::{Listings, Stop, find_store};
-use pinepolo_progress::Progress;
 use cs_parallel_io::load_readable_side_by_side;
 use cs_rebuild::Run;
 use cs_schema::Loss;
+use pinepolo_args::Checking;
+use pinepolo_places::{Listings, Stop, find_store};
+use pinepolo_progress::Progress;
+use pinepolo_text::Checked;
 use std::marker::Sync;
 use std::thread::Threads;
 

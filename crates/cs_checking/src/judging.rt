@@ -8,14 +8,14 @@ ghost use Rattle.cs_inspection.specs.BadFiles.{AreBadFiles};
 ghost use Rattle.pinepolo_text.specs.declared.checked.Verdict.TheVariants.{Fatal};
 ghost use Rattle.cs_checking.specs.Checks.{IsChosen, HasFatal, IsFirstFatal, IsJudged};
 
-use pinepolo_text::Verdict;
 use cs_design::{fatal_losses, greatest_k};
 use cs_inspection::{Badness, bad_files};
-use pinepolo_places::Stop;
-use pinepolo_progress::{Progress, Stage};
 use cs_rebuild::{Run, check_gated};
 use cs_schema::{Catalog, FileName, Loss};
 use cs_store::{Fault, FileSet};
+use pinepolo_places::Stop;
+use pinepolo_progress::{Progress, Stage};
+use pinepolo_text::Verdict;
 use std::alloc::Global;
 use std::marker::Sync;
 use std::thread::Threads;

@@ -4,9 +4,8 @@ ghost use Rattle.cs_store.specs.Fault.{CountsFault};
 ghost use Rattle.cs_store.specs.declared.fault.StoreFault.{StoreFault};
 
 use cs_board::Gate;
-use cs_parallel_io::SharedSource;
+use cs_parallel_io::{BatchSink, SharedSource};
 use cs_store::{Source, StoreFault};
-use cs_parallel_io::BatchSink;
 use std::marker::Sync;
 
 /// Stores and outputs by path. Places in memory can say by their ghost members what they found and made; those over

@@ -3,9 +3,9 @@ ghost use Rattle.std.specs.Prelude.{◌≡◌, ◌≤◌, ⊤, IsErrOf};
 ghost use Rattle.cs_store.specs.Fault.{CountsFault};
 
 use crate::paths::{file_in, no_memory, path_in};
+use cs_parallel_io::{BatchSink, FileWriter};
 use cs_schema::FileName;
 use cs_store::{Sink, StoreFault};
-use cs_parallel_io::{BatchSink, FileWriter};
 use std::alloc::Global;
 use std::fs::OpenFile;
 use std::io::Write;

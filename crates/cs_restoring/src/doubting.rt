@@ -7,16 +7,14 @@ ghost use Rattle.cs_restoring.specs.Doubts.{IsDoubtful, IsEachBad, IsUndoubted};
 
 use cs_design::within::is_within;
 use cs_diagnosis::explained::{is_explained, is_found};
-use cs_diagnosis::{
-    Diagnosis, TableDisputes, Verdict, bad_sites, diagnose, disputed_rows, others,
-};
+use cs_diagnosis::{Diagnosis, TableDisputes, Verdict, bad_sites, diagnose, disputed_rows, others};
 use cs_inspection::bad_survivors;
-use pinepolo_places::Stop;
-use pinepolo_progress::{Progress, Stage};
 use cs_rebuild::Run;
 use cs_safety::safe;
 use cs_schema::{Catalog, Loss};
 use cs_store::Readable;
+use pinepolo_places::Stop;
+use pinepolo_progress::{Progress, Stage};
 use std::alloc::AllocError;
 use std::marker::Sync;
 use std::thread::Threads;

@@ -1,7 +1,7 @@
 //! How a restore or an undo ends early.
-use pinepolo_places::{GivenBack, Stop, Untaken, WorkKind, refused, stop_of};
 use cs_schema::{Catalog, Loss};
 use cs_store::{Fault, StoreFault};
+use pinepolo_places::{GivenBack, Stop, Untaken, WorkKind, refused, stop_of};
 use std::alloc::Global;
 
 /// The store that is restored, or put back as it was.

@@ -5,12 +5,12 @@ ghost use Rattle.cs_restoring.specs.Restores.{Foresees};
 use crate::ending::{LostStore, stop_unseen};
 use crate::planning::{plan, planned};
 use crate::reading::{doubt_of, doubted, read_files};
-use pinepolo_text::Restoration;
+use cs_rebuild::Run;
+use cs_schema::Catalog;
 use pinepolo_args::Restoring;
 use pinepolo_places::{Shelves, Stop, WorkKind};
 use pinepolo_progress::Progress;
-use cs_rebuild::Run;
-use cs_schema::Catalog;
+use pinepolo_text::Restoration;
 use std::marker::Sync;
 use std::thread::Threads;
 

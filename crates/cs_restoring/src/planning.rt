@@ -3,14 +3,14 @@ ghost use Rattle.std.specs.Prelude.{◌≡◌, IfOk, None};
 ghost use Rattle.cs_restoring.specs.Restores.{PlansFrom};
 
 use crate::ending::LostStore;
-use pinepolo_text::Restored;
 use cs_design::greatest_k;
-use pinepolo_places::{Stop, stop_of};
-use pinepolo_progress::Progress;
 use cs_rebuild::Run;
 use cs_restore::{Step, plan_restore};
 use cs_schema::{Catalog, Loss};
 use cs_store::Readable;
+use pinepolo_places::{Stop, stop_of};
+use pinepolo_progress::Progress;
+use pinepolo_text::Restored;
 use std::marker::Sync;
 use std::thread::Threads;
 

@@ -9,14 +9,14 @@ ghost use Rattle.cs_restoring.specs.Doubts.{IsDoubtful, IsUndoubted};
 ghost use Rattle.cs_restoring.specs.declared.doubting.Doubt.{Doubt as DoubtData};
 
 use crate::doubting::{Doubt, find_doubt};
-use pinepolo_text::{Diagnosed, Doubted};
-use pinepolo_args::Restoring;
-use pinepolo_places::Stop;
-use pinepolo_progress::Progress;
 use cs_rebuild::Run;
 use cs_schema::{Catalog, Loss};
 use cs_shelf::{Shelf, load_readable_held};
 use cs_store::Readable;
+use pinepolo_args::Restoring;
+use pinepolo_places::Stop;
+use pinepolo_progress::Progress;
+use pinepolo_text::{Diagnosed, Doubted};
 use std::alloc::Global;
 use std::marker::Sync;
 use std::thread::Threads;

@@ -4,11 +4,11 @@ ghost use Rattle.cs_restoring.specs.Undoes.{DoesUndo, EndsUndo, undo_asked};
 
 use crate::ending::{LostStore, stop_unended, stop_untaken};
 use crate::working::leave;
-use pinepolo_text::Undone;
+use cs_restore::put_back;
+use cs_schema::{Catalog, Loss};
 use pinepolo_args::Undoing;
 use pinepolo_places::{Shelves, Stop, UndoOf, Undoable, WorkKind, find_store};
-use cs_schema::{Catalog, Loss};
-use cs_restore::put_back;
+use pinepolo_text::Undone;
 use std::alloc::Global;
 
 /// Which work a request asks to undo.

@@ -5,11 +5,11 @@ ghost use Rattle.cs_shelf.specs.Shelf.{IsReadIn};
 ghost use Rattle.cs_restoring.specs.Restores.{WorksOnStore};
 
 use crate::ending::{LostStore, stop_by, stop_unended};
-use pinepolo_places::{GivenBack, Shelves, Stop};
-use pinepolo_progress::Progress;
 use cs_rebuild::Run;
 use cs_restore::{Restored, restore};
 use cs_store::{Fault, Readable};
+use pinepolo_places::{GivenBack, Shelves, Stop};
+use pinepolo_progress::Progress;
 use std::alloc::Global;
 use std::marker::Sync;
 use std::thread::Threads;

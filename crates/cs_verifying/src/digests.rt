@@ -5,8 +5,8 @@ ghost use Rattle.cs_parallel_io.specs.Standing.{standing};
 ghost use Rattle.cs_verifying.specs.Promises.{DigestsStore};
 
 use cs_manifest::{Digested, digest_files, digest_of};
-use pinepolo_places::{Places, Stop, find_store_text};
 use cs_schema::{Catalog, FileName};
+use pinepolo_places::{Places, Stop, find_store_text};
 use std::alloc::Global;
 
 /// The digests of a store.

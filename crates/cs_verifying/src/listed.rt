@@ -5,8 +5,8 @@ ghost use Rattle.cs_verifying.specs.Statuses.{listed_status, is_missing, is_unre
 
 use crate::file_line::FileLine;
 use cs_manifest::Digested;
-use pinepolo_places::{DEVICE, DONE, REFUSED};
 use cs_schema::{Catalog, FileName};
+use pinepolo_places::{DEVICE, DONE, REFUSED};
 use std::fmt;
 
 /// The manifest of a store, and what its files came to.

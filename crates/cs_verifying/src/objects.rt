@@ -2,10 +2,10 @@
 use crate::listed::Listed;
 use crate::verified::{Verified, difference_word};
 use cs_manifest::{CATALOG, Difference};
-use pinepolo_places::DONE;
 use cs_reports::object::{Object, number_or_null};
 use cs_reports::site_of;
 use cs_schema::FileName;
+use pinepolo_places::DONE;
 use serde_json::Value;
 use std::alloc::{AllocError, Global};
 

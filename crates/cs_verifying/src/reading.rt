@@ -3,8 +3,8 @@ ghost use Rattle.std.specs.Prelude.{◌≡◌, IfOk};
 ghost use Rattle.cs_verifying.specs.Promises.{AreAllOf, ReadsManifest};
 
 use cs_manifest::{Manifest, ManifestFault, read_manifest};
-use pinepolo_places::{Stop, Tables, refused};
 use cs_store::StoreFault;
+use pinepolo_places::{Stop, Tables, refused};
 use std::alloc::Global;
 use std::io;
 use std::io::Read;

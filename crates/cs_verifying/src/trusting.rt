@@ -6,10 +6,10 @@ ghost use Rattle.cs_verifying.specs.Trust.{is_changed, MayReadManifest};
 
 use crate::reading::manifest_at;
 use cs_manifest::{Manifest, digest_of};
-use pinepolo_places::{Stop, Tables};
 use cs_parallel_io::SharedSource;
 use cs_schema::FileName;
 use cs_store::StoreFault;
+use pinepolo_places::{Stop, Tables};
 use std::alloc::Global;
 
 /// Whether a manifest says another digest than that of these bytes; of a path that it lacks it says none.

@@ -5,8 +5,8 @@ ghost use Rattle.cs_verifying.specs.Statuses.{verified_status, differing_status,
 
 use crate::file_line::FileLine;
 use cs_manifest::{CATALOG, Comparison, Difference};
-use pinepolo_places::{DEVICE, DONE, REFUSED};
 use cs_schema::{Catalog, FileName};
+use pinepolo_places::{DEVICE, DONE, REFUSED};
 use std::fmt;
 
 /// A store beside a manifest.

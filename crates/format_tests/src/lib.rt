@@ -7,6 +7,10 @@ mod catalogs;
 #[cfg(test)]
 mod cells;
 #[cfg(test)]
+mod csv_rows;
+#[cfg(test)]
+mod csv_streams;
+#[cfg(test)]
 mod cut_bitmaps;
 #[cfg(test)]
 mod deltas;

@@ -1,8 +1,8 @@
 //! Saves to a sink with a writer, and to one without.
 use crate::sinks::{Failing, Noted, Noting};
+use cs_parallel_io::save_batch;
 use cs_schema::FileName;
 use cs_store::{Fault, FileSet};
-use cs_parallel_io::save_batch;
 use std::alloc::Global;
 use std::cell::RefCell;
 use std::marker::Sync;

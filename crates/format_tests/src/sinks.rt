@@ -2,9 +2,9 @@
 ghost use Rattle.std.specs.Prelude.{◌≡◌, ◌≤◌, ⊤, IsErrOf};
 ghost use Rattle.cs_store.specs.Fault.{CountsFault};
 
+use cs_parallel_io::{BatchSink, FileWriter};
 use cs_schema::FileName;
 use cs_store::{Sink, StoreFault};
-use cs_parallel_io::{BatchSink, FileWriter};
 use std::alloc::Global;
 use std::cell::RefCell;
 use std::rc::Rc;

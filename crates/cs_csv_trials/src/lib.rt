@@ -1,7 +1,0 @@
-//! Trials of reading and writing rows as CSV.
-#![tactic(auto)]
-
-#[cfg(test)]
-mod rows;
-#[cfg(test)]
-mod streams;

@@ -1,0 +1,166 @@
+//! Stores in memory that are listed, taken for a restore and given back.
+use crate::names::sorted_names;
+use crate::places::MemoryPlaces;
+use crate::standing::copy_files;
+use crate::undos::{number_of, put_shelf, undoable_of};
+use cs_schema::{Catalog, Loss};
+use cs_shelf::MemoryShelf;
+use cs_store::StoreFault;
+use pinepolo_places::{GivenBack, Listings, Shelves, UndoOf, Undoable, Untaken, Work, WorkKind};
+use std::alloc::AllocError;
+
+impl Listings for MemoryPlaces {
+    ghost use Rattle.std.specs.Prelude.{◌≡◌};
+    ghost use Rattle.verb_cases.specs.Standing.{ListsNames, unfinished_at};
+
+    ghost lists = { ListsNames };
+
+    ghost leaves = { λ s path kind. kind ≡ unfinished_at s path };
+
+    fn names(&mut self, path: &str) -> Result<Vec<String>, StoreFault> {
+        let names = match self.stores.get(path) {
+            Some(store) => sorted_names(self.alloc, store),
+            None => return Err(self.fault()),
+        };
+        match names {
+            Ok(names) => Ok(names),
+            Err(_) => Err(StoreFault::Memory),
+        }
+    }
+
+    fn unfinished(&self, path: &str) -> Result<Option<WorkKind>, AllocError> {
+        let Some(store) = self.stores.get(path) else {
+            return Ok(None);
+        };
+        Ok(match store.restoring {
+            Some(Work::Restore(_)) => Some(WorkKind::Restore),
+            Some(Work::Undo(_)) => Some(WorkKind::Undo),
+            None => None,
+        })
+    }
+}
+
+impl Shelves for MemoryPlaces {
+    ghost use Rattle.std.specs.BTreeMap.{get_by_text};
+    ghost use Rattle.verb_cases.specs.Standing.{GivesBack, HoldsStore, TakesStore, TakesUndo};
+
+    type Shelf = MemoryShelf;
+
+    ghost takes_store = { λ s path catalog lost store t. TakesStore s path lost store t };
+
+    ghost takes_undo = { λ s path catalog asked back names store t. TakesUndo s path store t };
+
+    ghost looks_at = { λ s path catalog store. HoldsStore (get_by_text s.stores path) store };
+
+    ghost gives_back = { GivesBack };
+
+    #[tactic(auto, using(std::proofs::lemmas::Map::Text::text_keys))]
+    fn take(&mut self, path: &str, _catalog: &Catalog, lost: Loss) -> Result<MemoryShelf, Untaken> {
+        let Ok(name) = String::from_str(self.alloc, path) else {
+            return Err(Untaken::Memory);
+        };
+        let Some(store) = self.stores.get_mut(path) else {
+            return Err(Untaken::Device);
+        };
+        match store.restoring {
+            None => {}
+            Some(Work::Restore(_)) => return Err(Untaken::Unfinished),
+            Some(Work::Undo(_)) => return Err(Untaken::UnfinishedUndo),
+        }
+        let Ok(shelf) = store.shelf(self.alloc, self.stop) else {
+            return Err(Untaken::Memory);
+        };
+        let Ok(begun) = copy_files(self.alloc, &store.files) else {
+            return Err(Untaken::Memory);
+        };
+        store.begun = Some(begun);
+        store.restoring = Some(Work::Restore(lost));
+        self.stop = None;
+        self.taken = Some(name);
+        Ok(shelf)
+    }
+
+    #[tactic(auto, using(std::proofs::lemmas::Map::Text::text_keys))]
+    fn resume(&mut self, path: &str, _catalog: &Catalog) -> Result<(MemoryShelf, Loss), Untaken> {
+        let Ok(name) = String::from_str(self.alloc, path) else {
+            return Err(Untaken::Memory);
+        };
+        let Some(store) = self.stores.get(path) else {
+            return Err(Untaken::Device);
+        };
+        let lost = match store.restoring {
+            Some(Work::Restore(lost)) => lost,
+            Some(Work::Undo(_)) => return Err(Untaken::UnfinishedUndo),
+            None => return Err(Untaken::Finished),
+        };
+        let Ok(shelf) = store.shelf(self.alloc, None) else {
+            return Err(Untaken::Memory);
+        };
+        self.taken = Some(name);
+        Ok((shelf, lost))
+    }
+
+    #[tactic(auto, using(std::proofs::lemmas::Map::Text::text_keys))]
+    fn take_undo(
+        &mut self,
+        path: &str,
+        _catalog: &Catalog,
+        asked: UndoOf,
+    ) -> Result<(MemoryShelf, Undoable), Untaken> {
+        let Ok(name) = String::from_str(self.alloc, path) else {
+            return Err(Untaken::Memory);
+        };
+        let Some(store) = self.stores.get_mut(path) else {
+            return Err(Untaken::Device);
+        };
+        let number = match number_of(store, asked) {
+            Ok(number) => number,
+            Err(untaken) => return Err(untaken),
+        };
+        let undoable = match undoable_of(self.alloc, store, number) {
+            Ok(undoable) => undoable,
+            Err(untaken) => return Err(untaken),
+        };
+        let Ok(shelf) = store.shelf(self.alloc, self.stop) else {
+            return Err(Untaken::Memory);
+        };
+        if store.begun.is_none() {
+            let Ok(begun) = copy_files(self.alloc, &store.files) else {
+                return Err(Untaken::Memory);
+            };
+            store.begun = Some(begun);
+        }
+        store.restoring = Some(Work::Undo(number));
+        self.stop = None;
+        self.taken = Some(name);
+        Ok((shelf, undoable))
+    }
+
+    fn look(&self, path: &str, _catalog: &Catalog) -> Result<MemoryShelf, StoreFault> {
+        match self.stores.get(path) {
+            Some(store) => match store.shelf(self.alloc, None) {
+                Ok(shelf) => Ok(shelf),
+                Err(_) => Err(StoreFault::Memory),
+            },
+            None => Err(StoreFault::Device),
+        }
+    }
+
+    #[tactic(auto, using(std::proofs::lemmas::Map::Text::text_keys))]
+    fn give_back(
+        &mut self,
+        store: MemoryShelf,
+        is_finished: bool,
+    ) -> Result<GivenBack, StoreFault> {
+        let Some(path) = self.taken.take() else {
+            return Err(StoreFault::Device);
+        };
+        let Some(standing) = self.stores.get_mut(path.as_str()) else {
+            return Err(StoreFault::Device);
+        };
+        match put_shelf(self.alloc, standing, store, is_finished) {
+            Ok(given) => Ok(given),
+            Err(_) => Err(StoreFault::Memory),
+        }
+    }
+}

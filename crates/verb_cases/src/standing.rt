@@ -1,0 +1,47 @@
+//! Stores that stand in memory.
+ghost use Rattle.std.specs.Prelude.{◌≡◌, IfOk};
+
+use cs_shelf::{MemoryShelf, Stop};
+use cs_store::FileSet;
+use cs_store::memory::{MemorySink, save_to_memory};
+use pinepolo_places::{Undoable, Work};
+use std::alloc::{AllocError, Global};
+
+/// A store, or an output of a recovery.
+#[derive(Drop)]
+pub struct Standing {
+    /// The bytes of its catalog, which an output has none of.
+    pub catalog: Option<Vec<u8>>,
+    pub files: FileSet,
+    /// The old files that restores kept.
+    pub kept: FileSet,
+    /// The restore or the undo that is not finished.
+    pub restoring: Option<Work>,
+    /// The files as they stood when that began.
+    pub begun: Option<FileSet>,
+    /// What restores and undos that are finished changed, from number 1 on.
+    pub undoable: Vec<Undoable>,
+}
+
+/// The same files once more.
+pub fn copy_files(alloc: Global, files: &FileSet) -> Result<FileSet, AllocError>
+    ensures { IfOk result (λ copy. copy ≡ files.now) }
+{
+    let mut sink = MemorySink::new(alloc, FileSet::new(alloc)?, None);
+    match save_to_memory(files, &mut sink) {
+        Ok(()) => Ok(sink.files),
+        Err(_) => Err(AllocError),
+    }
+}
+
+impl Standing {
+    /// A shelf that holds the same files.
+    pub fn shelf(&self, alloc: Global, stop: Option<Stop>) -> Result<MemoryShelf, AllocError>
+        ensures files { IfOk result (λ shelf. shelf.files ≡ self.now.files) }
+        ensures kept { IfOk result (λ shelf. shelf.kept ≡ self.now.kept) }
+    {
+        let files = copy_files(alloc, &self.files)?;
+        let kept = copy_files(alloc, &self.kept)?;
+        Ok(MemoryShelf::new(alloc, files, kept, stop))
+    }
+}

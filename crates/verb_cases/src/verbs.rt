@@ -1,0 +1,41 @@
+//! Verbs over places in memory, with what they print.
+use crate::places::MemoryPlaces;
+use anyhow::Result;
+use pinepolo_progress::OpenGate;
+use pinepolo_run::{Host, World, run};
+use std::marker::Sync;
+use std::thread::Threads;
+
+impl World for MemoryPlaces {}
+
+/// How many processors there are.
+const PROCESSORS: u32 = 2;
+
+/// Runs a verb over the places, and prints its lines and its status.
+pub fn answered<R: Threads + Sync + AllocGlobal + Print>(
+    rt: &R,
+    places: &mut MemoryPlaces,
+    words: &[&str],
+) -> Result<()> {
+    let alloc = rt.alloc();
+    let mut owned = Vec::new(alloc);
+    for word in words {
+        owned.push(String::from_str(alloc, word)?)?;
+    }
+    let host = Host {
+        rt,
+        alloc,
+        processors: PROCESSORS,
+        gate: &OpenGate,
+    };
+    let mut out = Vec::new(alloc);
+    let mut err = Vec::new(alloc);
+    let status = run(&host, owned.as_slice(), places, &mut out, &mut err);
+    places.settle()?;
+    let out = String::from_utf8_lossy(alloc, out.as_slice())?;
+    let err = String::from_utf8_lossy(alloc, err.as_slice())?;
+    let (out, err) = (out.as_str(), err.as_str());
+    print!(rt; "{out}{err}")?;
+    println!(rt; "status {status}")?;
+    Ok(())
+}
