@@ -49,7 +49,7 @@ fn image(
 {
     let _projections = catalog.projection_count();
     let columns = columns_of(rt, columns);
-    let codes = catalog.projections[p as usize].codes.as_slice();
+    let codes = catalog.projection(p).codes.as_slice();
     let file = segment_file(rt.alloc(), codes, p, s, &columns).expect(rt, "a segment's file");
     let Ok(segment) = read_segment(rt.alloc(), catalog, p, s, file.as_slice()) else {
         panic!(rt; "the segment is not read");
