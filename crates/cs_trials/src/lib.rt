@@ -32,6 +32,8 @@ mod orders_by_ties;
 #[cfg(test)]
 mod plays;
 #[cfg(test)]
+mod rounds;
+#[cfg(test)]
 mod stores;
 #[cfg(test)]
 mod three_orders;
