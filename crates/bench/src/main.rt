@@ -19,7 +19,6 @@ mod stores;
 use anyhow::{Result, anyhow};
 use cs_catalog::read_catalog;
 use cs_order::samples::walked_rows;
-use cs_rows::Table;
 use cs_safety::ksafe;
 use cs_schema::Catalog;
 use std::env;
@@ -120,8 +119,7 @@ fn order(
         return Err(anyhow!("too many rows"));
     }
     let start = Instant::now(rt)?;
-    let table = Table::of_walk(rt.alloc(), walked);
-    match cs_order::orders(rt, rt.alloc(), &table, &catalog) {
+    match cs_order::orders(rt, rt.alloc(), &walked, &catalog) {
         Ok(_) => tell(rt, what, start, timed),
         Err(fault) => Err(anyhow!("{fault:?}")),
     }

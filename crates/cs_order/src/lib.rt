@@ -31,4 +31,4 @@ mod writing;
 pub use all_orders::Orders;
 pub use by_key::key_order;
 pub use fault::OrderFault;
-pub use parallel::orders;
+pub use parallel::{orders, table_orders};

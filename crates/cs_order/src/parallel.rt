@@ -11,18 +11,39 @@ use crate::all_orders::Orders;
 use crate::fault::OrderFault;
 use crate::segments::{ProjectionOrder, ProjectionSorter};
 use crate::sorter::{Sorter, listed_or};
-use cs_rows::Table;
+use cs_rows::{Table, Walked};
 use cs_schema::Catalog;
 use rayon::prelude::*;
 use std::alloc::{AllocError, Global};
 use std::thread::Threads;
 
-/// The orders of all projections.
+/// The orders of all projections of walked rows: those that `table_orders` makes of a table to which the walk lends its columns.
 ///
 /// Refuses rows of which two have one primary key, and else the least range that has too many rows.
-/// Keeps 8 bytes a row and projection. While it runs each row takes 8 bytes more, 2 for each projection, and 8 to 28 for each
-/// that is sorted.
 pub fn orders<R: Threads + Sync>(
+    rt: &R,
+    alloc: Global,
+    walked: &Walked,
+    catalog: &Catalog,
+) -> Result<Orders, OrderFault>
+    requires kinds { walked.now.kinds ≡ map (λ c. c.kind) catalog.now.columns }
+    requires few { length walked.now.rows < 2 ^ 32 }
+    ensures orders { IfOk result (AreOrdersOf catalog.now walked.now.rows) }
+    ensures once { IfOk result (λ _. is_twice catalog.now walked.now.rows ≡ false) }
+    ensures fit { IfOk result (λ _. first_full catalog.now (table_of catalog.now walked.now.rows) ≡ None) }
+    ensures fault { IfErr result (IsOrderFault catalog.now walked.now.rows) }
+{
+    match Table::lent_by(alloc, walked) {
+        Ok(table) => table_orders(rt, alloc, &table, catalog),
+        Err(_) => Err(OrderFault::Memory),
+    }
+}
+
+/// The orders of all projections of a table's rows.
+///
+/// Refuses as `orders` does. Keeps 8 bytes a row and projection. While it runs each row takes 8 bytes more, 2 for each projection,
+/// and 8 to 28 for each that is sorted.
+pub fn table_orders<R: Threads + Sync>(
     rt: &R,
     alloc: Global,
     walked: &Table<'_>,

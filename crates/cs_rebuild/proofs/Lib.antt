@@ -26,7 +26,6 @@ pub mod ListedFiles
 pub mod WalkPieces
 pub mod WrittenFiles
 pub mod OneKind
-pub mod BegunFiles
 pub mod BuiltFiles
 pub mod PickedColumns
 pub mod FewRows

@@ -14,5 +14,4 @@ pub mod Reading
 pub mod Rounds
 pub mod Writing
 pub mod LostFiles
-pub mod Begun
 pub mod OnStore

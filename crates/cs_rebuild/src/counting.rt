@@ -9,7 +9,7 @@ ghost use Rattle.cs_rebuild.specs.Reading.{AreSealed, as_read};
 
 use crate::digests::release_sealed;
 use crate::held::Held;
-use crate::reading::{read_store, read_texts};
+use crate::reading::{read_again, read_texts};
 use crate::run::Run;
 use crate::verifying::verify;
 use cs_board::Gate;
@@ -104,6 +104,6 @@ pub fn count_rows<R: Threads + Sync, G: Gate + Sync>(
     if sealed {
         return answer;
     }
-    let read = read_store(run, catalog, loss, files.files());
+    let read = read_again(run, catalog, loss, files.files());
     count_read(run, catalog, loss, read)
 }

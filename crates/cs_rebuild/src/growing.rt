@@ -1,6 +1,5 @@
 //! Making the file of a lost segment: its columns are written one after the other, and the digest of the file takes each while
-//! the next is made, but for the last ones, or where several files are made for all, which wait behind the file until it is
-//! ended.
+//! the next is made, but for the last ones, which wait behind the file until it is ended.
 ghost use Rattle.std.specs.Prelude.{◌≡◌, ◌<◌, ◌≤◌, ◌+◌, ◌-◌, ℕ, length, IfOk, OnOk};
 ghost use Rattle.cs_schema.specs.CatalogData.{projection};
 ghost use Rattle.cs_segment.specs.Growing.{joined};
@@ -169,26 +168,6 @@ impl LostSegment<'_> {
         )
     }
 
-    /// Puts all columns, up to the last, into a file that holds none, where all wait behind it: no worker waits for a digest.
-    fn grow_behind<R: Threads + Sync, G: Gate + Sync>(
-        &self,
-        run: &Run<'_, R, G>,
-        file: &mut GrowingFile,
-        last: usize,
-    ) -> Result<(), AllocError>
-        requires last { last < length (projection self.now.store.now.catalog.now self.now.p).columns }
-        requires base { IsBase self.now.store.now.catalog.now self.now.p (base_at self.now.store.now.catalog.now self.now.p self.now.store.now.walked.rows self.now.numbers.now) }
-        ensures { OnOk result ((s : ℕ) → HoldsFirst self.now s 0 file.old → HoldsFirst self.now s (last + 1) file.new) }
-    {
-        // columns are few
-        let _width = self.store.catalog.width(self.p);
-        for j in 0..last + 1 {
-            let text = self.text(run, j)?;
-            self.put(file, j, text)?;
-        }
-        Ok(())
-    }
-
     /// Puts all columns, up to the last, into a file that holds none. What takes long to make is made from the start, and no worker
     /// waits for the digest of the last ones.
     fn grow<R: Threads + Sync, G: Gate + Sync>(
@@ -201,9 +180,6 @@ impl LostSegment<'_> {
         requires base { IsBase self.now.store.now.catalog.now self.now.p (base_at self.now.store.now.catalog.now self.now.p self.now.store.now.walked.rows self.now.numbers.now) }
         ensures { OnOk result ((s : ℕ) → HoldsFirst self.now s 0 file.old → HoldsFirst self.now s (last + 1) file.new) }
     {
-        if run.makes_files_at_once(self.store) {
-            return self.grow_behind(run, file, last);
-        }
         if last > 0 && is_slow(self.store.catalog.code(self.p, last)) {
             let (before, text) = self.grow_beside(run, file, last);
             self.put(file, last - 1, before?)?;

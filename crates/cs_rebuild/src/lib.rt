@@ -12,12 +12,10 @@
 mod affected_joins;
 mod anchored;
 mod appending;
-mod begun;
 mod building;
 mod column_pieces;
 mod columns;
 mod columns_of_rows;
-mod compares_last;
 mod comparing;
 mod counting;
 mod digests;

@@ -1,14 +1,18 @@
 //! The files of lost segments, and of their deltas.
 ghost use Rattle.std.specs.Prelude.{◌≡◌, ◌<◌, ◌++◌, All, Some, map, length, IfOk, OnOk};
 ghost use Rattle.cs_schema.specs.CatalogData.{HasSegment, segments};
-ghost use Rattle.cs_rebuild.specs.Begun.{IsBegunFrom, IsBegunOn, begun_name};
-ghost use Rattle.cs_rebuild.specs.OnStore.{written_on};
+ghost use Rattle.cs_schema.specs.Order.{rows_of};
+ghost use Rattle.cs_schema.specs.Rows.{project};
+ghost use Rattle.cs_segment.specs.SegmentFile.{segment_text, base_of};
+ghost use Rattle.cs_delta.specs.DeltaFile.{delta_text, no_changes};
+ghost use Rattle.cs_rebuild.specs.OnStore.{table_on, written_on};
 ghost use Rattle.cs_rebuild.specs.LostFiles.{IsToWrite, IsFileOf, name_of, base_names, names_in, lost_names};
 
-use crate::begun::{BegunFile, begin_file, end_file};
+use crate::encoding::LostSegment;
 use crate::ordered_store::OrderedStore;
 use crate::run::Run;
-use cs_board::Gate;
+use cs_board::{Gate, Round};
+use cs_delta::write_empty_delta;
 use cs_schema::FileName;
 use rayon::prelude::*;
 use std::alloc::{AllocError, Global};
@@ -73,50 +77,36 @@ fn listed_files(alloc: Global, store: &OrderedStore<'_>) -> Result<Vec<LostFile>
     Ok(files)
 }
 
-/// The files of the lost segments and of their deltas, begun: each in a thread where one is free.
-pub fn begin_files<R: Threads + Sync, G: Gate + Sync>(
+/// The file of a lost segment, whose columns the run encodes in one round.
+fn segment_bytes<R: Threads + Sync, G: Gate + Sync>(
     run: &Run<'_, R, G>,
     store: &OrderedStore<'_>,
-) -> Result<Vec<BegunFile>, AllocError>
-    ensures names { IfOk result (λ begun. map begun_name begun.items ≡ lost_names store.now.catalog.now store.now.loss) }
-    ensures begun { IfOk result (λ begun. All (IsBegunOn store.now) begun.items) }
+    p: u16,
+    s: u16,
+) -> Result<Vec<u8>, AllocError>
+    requires segment { HasSegment store.now.catalog.now p s }
+    ensures { IfOk result (λ bytes. bytes.items ≡ segment_text store.now.catalog.now p s (base_of store.now.catalog.now p (map (project store.now.catalog.now p) (rows_of store.now.catalog.now (table_on store.now) p s)))) }
 {
-    let files = listed_files(run.alloc, store)?;
-    files
-        .into_par_iter()
-        // a file is worth a thread
-        .with_min_len(1)
-        .map(
-            |file: LostFile| -> Result<BegunFile, AllocError>
-                requires file { IsToWrite store.now file }
-                ensures { IfOk result (IsBegunFrom store.entry.now (name_of file)) }
-            { begin_file(run, store, file) },
-        )
-        .collect::<Result<Vec<BegunFile>, AllocError>>(run.rt, run.alloc)?
+    let _rules = store.catalog.projection_count();
+    let segment = LostSegment::of(run.alloc, store, p, s, run.cut);
+    let pieces = (store.catalog.width(p) as u32).wrapping_mul(segment.per);
+    run.gate.opened(Round::Columns, pieces);
+    let file = segment.begin(run, s)?;
+    file.finish()
 }
 
-/// The files that were begun, with their names. Each is ended in a thread where one is free: one thread makes the digest of a
-/// file, which is most of the work.
-pub fn end_files<R: Threads + Sync, G: Gate + Sync>(
-    run: &Run<'_, R, G>,
+/// The file of a lost segment's delta: it has no changes.
+fn delta_bytes(
+    alloc: Global,
     store: &OrderedStore<'_>,
-    begun: Vec<BegunFile>,
-) -> Result<Vec<(FileName, Vec<u8>)>, AllocError>
-    requires begun { All (IsBegunOn store.now) begun.items }
-    ensures names { IfOk result (λ made. map (λ file. file.0) made.items ≡ map begun_name begun.items) }
-    ensures texts { IfOk result (λ made. All (λ file. written_on store.now file.0 ≡ Some file.1.items) made.items) }
+    p: u16,
+    s: u16,
+) -> Result<Vec<u8>, AllocError>
+    requires segment { HasSegment store.now.catalog.now p s }
+    ensures { IfOk result (λ bytes. bytes.items ≡ delta_text (no_changes p s (length (rows_of store.now.catalog.now (table_on store.now) p s)))) }
 {
-    begun
-        .into_par_iter()
-        // a file is worth a thread
-        .with_min_len(1)
-        .map(
-            |begun: BegunFile| -> Result<(FileName, Vec<u8>), AllocError>
-                requires begun { IsBegunOn store.now begun }
-                ensures { IfOk result (λ made. IsFileOf store.entry.now (begun_name begun) made.0 made.1.items) }
-            { end_file(store, begun) },
-        )
-        .collect::<Result<Vec<(FileName, Vec<u8>)>, AllocError>>(run.rt, run.alloc)?
+    let rows = store.orders.segment(p, s).len() as u32;
+    write_empty_delta(alloc, p, s, rows)
 }
 
 /// A file that is to be written, with its name.
@@ -128,8 +118,16 @@ fn make_file<R: Threads + Sync, G: Gate + Sync>(
     requires file { IsToWrite store.now file }
     ensures { IfOk result (λ made. IsFileOf store.now (name_of file) made.0 made.1.items) }
 {
-    let begun = begin_file(run, store, file)?;
-    end_file(store, begun)
+    match file {
+        LostFile::Segment { p, s } => {
+            let bytes = segment_bytes(run, store, p, s)?;
+            Ok((FileName::Seg { p, s }, bytes))
+        }
+        LostFile::Delta { p, s } => {
+            let bytes = delta_bytes(run.alloc, store, p, s)?;
+            Ok((FileName::Del { p, s }, bytes))
+        }
+    }
 }
 
 /// The files of the lost segments and of their deltas, with their names. Each is made in a thread where one is free: one thread

@@ -5,7 +5,7 @@ ghost use Rattle.cs_order.specs.Orders.{AreOrdersOf};
 ghost use Rattle.cs_rebuild.specs.Steps.{row_fault};
 
 use crate::run::Run;
-use cs_order::{OrderFault, Orders, orders};
+use cs_order::{OrderFault, Orders, table_orders};
 use cs_rows::Table;
 use cs_schema::Catalog;
 use cs_store::Fault;
@@ -24,7 +24,7 @@ pub fn orders_of<R: Threads + Sync, G>(
     ensures sound { IfOk result (λ _. row_fault catalog.now walked.now.rows ≡ None) }
     ensures err { IfErr result (λ fault. MemoryOr fault (row_fault catalog.now walked.now.rows ≡ Some fault)) }
 {
-    match orders(run.rt, run.alloc, walked, catalog) {
+    match table_orders(run.rt, run.alloc, walked, catalog) {
         Ok(orders) => Ok(orders),
         Err(OrderFault::Memory) => Err(Fault::Memory),
         Err(OrderFault::Twice) => Err(Fault::Twice),

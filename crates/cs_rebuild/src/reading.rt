@@ -9,7 +9,7 @@ ghost use Rattle.cs_segment.specs.SegmentData.{kinds_at};
 ghost use Rattle.cs_store.specs.FileSet.{contents_of};
 ghost use Rattle.cs_store.specs.Fault.{MemoryOr};
 ghost use Rattle.cs_store.specs.declared.fault.Fault.{Fault as FaultData};
-ghost use Rattle.cs_board.specs.Pieces.{AnswersInOrder};
+ghost use Rattle.cs_board.specs.Pieces.{AnswersInOrder, IsAnswered};
 ghost use Rattle.cs_recovery.proofs.CatalogFacts.{IsCatalog-prop};
 ghost use Rattle.cs_recovery.specs.Verdicts.{IsVerdict, surviving_segments};
 ghost use Rattle.cs_schema.specs.Losses.{Sites};
@@ -112,12 +112,29 @@ impl<'a, R> FilesWork<'_, 'a, R> {
     }
 }
 
+/// What the files of all segments hold: read by the workers in one round, or, where that met a bad file, once more by this thread
+/// alone.
+fn read_all<R: Threads + Sync, G: Gate + Sync>(
+    run: &Run<'_, R, G>,
+    work: &FilesWork<'_, '_, R>,
+    again: bool,
+) -> Result<Vec<SegmentFiles>, Fault>
+    ensures ok { IfOk result (λ all. IsAnswered (FilesFaultAt work.now.catalog.now (as_read work.now.compared (contents_of work.now.files.now)) work.now.segments.now) (FilesAnswerAt work.now.catalog.now (as_read work.now.compared (contents_of work.now.files.now)) work.now.segments.now) (length work.now.segments.now) all.items) }
+    ensures err { IfErr result (λ fault. MemoryOr fault (IsFirstFault (FilesFaultAt work.now.catalog.now (as_read work.now.compared (contents_of work.now.files.now)) work.now.segments.now) (length work.now.segments.now) fault)) }
+{
+    if again {
+        return run.in_turn(work);
+    }
+    run.round(Round::Files, work)
+}
+
 /// What the files of some segments hold, read in this order, or the refusal of the first of them that has one.
 fn read_in_order<'a, R: Threads + Sync, G: Gate + Sync>(
     run: &Run<'_, R, G>,
     catalog: &'a Catalog,
     files: &FileSet,
     compared: bool,
+    again: bool,
     segments: &[(u16, u16)],
 ) -> Result<Survivors<'a>, Fault>
     requires few { length segments.now ≤ 128 }
@@ -135,7 +152,7 @@ fn read_in_order<'a, R: Threads + Sync, G: Gate + Sync>(
         workers: run.workers,
         segments,
     };
-    match run.round(Round::Files, &work) {
+    match read_all(run, &work, again) {
         Ok(all) => work.keep_all(all),
         Err(fault) => Err(fault),
     }
@@ -149,13 +166,14 @@ fn read_segments<'a, R: Threads + Sync, G: Gate + Sync>(
     loss: Loss,
     files: &FileSet,
     compared: bool,
+    again: bool,
 ) -> Result<Survivors<'a>, Fault>
     ensures ok { IfOk result (AreRead catalog.now (as_read compared (contents_of files.now)) loss) }
     ensures bad { IfErr result (λ fault. MemoryOr fault (IsBadFile catalog.now (as_read compared (contents_of files.now)) loss fault)) }
     ensures rules { IsCatalog catalog.now }
 {
     match surviving_segments(run.alloc, catalog, loss) {
-        Ok(segments) => read_in_order(run, catalog, files, compared, segments.as_slice()),
+        Ok(segments) => { read_in_order(run, catalog, files, compared, again, segments.as_slice()) }
         Err(_) => Err(Fault::Memory),
     }
 }
@@ -178,6 +196,22 @@ fn longest_first(files: &FileSet, segments: &mut Vec<(u16, u16)>)
     });
 }
 
+/// What the files that survive a loss hold, read with a look at each digest, or the refusal of the least bad one.
+fn read_compared<'a, R: Threads + Sync, G: Gate + Sync>(
+    run: &Run<'_, R, G>,
+    catalog: &'a Catalog,
+    loss: Loss,
+    files: &FileSet,
+    again: bool,
+) -> Result<Survivors<'a>, Fault>
+    ensures ok { IfOk result (AreRead catalog.now (contents_of files.now) loss) }
+    ensures bad { IfErr result (λ fault. MemoryOr fault (IsBadFile catalog.now (contents_of files.now) loss fault)) }
+    ensures err { IfErr result (λ fault. MemoryOr fault (IsVerdict catalog.now (contents_of files.now) loss (Err fault))) }
+    ensures rules { IsCatalog catalog.now }
+{
+    read_segments(run, catalog, loss, files, true, again)
+}
+
 /// What the files that survive a loss hold, or the refusal of the least bad one.
 pub fn read_store<'a, R: Threads + Sync, G: Gate + Sync>(
     run: &Run<'_, R, G>,
@@ -190,10 +224,27 @@ pub fn read_store<'a, R: Threads + Sync, G: Gate + Sync>(
     ensures err { IfErr result (λ fault. MemoryOr fault (IsVerdict catalog.now (contents_of files.now) loss (Err fault))) }
     ensures rules { IsCatalog catalog.now }
 {
-    read_segments(run, catalog, loss, files, true)
+    read_compared(run, catalog, loss, files, false)
 }
 
-/// The same, as if the digest of each file were that of its text: `release_sealed` tells whether they are, beside this.
+/// What the files hold that `read_texts` has read, or the refusal of the least bad one: they are read once more by this thread
+/// alone, and no round opens.
+pub fn read_again<'a, R: Threads + Sync, G: Gate + Sync>(
+    run: &Run<'_, R, G>,
+    catalog: &'a Catalog,
+    loss: Loss,
+    files: &FileSet,
+) -> Result<Survivors<'a>, Fault>
+    ensures ok { IfOk result (AreRead catalog.now (contents_of files.now) loss) }
+    ensures bad { IfErr result (λ fault. MemoryOr fault (IsBadFile catalog.now (contents_of files.now) loss fault)) }
+    ensures err { IfErr result (λ fault. MemoryOr fault (IsVerdict catalog.now (contents_of files.now) loss (Err fault))) }
+    ensures rules { IsCatalog catalog.now }
+{
+    read_compared(run, catalog, loss, files, true)
+}
+
+/// What the files that survive a loss hold, as if the digest of each file were that of its text: `release_sealed` tells whether they
+/// are, beside this.
 pub fn read_texts<'a, R: Threads + Sync, G: Gate + Sync>(
     run: &Run<'_, R, G>,
     catalog: &'a Catalog,
@@ -209,13 +260,13 @@ pub fn read_texts<'a, R: Threads + Sync, G: Gate + Sync>(
     };
     // else the last workers have long files left while the others have none
     longest_first(files, &mut segments);
-    match read_in_order(run, catalog, files, false, segments.as_slice()) {
+    match read_in_order(run, catalog, files, false, false, segments.as_slice()) {
         Ok(survivors) => return Ok(survivors),
         Err(Fault::Memory) => return Err(Fault::Memory),
         Err(_) => {}
     }
     // the order of names tells which is the least bad one
-    read_segments(run, catalog, loss, files, false)
+    read_segments(run, catalog, loss, files, false, true)
 }
 
 /// Keeps what the files of one segment hold.

@@ -10,7 +10,7 @@ ghost use Rattle.cs_rebuild.specs.Reading.{AreSealed, as_read};
 use crate::digests::release_sealed;
 use crate::held::Held;
 use crate::ordered_store::OrderedStore;
-use crate::reading::{read_store, read_texts};
+use crate::reading::{read_again, read_texts};
 use crate::recovering::recover;
 use crate::run::Run;
 use crate::verifying::order_store;
@@ -124,6 +124,6 @@ pub fn rebuild_files<R: Threads + Sync, G: Gate + Sync>(
     if sealed {
         return answer;
     }
-    let read = read_store(run, catalog, loss, files.files());
+    let read = read_again(run, catalog, loss, files.files());
     rebuild_read(run, catalog, loss, read)
 }

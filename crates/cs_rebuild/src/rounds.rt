@@ -6,7 +6,7 @@ ghost use Rattle.cs_store.specs.declared.fault.Fault.{Fault as FaultData};
 ghost use Rattle.cs_rebuild.specs.Rounds.{is_memory, IsNoMemory, IsFirstFault};
 
 use crate::run::Run;
-use cs_board::{Gate, Round, RunFault, Work, run};
+use cs_board::{Gate, OpenGate, Round, RunFault, Work, run, run_in_turn};
 use cs_store::Fault;
 use std::marker::{Send, Sync};
 use std::thread::Threads;
@@ -104,7 +104,20 @@ impl<'a, R: Threads + Sync, G: Gate + Sync> Run<'a, R, G> {
         self.part(0, tasks)
     }
 
-    /// The same, of tasks that are a part of a round that is open, with so many before them.
+    /// Does tasks in this thread alone, one after the other. No round opens, and the gate is told of none.
+    pub(crate) fn in_turn<T: Tasks + Sync>(&self, tasks: &T) -> Result<Vec<T::Out>, Fault>
+        ensures ok { IfOk result (λ outs. IsAnswered (T.fault_at tasks.now) (T.answers tasks.now) (T.tasks tasks.now) outs.items) }
+        ensures err { IfErr result (λ fault. MemoryOr fault (IsFirstFault (T.fault_at tasks.now) (T.tasks tasks.now) fault)) }
+    {
+        let work = TasksWork { tasks };
+        match run_in_turn(self.alloc, &work, &OpenGate) {
+            Ok(outs) => Ok(outs),
+            Err(RunFault::Memory) => Err(Fault::Memory),
+            Err(RunFault::At(_, fault)) => Err(fault),
+        }
+    }
+
+    /// Does tasks that are a part of a round that is open, with so many before them, as `round` does.
     pub(crate) fn part<T: Tasks + Sync>(&self, before: u32, tasks: &T) -> Result<Vec<T::Out>, Fault>
         ensures ok { IfOk result (λ outs. IsAnswered (T.fault_at tasks.now) (T.answers tasks.now) (T.tasks tasks.now) outs.items) }
         ensures err { IfErr result (λ fault. MemoryOr fault (IsFirstFault (T.fault_at tasks.now) (T.tasks tasks.now) fault)) }

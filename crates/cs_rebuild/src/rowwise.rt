@@ -12,7 +12,7 @@ use crate::rounds::Tasks;
 use crate::run::Run;
 use crate::walking::count_pieces;
 use cs_board::{Gate, Round};
-use cs_rows::by_rows::walk_rows;
+use cs_rows::by_rows::walk_fresh_rows;
 use cs_rows::counts::surviving_row_count;
 use cs_rows::range::WalkFault;
 use cs_rows::{Survivors, Table, Walked, join_once};
@@ -51,7 +51,7 @@ impl Tasks for RowsWork<'_> {
     fn task(&self, i: u32) -> Result<Walked, Fault> {
         let from = i as usize * self.cut as usize;
         let to = from + self.cut as usize;
-        match walk_rows(
+        match walk_fresh_rows(
             self.alloc,
             self.catalog,
             self.loss,

@@ -1,9 +1,10 @@
 -- Columns that are appended in place.
-use Rattle.std.proofs.Common.{◌≡◌, ◌≢◌, ℕ, zero, suc, ◌+◌, ◌<◌, ◌≤◌, List, [], ◌∷◌, ◌++◌, length, map, get_or, set, take, refl, sym, ap, ◌∙◌, arith, ⊎_elim, get_or-set_same, get_or-set_other, length-append}
+use Rattle.std.proofs.Common.{◌≡◌, ◌≢◌, ℕ, zero, suc, ◌+◌, ◌<◌, ◌≤◌, List, [], ◌∷◌, ◌++◌, length, map, get_or, set, take, refl, sym, ap, ◌∙◌, subst, arith, ⊎_elim, get_or-set_same, get_or-set_other, length-append}
 use Rattle.std.specs.List.{range_with_len}
 use Rattle.std.specs.Prelude.{pos}
 use Rattle.std.proofs.lemmas.Bool.{cases_lt}
-use Rattle.std.proofs.lemmas.List.{take_all, take_at, get_or-map}
+use Rattle.std.proofs.Math.Seq.{get_or-append_seam}
+use Rattle.std.proofs.lemmas.List.{take_all, take_at, get_or-map, get_or_append_left}
 use Rattle.std.proofs.lemmas.List.{get_or-append-add}
 use Rattle.std.proofs.Math.ListN.{get_or-append}
 use Rattle.std.proofs.lemmas.Option.{get_or_from_slice_get, slice_get_within, slice_get-get_or}
@@ -15,6 +16,20 @@ use Rattle.cs_schema.specs.declared.cells.Value.{Value}
 use Rattle.cs_schema.specs.Values.{values, kind_of}
 use Rattle.cs_schema.specs.Rows.{cell}
 use Rattle.cs_rows.specs.WalkedView.{row_of, rows_of, count_of, walked_data, AreColumns}
+
+-- what holds of each column, of one more
+pub each_more : (P : ℕ → Cells → Type 0) (xs ys : List Cells) (y : Cells) (n : ℕ) → ys ≡ xs ++ y ∷ [] → length xs ≡ n → ((k : ℕ) (d : Cells) → k < n → P k (get_or xs k d)) → P n y → (k : ℕ) (d : Cells) → k < n + 1 → P k (get_or ys k d)
+each_more P xs ys y n e long each here k d h =
+    ⊎_elim
+    (λ (lt : k < n).
+    let inside : k < length xs = omega arith in
+    subst (P k) (sym (ap (λ (l : List Cells). get_or l k d) e ∙ get_or_append_left xs (y ∷ []) d k inside)) (each k d lt))
+    (λ (ge : n ≤ k).
+    let last : k ≡ n = omega arith in
+    let same : k ≡ length xs = omega arith in
+    let found : get_or ys k d ≡ y = ap (λ (l : List Cells). get_or l k d) e ∙ ap (λ (j : ℕ). get_or (xs ++ y ∷ []) j d) same ∙ get_or-append_seam xs y [] d in
+    rw (found, last) here)
+    (cases_lt k n)
 
 get_or_any : {X : Type 0} (xs : List X) (i : ℕ) (d e : X) → i < length xs → get_or xs i d ≡ get_or xs i e
 get_or_any [] i d e h = absurd (omega arith)

@@ -25,8 +25,8 @@ use Rattle.cs_rows.specs.declared.sources.Source.{Source}
 use Rattle.cs_rows.specs.declared.range.WalkFault.{WalkFault}
 use Rattle.cs_rows.specs.Walk.{Contents, image_cell}
 use Rattle.cs_rows.specs.WalkByRows.{Reached, Found, numbers_of, found_from, source_in, is_full, found_row}
-use Rattle.cs_rows.specs.OwnRows.{is_fresh}
-use Rattle.cs_rows.specs.RangeByRows.{is_stray_row, fresh_row, found_among}
+use Rattle.cs_rows.specs.OwnRows.{is_fresh, is_given}
+use Rattle.cs_rows.specs.RangeByRows.{is_stray_row, given_row, given_among}
 use Rattle.cs_rows.specs.Range.{IsWalkFault}
 use Rattle.cs_rows.specs.Columns.{ColumnsFit}
 use Rattle.cs_rows.specs.Survivors.{SurvivorsData, contents_of, image_at, image_row, held}
@@ -212,18 +212,16 @@ kinds_fit C columns fit =
 abbrev pub if_fresh : CatalogData → Contents → Found → Option Row
 if_fresh C S F = cond (is_fresh C F) (Some (found_row C S F)) None
 
+-- the row that was found, where it is given
+abbrev pub if_given : Bool → CatalogData → Contents → Found → Option Row
+if_given fresh_only C S F = cond (is_given fresh_only C F) (Some (found_row C S F)) None
+
 module _ (C : CatalogData) (L : Sites) (S : Contents) where
   pub row_is_stray : (row : Reached) → found_from C L S row.0 row.1 ≡ None → find (is_stray_row C L S) (row ∷ []) ≡ Some row
   row_is_stray row e = ap (λ (o : Option Found). cond (Rattle.std.specs.Option.is_none o) (Some row) None) e
 
   pub row_is_sound : (row : Reached) (F : Found) → found_from C L S row.0 row.1 ≡ Some F → find (is_stray_row C L S) (row ∷ []) ≡ None
   row_is_sound row F e = ap (λ (o : Option Found). cond (Rattle.std.specs.Option.is_none o) (Some row) None) e
-
-  pub fresh_found : (row : Reached) (F : Found) → found_from C L S row.0 row.1 ≡ Some F → is_fresh C F ≡ true → filter_map (fresh_row C L S) (row ∷ []) ≡ found_row C S F ∷ []
-  fresh_found row F e f = ap (λ (o : Option Found). cons_option (option_and_then (if_fresh C S) o) []) e ∙ ap (λ (b : Bool). cons_option (cond b (Some (found_row C S F)) None) []) f
-
-  pub not_fresh_found : (row : Reached) (F : Found) → found_from C L S row.0 row.1 ≡ Some F → is_fresh C F ≡ false → filter_map (fresh_row C L S) (row ∷ []) ≡ []
-  not_fresh_found row F e f = ap (λ (o : Option Found). cons_option (option_and_then (if_fresh C S) o) []) e ∙ ap (λ (b : Bool). cons_option (cond b (Some (found_row C S F)) None) []) f
 
   pub none_stray : (xs ys : List Reached) → find (is_stray_row C L S) xs ≡ None → find (is_stray_row C L S) ys ≡ None → find (is_stray_row C L S) (xs ++ ys) ≡ None
   none_stray xs ys e f = find-append (is_stray_row C L S) xs ys ∙ (λ i. option_or (e i) (f i))
@@ -233,52 +231,60 @@ module _ (C : CatalogData) (L : Sites) (S : Contents) where
   stray_in xs ys zs ws (WalkFault.Astray p t row) s n h =
       ap (find (is_stray_row C L S)) s ∙ find-append (is_stray_row C L S) xs (ys ++ zs) ∙ (λ i. option_or (n i) (find (is_stray_row C L S) (ys ++ zs))) ∙ find-append (is_stray_row C L S) ys zs ∙ (λ i. option_or (h i) (find (is_stray_row C L S) zs))
 
-  -- the columns have the rows found among xs at their ends
-  abbrev pub Grows : List Reached → List Cells → List Cells → Type 0
-  Grows xs before after = (rows : List Row) → AreRows C rows before → AreRows C (rows ++ filter_map (fresh_row C L S) xs) after
+  -- the rows that are given: the fresh ones, or all that are full
+  module _ (fresh_only : Bool) where
+    pub given_found : (row : Reached) (F : Found) → found_from C L S row.0 row.1 ≡ Some F → is_given fresh_only C F ≡ true → filter_map (given_row fresh_only C L S) (row ∷ []) ≡ found_row C S F ∷ []
+    given_found row F e f = ap (λ (o : Option Found). cons_option (option_and_then (if_given fresh_only C S) o) []) e ∙ ap (λ (b : Bool). cons_option (cond b (Some (found_row C S F)) None) []) f
 
-  pub grows_more : (xs ys zs : List Reached) (before middle after : List Cells) → zs ≡ xs ++ ys → Grows xs before middle → Grows ys middle after → Grows zs before after
-  grows_more xs ys zs before middle after e f g rows are =
-      subst (λ (l : List Row). AreRows C l after) (append_assoc rows (filter_map (fresh_row C L S) xs) (filter_map (fresh_row C L S) ys) ∙ ap (λ (l : List Row). rows ++ l) (sym (ap (filter_map (fresh_row C L S)) e ∙ filter_map-append (fresh_row C L S) xs ys))) (g (rows ++ filter_map (fresh_row C L S) xs) (f rows are))
+    pub not_given_found : (row : Reached) (F : Found) → found_from C L S row.0 row.1 ≡ Some F → is_given fresh_only C F ≡ false → filter_map (given_row fresh_only C L S) (row ∷ []) ≡ []
+    not_given_found row F e f = ap (λ (o : Option Found). cons_option (option_and_then (if_given fresh_only C S) o) []) e ∙ ap (λ (b : Bool). cons_option (cond b (Some (found_row C S F)) None) []) f
 
-  pub grows_none : (columns : List Cells) → Grows [] columns columns
-  grows_none columns rows are = subst (λ (l : List Row). AreRows C l columns) (sym (append-nil rows)) are
+    -- the columns have the rows found among xs at their ends
+    abbrev pub Grows : List Reached → List Cells → List Cells → Type 0
+    Grows xs before after = (rows : List Row) → AreRows C rows before → AreRows C (rows ++ filter_map (given_row fresh_only C L S) xs) after
 
-  pub grows_by : (row : Reached) (found : Row) (before after : List Cells) → filter_map (fresh_row C L S) (row ∷ []) ≡ found ∷ [] → RowPushed found before after (length C.columns) → Grows (row ∷ []) before after
-  grows_by row found before after e pushed rows are = subst (λ (l : List Row). AreRows C (rows ++ l) after) (sym e) (rows_pushed C found before after pushed rows are)
+    pub grows_more : (xs ys zs : List Reached) (before middle after : List Cells) → zs ≡ xs ++ ys → Grows xs before middle → Grows ys middle after → Grows zs before after
+    grows_more xs ys zs before middle after e f g rows are =
+        subst (λ (l : List Row). AreRows C l after) (append_assoc rows (filter_map (given_row fresh_only C L S) xs) (filter_map (given_row fresh_only C L S) ys) ∙ ap (λ (l : List Row). rows ++ l) (sym (ap (filter_map (given_row fresh_only C L S)) e ∙ filter_map-append (given_row fresh_only C L S) xs ys))) (g (rows ++ filter_map (given_row fresh_only C L S) xs) (f rows are))
 
-  pub grows_not : (row : Reached) (columns : List Cells) → filter_map (fresh_row C L S) (row ∷ []) ≡ [] → Grows (row ∷ []) columns columns
-  grows_not row columns e rows are = subst (λ (l : List Row). AreRows C l columns) (sym (ap (λ (l : List Row). rows ++ l) e ∙ append-nil rows)) are
+    pub grows_none : (columns : List Cells) → Grows [] columns columns
+    grows_none columns rows are = subst (λ (l : List Row). AreRows C l columns) (sym (append-nil rows)) are
 
-  -- what was found is pushed where it is fresh
-  pub grows_found : (row : Reached) (F : Found) (before after : List Cells) → found_from C L S row.0 row.1 ≡ Some F → (is_fresh C F ≡ true → RowPushed (found_row C S F) before after (length C.columns)) → (is_fresh C F ≡ false → after ≡ before) → Grows (row ∷ []) before after
-  grows_found row F before after e pushed kept = go (is_fresh C F) refl
-    where
-      go : (b : Bool) → is_fresh C F ≡ b → Grows (row ∷ []) before after
-      go true f = grows_by row (found_row C S F) before after (fresh_found row F e f) (pushed f)
-      go false f = subst (λ (columns : List Cells). Grows (row ∷ []) before columns) (sym (kept f)) (grows_not row before (not_fresh_found row F e f))
+    pub grows_by : (row : Reached) (found : Row) (before after : List Cells) → filter_map (given_row fresh_only C L S) (row ∷ []) ≡ found ∷ [] → RowPushed found before after (length C.columns) → Grows (row ∷ []) before after
+    grows_by row found before after e pushed rows are = subst (λ (l : List Row). AreRows C (rows ++ l) after) (sym e) (rows_pushed C found before after pushed rows are)
 
-  -- ---- the end
+    pub grows_not : (row : Reached) (columns : List Cells) → filter_map (given_row fresh_only C L S) (row ∷ []) ≡ [] → Grows (row ∷ []) columns columns
+    grows_not row columns e rows are = subst (λ (l : List Row). AreRows C l columns) (sym (ap (λ (l : List Row). rows ++ l) e ∙ append-nil rows)) are
 
-  wide : (xs : List Reached) → All (λ (r : Row). length r ≡ length C.columns) (filter_map (fresh_row C L S) xs)
-  wide [] = All-nil (λ (r : Row). length r ≡ length C.columns)
-  wide (x ∷ xs) = go (found_from C L S x.0 x.1) (wide xs)
-    where
-      by_fresh : (F : Found) (b : Bool) → All (λ (r : Row). length r ≡ length C.columns) (filter_map (fresh_row C L S) xs) → All (λ (r : Row). length r ≡ length C.columns) (cons_option (cond b (Some (found_row C S F)) None) (filter_map (fresh_row C L S) xs))
-      by_fresh F true all = All-cons (λ (r : Row). length r ≡ length C.columns) (found_row C S F) (filter_map (fresh_row C L S) xs) (length-map-range_with_len (λ (c : ℕ). option_map_or (found_cell C S c) (source_in C F c) (Value.Int (pos 0))) 0 (length C.columns)) all
-      by_fresh F false all = all
+    -- what was found is pushed where it is given
+    pub grows_found : (row : Reached) (F : Found) (before after : List Cells) → found_from C L S row.0 row.1 ≡ Some F → (is_given fresh_only C F ≡ true → RowPushed (found_row C S F) before after (length C.columns)) → (is_given fresh_only C F ≡ false → after ≡ before) → Grows (row ∷ []) before after
+    grows_found row F before after e pushed kept = go (is_given fresh_only C F) refl
+      where
+        go : (b : Bool) → is_given fresh_only C F ≡ b → Grows (row ∷ []) before after
+        go true f = grows_by row (found_row C S F) before after (given_found row F e f) (pushed f)
+        go false f = subst (λ (columns : List Cells). Grows (row ∷ []) before columns) (sym (kept f)) (grows_not row before (not_given_found row F e f))
 
-      go : (o : Option Found) → All (λ (r : Row). length r ≡ length C.columns) (filter_map (fresh_row C L S) xs) → All (λ (r : Row). length r ≡ length C.columns) (cons_option (option_and_then (if_fresh C S) o) (filter_map (fresh_row C L S) xs))
-      go None all = all
-      go (Some F) all = by_fresh F (is_fresh C F) all
+    -- ---- the end
 
-  pub all_found : (xs : List Reached) → find (is_stray_row C L S) xs ≡ None → Ok (filter_map (fresh_row C L S) xs) ≡ found_among C L S xs
-  all_found xs e = sym (ap (λ (o : Option Reached). option_map_or (λ (x : Reached). Err (x.0, x.1.0, x.1.1)) o (Ok (filter_map (fresh_row C L S) xs))) e)
+    wide : (xs : List Reached) → All (λ (r : Row). length r ≡ length C.columns) (filter_map (given_row fresh_only C L S) xs)
+    wide [] = All-nil (λ (r : Row). length r ≡ length C.columns)
+    wide (x ∷ xs) = go (found_from C L S x.0 x.1) (wide xs)
+      where
+        by_given : (F : Found) (b : Bool) → All (λ (r : Row). length r ≡ length C.columns) (filter_map (given_row fresh_only C L S) xs) → All (λ (r : Row). length r ≡ length C.columns) (cons_option (cond b (Some (found_row C S F)) None) (filter_map (given_row fresh_only C L S) xs))
+        by_given F true all = All-cons (λ (r : Row). length r ≡ length C.columns) (found_row C S F) (filter_map (given_row fresh_only C L S) xs) (length-map-range_with_len (λ (c : ℕ). option_map_or (found_cell C S c) (source_in C F c) (Value.Int (pos 0))) 0 (length C.columns)) all
+        by_given F false all = all
 
-  pub stray_fault : (xs : List Reached) (e : WalkFault) → IsStrayFault C L S xs e → IsWalkFault (found_among C L S xs) e
-  stray_fault xs WalkFault.Memory h = tt
-  stray_fault xs (WalkFault.Astray p s row) h = ap (λ (o : Option Reached). option_map_or (λ (x : Reached). Err (x.0, x.1.0, x.1.1)) o (Ok (filter_map (fresh_row C L S) xs))) h
+        go : (o : Option Found) → All (λ (r : Row). length r ≡ length C.columns) (filter_map (given_row fresh_only C L S) xs) → All (λ (r : Row). length r ≡ length C.columns) (cons_option (option_and_then (if_given fresh_only C S) o) (filter_map (given_row fresh_only C L S) xs))
+        go None all = all
+        go (Some F) all = by_given F (is_given fresh_only C F) all
 
-  module _ (xs : List Reached) (columns : List Cells) (fit : ColumnsFit C columns) (grown : (c : ℕ) (d : Cells) → c < length C.columns → values (get_or columns c d) ≡ map (λ (r : Row). cell r c) (filter_map (fresh_row C L S) xs)) where
-    pub found_rows_are : 1 ≤ length C.columns → rows_of columns (count_of columns) ≡ filter_map (fresh_row C L S) xs
-    found_rows_are h = rows_in C columns (filter_map (fresh_row C L S) xs) fit grown (wide xs) h
+    pub all_found : (xs : List Reached) → find (is_stray_row C L S) xs ≡ None → Ok (filter_map (given_row fresh_only C L S) xs) ≡ given_among fresh_only C L S xs
+    all_found xs e = sym (ap (λ (o : Option Reached). option_map_or (λ (x : Reached). Err (x.0, x.1.0, x.1.1)) o (Ok (filter_map (given_row fresh_only C L S) xs))) e)
+
+    pub stray_fault : (xs : List Reached) (e : WalkFault) → IsStrayFault C L S xs e → IsWalkFault (given_among fresh_only C L S xs) e
+    stray_fault xs WalkFault.Memory h = tt
+    stray_fault xs (WalkFault.Astray p s row) h = ap (λ (o : Option Reached). option_map_or (λ (x : Reached). Err (x.0, x.1.0, x.1.1)) o (Ok (filter_map (given_row fresh_only C L S) xs))) h
+
+    module _ (xs : List Reached) (columns : List Cells) (fit : ColumnsFit C columns) (grown : (c : ℕ) (d : Cells) → c < length C.columns → values (get_or columns c d) ≡ map (λ (r : Row). cell r c) (filter_map (given_row fresh_only C L S) xs)) where
+      pub found_rows_are : 1 ≤ length C.columns → rows_of columns (count_of columns) ≡ filter_map (given_row fresh_only C L S) xs
+      found_rows_are h = rows_in C columns (filter_map (given_row fresh_only C L S) xs) fit grown (wide xs) h

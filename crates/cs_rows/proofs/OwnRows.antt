@@ -21,13 +21,13 @@ use Rattle.cs_delta.specs.KindedImage.{KindedImage, image_column}
 use Rattle.cs_safety.specs.Paths.{holds_column}
 use Rattle.cs_rows.specs.Walk.{Contents, image_cell}
 use Rattle.cs_rows.specs.WalkByRows.{Reached, Found, numbers_of, found, found_from, source_in, is_full, found_row, level, with_level, row_landing, is_stray_landing}
-use Rattle.cs_rows.specs.RangeByRows.{is_stray_row, fresh_row}
+use Rattle.cs_rows.specs.RangeByRows.{is_stray_row, fresh_row, given_row}
 use Rattle.cs_rows.specs.RowSteps.{reached_from, row_at}
-use Rattle.cs_rows.specs.OwnRows.{has_all, HasAll, own_cells, is_found_before, is_fresh}
+use Rattle.cs_rows.specs.OwnRows.{has_all, HasAll, own_cells, is_found_before, is_fresh, is_given}
 use Rattle.cs_rows.specs.Survivors.{SurvivorsData, contents_of, image_at, held}
 use Rattle.cs_rows.proofs.RowLemmas.{column_cell, position_first}
 use Rattle.cs_rows.proofs.RangeLemmas.{map_append}
-use Rattle.cs_rows.proofs.FoundRows.{Grows, if_fresh}
+use Rattle.cs_rows.proofs.FoundRows.{Grows, if_given}
 use Rattle.cs_rows.proofs.FirstLemmas.{one_of_all}
 
 -- a projection that has all columns has each
@@ -82,6 +82,10 @@ module _ (C : CatalogData) (L : Sites) (S : Contents) where
     own_fresh : is_fresh C F ≡ true
     own_fresh = λ i. own_full i && not (not_before i)
 
+    own_given : (fresh_only : Bool) → is_given fresh_only C F ≡ true
+    own_given true = own_fresh
+    own_given false = own_full
+
     own_found : found_row C S F ≡ own_row x
     own_found =
         let read : ℕ → Value = λ c. option_map_or (λ (r : Reached). image_cell C S r.0 c r.1) (source_in C F c) (Value.Int (pos 0)) in
@@ -91,31 +95,34 @@ module _ (C : CatalogData) (L : Sites) (S : Contents) where
         fill_by_all f (map read (numbers_below n)) n v (length-map-range_with_len read 0 n)
         (λ k h. get_or-map-range_with_len read 0 n k k v h (zero-add k) ∙ ap (λ (o : Option Reached). option_map_or (λ (r : Reached). image_cell C S r.0 k r.1) o v) (source_is k h))
 
-  pub own_from : C.key < length C.columns → (x : Reached) → HasAll C x.0 → (F : Found) → found_from C L S x.0 x.1 ≡ Some F → fresh_row C L S x ≡ Some (own_row x)
-  own_from keyed x all F e =
+  given_from : (fresh_only : Bool) → C.key < length C.columns → (x : Reached) → HasAll C x.0 → (F : Found) → found_from C L S x.0 x.1 ≡ Some F → given_row fresh_only C L S x ≡ Some (own_row x)
+  given_from fresh_only keyed x all F e =
       let b : Begins x F = begins (length C.projections) (record { reached = x ∷ []; last = x ∷ []; marked = [] }) F x (record { rest = []; is = refl }) e in
-      ap (λ (o : Option Found). option_and_then (if_fresh C S) o) e
-      ∙ ap (λ (fresh : Bool). cond fresh (Some (found_row C S F)) None) (own_fresh keyed x all F b)
+      ap (λ (o : Option Found). option_and_then (if_given fresh_only C S) o) e
+      ∙ ap (λ (given : Bool). cond given (Some (found_row C S F)) None) (own_given keyed x all F b fresh_only)
       ∙ ap (λ (r : Row). Some r) (own_found keyed x all F b)
 
-  own_rows : C.key < length C.columns → (xs : List Reached) → All (λ (x : Reached). HasAll C x.0) xs → find (is_stray_row C L S) xs ≡ None → filter_map (fresh_row C L S) xs ≡ map own_row xs
-  own_rows keyed [] all e = refl
-  own_rows keyed (x ∷ xs) all e = go (found_from C L S x.0 x.1) refl e (own_rows keyed xs (All-tail (λ (y : Reached). HasAll C y.0) x xs all))
+  pub own_from : C.key < length C.columns → (x : Reached) → HasAll C x.0 → (F : Found) → found_from C L S x.0 x.1 ≡ Some F → fresh_row C L S x ≡ Some (own_row x)
+  own_from = given_from true
+
+  own_rows : (fresh_only : Bool) → C.key < length C.columns → (xs : List Reached) → All (λ (x : Reached). HasAll C x.0) xs → find (is_stray_row C L S) xs ≡ None → filter_map (given_row fresh_only C L S) xs ≡ map own_row xs
+  own_rows fresh_only keyed [] all e = refl
+  own_rows fresh_only keyed (x ∷ xs) all e = go (found_from C L S x.0 x.1) refl e (own_rows fresh_only keyed xs (All-tail (λ (y : Reached). HasAll C y.0) x xs all))
     where
-      go : (o : Option Found) → found_from C L S x.0 x.1 ≡ o → cond (is_none o) (Some x) (find (is_stray_row C L S) xs) ≡ None → (find (is_stray_row C L S) xs ≡ None → filter_map (fresh_row C L S) xs ≡ map own_row xs) → filter_map (fresh_row C L S) (x ∷ xs) ≡ map own_row (x ∷ xs)
+      go : (o : Option Found) → found_from C L S x.0 x.1 ≡ o → cond (is_none o) (Some x) (find (is_stray_row C L S) xs) ≡ None → (find (is_stray_row C L S) xs ≡ None → filter_map (given_row fresh_only C L S) xs ≡ map own_row xs) → filter_map (given_row fresh_only C L S) (x ∷ xs) ≡ map own_row (x ∷ xs)
       go None f g later = absurd (none-some x (sym g))
-      go (Some F) f g later = λ i. cons_option (own_from keyed x (All-head (λ (y : Reached). HasAll C y.0) x xs all) F f i) (later g i)
+      go (Some F) f g later = λ i. cons_option (given_from fresh_only keyed x (All-head (λ (y : Reached). HasAll C y.0) x xs all) F f i) (later g i)
 
   cells_of : (xs : List Reached) (c : ℕ) → c < length C.columns → map (λ (r : Row). cell r c) (map own_row xs) ≡ own_cells C S xs c
   cells_of [] c h = refl
   cells_of (x ∷ xs) c h = λ i. get_or-map-range_with_len (λ (d : ℕ). image_cell C S x.0 d x.1) 0 (length C.columns) c c (Value.Int (pos 0)) h (zero-add c) i ∷ cells_of xs c h i
 
   -- columns to which the own cells of rows are added have the rows that walks from these find
-  pub own_grow : C.key < length C.columns → (xs : List Reached) (before after : List Cells) → All (λ (x : Reached). HasAll C x.0) xs → find (is_stray_row C L S) xs ≡ None
-      → ((c : ℕ) (d : Cells) → c < length C.columns → values (get_or after c d) ≡ values (get_or before c d) ++ own_cells C S xs c) → Grows C L S xs before after
-  own_grow keyed xs before after all sound added rows are c d h =
-      added c d h ∙ (λ i. are c d h i ++ sym (ap (map (λ (r : Row). cell r c)) (own_rows keyed xs all sound) ∙ cells_of xs c h) i)
-      ∙ sym (map_append (λ (r : Row). cell r c) rows (filter_map (fresh_row C L S) xs))
+  pub own_grow : (fresh_only : Bool) → C.key < length C.columns → (xs : List Reached) (before after : List Cells) → All (λ (x : Reached). HasAll C x.0) xs → find (is_stray_row C L S) xs ≡ None
+      → ((c : ℕ) (d : Cells) → c < length C.columns → values (get_or after c d) ≡ values (get_or before c d) ++ own_cells C S xs c) → Grows C L S fresh_only xs before after
+  own_grow fresh_only keyed xs before after all sound added rows are c d h =
+      added c d h ∙ (λ i. are c d h i ++ sym (ap (map (λ (r : Row). cell r c)) (own_rows fresh_only keyed xs all sound) ∙ cells_of xs c h) i)
+      ∙ sym (map_append (λ (r : Row). cell r c) rows (filter_map (given_row fresh_only C L S) xs))
 
 -- the rows of a segment are of its projection
 pub all_of : (P : ℕ → Type 0) (p s start n : ℕ) → P p → All (λ (x : Reached). P x.0) (reached_from p s start n)

@@ -1,14 +1,15 @@
 -- Where columns are read of rows that lead to the same projections.
-use Rattle.std.proofs.Common.{◌≡◌, ℕ, ◌<◌, List, [], ◌∷◌, length, Option, Some, get_or, sym, ap, ◌∙◌, subst, arith, Bool, true, false, not, ◌&&◌, ◌==◌}
+use Rattle.std.proofs.Common.{◌≡◌, ℕ, zero, suc, ◌<◌, List, [], ◌∷◌, length, Option, Some, get_or, refl, sym, ap, ◌∙◌, subst, arith, Bool, true, false, not, ◌&&◌, ◌==◌}
 use Rattle.std.specs.Prelude.{All, nat_lt, slice_index}
-use Rattle.std.specs.List.{find, position_or_len}
+use Rattle.std.specs.List.{find, list_all, position_or_len}
 use Rattle.std.specs.Option.{is_some, option_map_or}
 use Rattle.std.proofs.lemmas.List.{length-map, get_or-map, get_or_default, same_lists}
 use Rattle.cs_schema.specs.CatalogData.{CatalogData, projection}
+use Rattle.cs_schema.specs.Lists.{numbers_below}
 use Rattle.cs_rows.specs.declared.sources.Source.{Source}
 use Rattle.cs_rows.specs.declared.sources.Reading.{Reading}
 use Rattle.cs_rows.specs.WalkByRows.{Reached, Found, numbers_of}
-use Rattle.cs_rows.specs.OwnRows.{has_all, is_found_before, is_fresh}
+use Rattle.cs_rows.specs.OwnRows.{has_all, is_found_before, is_given}
 use Rattle.cs_rows.specs.RowSteps.{IsSource, IsReading, have_all}
 use Rattle.cs_rows.proofs.FirstLemmas.{first_at, found_in}
 use Rattle.cs_rows.proofs.FoundRows.{holds, full_by_numbers}
@@ -45,7 +46,21 @@ all_numbers n rs all k d h =
     let here : k < length rs = omega (arith, length-map rs number) in
     subst (λ (p : ℕ). p < n) (sym (get_or-map number rs k (0, (0, 0)) d here)) (all k (0, (0, 0)) here)
 
--- a reading of the rows that were reached tells whether what was found is full, and not found before
-pub told_fresh : (C : CatalogData) (F : Found) (reading : Reading) (rs : List Reached) → rs ≡ F.reached → IsReading C reading → reading.projections.items ≡ numbers_of rs → reading.fresh ≡ is_fresh C F
-told_fresh C F reading rs same so numbers =
-    so.fresh ∙ ap (λ (ps : List ℕ). have_all C ps && not (is_found_before C ps)) (numbers ∙ ap numbers_of same) ∙ ap (λ (b : Bool). b && not (is_found_before C (numbers_of F.reached))) (full_by_numbers C F)
+and_true : (b : Bool) → (b && true) ≡ b
+and_true true = refl
+and_true false = refl
+
+-- a reading of the rows that were reached tells whether what was found is given
+pub told_given : (fresh_only : Bool) (C : CatalogData) (F : Found) (reading : Reading) (rs : List Reached) → rs ≡ F.reached → IsReading fresh_only C reading → reading.projections.items ≡ numbers_of rs → reading.given ≡ is_given fresh_only C F
+told_given true C F reading rs same so numbers =
+    so.given ∙ ap (λ (ps : List ℕ). have_all C ps && not (is_found_before C ps)) (numbers ∙ ap numbers_of same) ∙ ap (λ (b : Bool). b && not (is_found_before C (numbers_of F.reached))) (full_by_numbers C F)
+told_given false C F reading rs same so numbers = so.given ∙ and_true (have_all C reading.projections.items) ∙ ap (have_all C) (numbers ∙ ap numbers_of same) ∙ full_by_numbers C F
+
+none_read : (C : CatalogData) (n : ℕ) → 0 < n → list_all (λ c. is_some (find (holds C c) [])) (numbers_below n) ≡ false
+none_read C zero h = absurd (omega arith)
+none_read C (suc n) h = refl
+
+-- no projection gives no row
+pub none_given : (fresh_only : Bool) (C : CatalogData) (ps : List ℕ) → ps ≡ [] → 0 < length C.columns → false ≡ (have_all C ps && not (fresh_only && is_found_before C ps))
+none_given fresh_only C ps none some =
+    sym (ap (λ (qs : List ℕ). have_all C qs && not (fresh_only && is_found_before C qs)) none ∙ ap (λ (b : Bool). b && not (fresh_only && false)) (none_read C (length C.columns) some))

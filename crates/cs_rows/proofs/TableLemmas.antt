@@ -1,6 +1,7 @@
 -- The columns of a table: those that were made, and those that are lent in their place.
-use Rattle.std.proofs.Common.{◌≡◌, ℕ, zero, suc, ◌<◌, List, [], ◌∷◌, length, refl, ap, get_or, arith, inl, inr, Option, None}
+use Rattle.std.proofs.Common.{◌≡◌, ℕ, zero, suc, ◌<◌, List, [], ◌∷◌, length, map, take, refl, ap, ◌∙◌, get_or, arith, inl, inr, Option, None, Some}
 use Rattle.std.specs.Option.{unwrap_or}
+use Rattle.std.proofs.lemmas.List.{take_all}
 use Rattle.cs_schema.specs.declared.cells.Cells.{Cells}
 use Rattle.cs_schema.specs.Lists.{IsIn}
 use Rattle.cs_schema.specs.Values.{values}
@@ -25,6 +26,18 @@ each [] lent c d h = absurd (omega arith)
 each (x ∷ xs) [] c d h = refl
 each (x ∷ xs) (l ∷ ls) zero d h = refl
 each (x ∷ xs) (l ∷ ls) (suc c) d h = each xs ls c d (omega arith)
+
+-- where each column is lent, those are the columns
+pub all_lent : (made columns : List Cells) → length made ≡ length columns → over made (map Some columns) ≡ columns
+unfolding over
+all_lent [] [] e = refl
+all_lent [] (y ∷ ys) e = absurd (omega arith)
+all_lent (x ∷ xs) [] e = absurd (omega arith)
+all_lent (x ∷ xs) (y ∷ ys) e = ap (λ l. y ∷ l) (all_lent xs ys (omega arith))
+
+-- the same, of columns that were lent one after the other
+pub lent_whole : (made columns : List Cells) (lent : List (Option Cells)) (n : ℕ) → length made ≡ n → n ≡ length columns → lent ≡ map Some (take n columns) → over made lent ≡ columns
+lent_whole made columns lent n count whole are = ap (over made) (are ∙ ap (map Some) (take_all n columns (omega arith))) ∙ all_lent made columns (omega arith)
 
 alone : (y : Cells) → AreColumns (y ∷ [])
 alone y = record { some = omega arith; lengths = there }

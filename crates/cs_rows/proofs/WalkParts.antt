@@ -13,7 +13,7 @@ use Rattle.cs_safety.specs.PlanData.{PlanData}
 use Rattle.cs_rows.specs.Walk.{Contents, At, Stray, is_astray, walked_row, projection_rows, walked}
 use Rattle.cs_rows.specs.WalkByRows.{Reached, surviving_rows, without_repeats, walked_by_rows}
 use Rattle.cs_rows.specs.Range.{walked_among, rows_between}
-use Rattle.cs_rows.specs.RangeByRows.{is_stray_row, row_from, fresh_row, surviving_between, found_among}
+use Rattle.cs_rows.specs.RangeByRows.{is_stray_row, row_from, fresh_row, surviving_between, found_among, fresh_among}
 use Rattle.cs_rows.proofs.RangeLemmas.{map_append}
 
 -- ---- ranges
@@ -92,10 +92,10 @@ module _ (C : CatalogData) (L : Sites) (S : Contents) where
   stray_of x = (x.0, x.1.0, x.1.1)
 
   pub found_join : (xs ys : List Reached) (found more : List Row) → Ok found ≡ found_among C L S xs → Ok more ≡ found_among C L S ys → Ok (found ++ more) ≡ found_among C L S (xs ++ ys)
-  found_join = among_join (is_stray_row C L S) stray_of (filter_map (fresh_row C L S)) (filter_map-append (fresh_row C L S))
+  found_join = among_join (is_stray_row C L S) stray_of (filter_map (row_from C L S)) (filter_map-append (row_from C L S))
 
   pub found_stray : (xs ys zs : List Reached) (found : List Row) (e : Stray) → Ok found ≡ found_among C L S xs → Err e ≡ found_among C L S ys → Err e ≡ found_among C L S (xs ++ (ys ++ zs))
-  found_stray = among_stray (is_stray_row C L S) stray_of (filter_map (fresh_row C L S)) (filter_map-append (fresh_row C L S))
+  found_stray = among_stray (is_stray_row C L S) stray_of (filter_map (row_from C L S)) (filter_map-append (row_from C L S))
 
   pub surviving_join : (a b c : ℕ) → a ≤ b → b ≤ c → surviving_between C L S a c ≡ surviving_between C L S a b ++ surviving_between C L S b c
   surviving_join a b c = part_join a b c (surviving_rows C L S)
@@ -105,14 +105,14 @@ module _ (C : CatalogData) (L : Sites) (S : Contents) where
 
   -- the walk by rows is the rows found from all surviving rows, without the later repeats of a key: those that are found before are
   -- such repeats
-  pub walk_by_rows_found : (find (is_stray_row C L S) (surviving_rows C L S) ≡ None → without_repeats C (filter_map (row_from C L S) (surviving_rows C L S)) ≡ without_repeats C (filter_map (fresh_row C L S) (surviving_rows C L S))) → (found : List Row) → Ok found ≡ found_among C L S (surviving_rows C L S) → walked_by_rows C L S ≡ Ok (without_repeats C found)
+  pub walk_by_rows_found : (find (is_stray_row C L S) (surviving_rows C L S) ≡ None → without_repeats C (filter_map (row_from C L S) (surviving_rows C L S)) ≡ without_repeats C (filter_map (fresh_row C L S) (surviving_rows C L S))) → (found : List Row) → Ok found ≡ fresh_among C L S (surviving_rows C L S) → walked_by_rows C L S ≡ Ok (without_repeats C found)
   walk_by_rows_found repeats found e =
       let a = among_ok (is_stray_row C L S) stray_of (filter_map (fresh_row C L S)) (filter_map-append (fresh_row C L S)) (surviving_rows C L S) found e in
       ap (λ (o : Option Reached). option_map_or (λ (x : Reached). Err (x.0, x.1.0, x.1.1)) o (Ok (without_repeats C (filter_map (row_from C L S) (surviving_rows C L S))))) a.0
       ∙ (λ i. Ok (repeats a.0 i))
       ∙ (λ i. Ok (without_repeats C (sym a.1 i)))
 
-  pub walk_by_rows_stray : (e : Stray) → Err e ≡ found_among C L S (surviving_rows C L S) → walked_by_rows C L S ≡ Err e
+  pub walk_by_rows_stray : (e : Stray) → Err e ≡ fresh_among C L S (surviving_rows C L S) → walked_by_rows C L S ≡ Err e
   walk_by_rows_stray e f =
       let a = among_err (is_stray_row C L S) stray_of (filter_map (fresh_row C L S)) (filter_map-append (fresh_row C L S)) (surviving_rows C L S) e f in
       ap (λ (o : Option Reached). option_map_or (λ (x : Reached). Err (x.0, x.1.0, x.1.1)) o (Ok (without_repeats C (filter_map (row_from C L S) (surviving_rows C L S))))) a.1

@@ -1,5 +1,5 @@
 -- Rows of projections that have every column of the table.
-use Rattle.std.specs.Prelude.{ℕ, nat_lt, ◌≡◌, Bool, true, false, not, ◌&&◌, List, [], ◌∷◌, map, length}
+use Rattle.std.specs.Prelude.{ℕ, nat_lt, ◌≡◌, Bool, true, false, not, ◌&&◌, if◌then◌else◌, List, [], ◌∷◌, map, length}
 use Rattle.std.specs.List.{find, list_all}
 use Rattle.std.specs.Option.{option_map_or}
 use Rattle.cs_schema.specs.declared.cells.Value.{Value}
@@ -30,3 +30,7 @@ is_found_before C (p ∷ ps) = option_map_or (λ q. nat_lt q p && has_all C q) (
 -- what a walk has found is a full row, and isn't found before
 abbrev pub is_fresh : CatalogData → Found → Bool
 is_fresh C F = is_full C F && not (is_found_before C (numbers_of F.reached))
+
+-- what a walk has found is a full row and, where fresh ones alone are asked for, isn't found before
+abbrev pub is_given : Bool → CatalogData → Found → Bool
+is_given fresh_only C F = if fresh_only then is_fresh C F else is_full C F

@@ -71,11 +71,12 @@ AreSources C ps sources n = (c : ℕ) (d : Source) → c < n → IsSource C ps c
 abbrev pub have_all : CatalogData → List ℕ → Bool
 have_all C ps = list_all (λ c. is_some (find (λ p. holds_column C p c) ps)) (numbers_below (length C.columns))
 
--- whether what is reached in some projections is a full row that isn't found before, and where each column is read then
-pub record IsReading (C : CatalogData) (reading : Reading) : Type 0 where
+-- Whether what is reached in some projections is a full row that is to be given, and where each column is read then. Where fresh
+-- rows alone are asked for, one that is found before is not.
+pub record IsReading (fresh_only : Bool) (C : CatalogData) (reading : Reading) : Type 0 where
   pub count : length reading.sources.items ≡ length C.columns
-  pub fresh : reading.fresh ≡ (have_all C reading.projections.items && not (is_found_before C reading.projections.items))
-  pub each : reading.fresh ≡ true → AreSources C reading.projections.items reading.sources.items (length C.columns)
+  pub given : reading.given ≡ (have_all C reading.projections.items && not (fresh_only && is_found_before C reading.projections.items))
+  pub each : reading.given ≡ true → AreSources C reading.projections.items reading.sources.items (length C.columns)
 
 -- where each column of a full row is read, which was found through rows that stand in images
 pub record AreSourcesOf (C : CatalogData) (S : Contents) (rs : List Reached) (sources : List Source) : Type 0 where

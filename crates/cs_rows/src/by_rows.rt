@@ -1,21 +1,20 @@
 //! The walk by rows of a range of surviving rows.
-ghost use Rattle.std.specs.Prelude.{◌≡◌, ◌<◌, ◌≤◌, ◌-◌, ◌++◌, ◌∷◌, [], List, length, map, true, false, IfOk, IfErr, OnOk, drop, take, None, Ok};
+ghost use Rattle.std.specs.Prelude.{◌≡◌, ◌<◌, ◌≤◌, ◌-◌, ◌++◌, ◌∷◌, [], Bool, List, length, map, true, false, IfOk, IfErr, OnOk, drop, take, None, Ok};
 ghost use Rattle.std.specs.List.{find, filter_map};
 ghost use Rattle.cs_schema.specs.CatalogData.{segments};
-ghost use Rattle.cs_schema.specs.CatalogRules.{IsCatalog};
 ghost use Rattle.cs_schema.specs.Rows.{Row};
 ghost use Rattle.cs_rows.specs.Survivors.{contents_of};
 ghost use Rattle.cs_rows.specs.Columns.{ColumnsFit};
 ghost use Rattle.cs_rows.specs.Range.{IsWalkFault};
 ghost use Rattle.cs_rows.specs.WalkByRows.{found_row};
-ghost use Rattle.cs_rows.specs.OwnRows.{is_fresh};
-ghost use Rattle.cs_rows.specs.RangeByRows.{is_stray_row, fresh_row, surviving_between, found_among};
+ghost use Rattle.cs_rows.specs.OwnRows.{is_given};
+ghost use Rattle.cs_rows.specs.RangeByRows.{is_stray_row, given_row, surviving_between, found_among, fresh_among, given_among};
 ghost use Rattle.cs_rows.specs.RowSteps.{Stands, AllStand, IsReading, AreSourcesOf, through, RowPushed, AreRows, reached_from, projection_kept, IsStrayFault};
 
 use crate::catalog_of;
 use crate::counts::{kept_in_projection, kept_in_segment, surviving_row_count};
-use crate::levels::{Finding, Landed, RowWalk, walk_from};
-use crate::numbers::{column_count, projection_count};
+use crate::desk::{Desk, new_desk};
+use crate::levels::{Finding, RowWalk, walk_from};
 use crate::own_rows::has_all_columns;
 use crate::range::{WalkFault, new_columns, push_cell};
 use crate::sources::{Reading, Source};
@@ -23,28 +22,6 @@ use crate::survivors::Survivors;
 use crate::walked::Walked;
 use cs_schema::{Catalog, Cells, Loss};
 use std::alloc::{AllocError, Global};
-
-/// Room for the walk from one row, made once for all rows.
-#[derive(Drop)]
-pub(crate) struct Desk {
-    pub(crate) finding: Finding,
-    pub(crate) landings: Vec<(u16, Landed)>,
-    pub(crate) reading: Reading,
-}
-
-/// Room for the walk from a row of a catalog.
-fn new_desk(alloc: Global, catalog: &Catalog) -> Result<Desk, AllocError>
-    ensures reading { IfOk result (λ desk. IsReading catalog.now desk.reading) }
-    ensures rules { IsCatalog catalog.now }
-{
-    let projections = projection_count(catalog);
-    let columns = column_count(catalog);
-    Ok(Desk {
-        finding: Finding::new(alloc, projections)?,
-        landings: Vec::with_capacity(alloc, projections)?,
-        reading: Reading::new(alloc, projections, columns)?,
-    })
-}
 
 /// Puts the cells of a full row at the ends of the columns, from the rows that were reached.
 fn push_row(
@@ -70,31 +47,32 @@ fn push_row(
     Ok(())
 }
 
-/// Adds what a walk has found, if that is full and was not found before.
+/// Adds what a walk has found, if that is full and, if fresh rows alone are asked for, was not found before.
 fn push_found(
     survivors: &Survivors<'_>,
     finding: &Finding,
     reading: &mut Reading,
+    fresh_only: bool,
     columns: &mut Vec<Cells>,
 ) -> Result<(), AllocError>
     requires stand { AllStand survivors.now.catalog (contents_of survivors.now) finding.now }
-    requires reading { IsReading survivors.now.catalog reading.old }
+    requires reading { IsReading fresh_only survivors.now.catalog reading.old }
     requires columns { ColumnsFit survivors.now.catalog columns.old.items }
-    ensures reading { OnOk result (IsReading survivors.now.catalog reading.new) }
+    ensures reading { OnOk result (IsReading fresh_only survivors.now.catalog reading.new) }
     ensures count { length columns.new.items ≡ length columns.old.items }
-    ensures fresh { OnOk result (is_fresh survivors.now.catalog finding.now ≡ true → RowPushed (found_row survivors.now.catalog (contents_of survivors.now) finding.now) columns.old.items columns.new.items (length survivors.now.catalog.columns)) }
-    ensures not_fresh { OnOk result (is_fresh survivors.now.catalog finding.now ≡ false → columns.new.items ≡ columns.old.items) }
+    ensures given { OnOk result (is_given fresh_only survivors.now.catalog finding.now ≡ true → RowPushed (found_row survivors.now.catalog (contents_of survivors.now) finding.now) columns.old.items columns.new.items (length survivors.now.catalog.columns)) }
+    ensures not_given { OnOk result (is_given fresh_only survivors.now.catalog finding.now ≡ false → columns.new.items ≡ columns.old.items) }
 {
     let reached = finding.reached();
-    reading.update(survivors, reached)?;
-    if reading.fresh {
+    reading.update(survivors, reached, fresh_only)?;
+    if reading.given {
         push_row(survivors, reached, reading.sources.as_slice(), columns)?;
     }
     Ok(())
 }
 
 impl RowWalk<'_> {
-    /// Walks from one row, and adds what it finds if that is full and was not found before.
+    /// Walks from one row, and adds what it finds, if that is to be given.
     fn walk_row(
         &self,
         row: (u16, (u16, u32)),
@@ -102,12 +80,12 @@ impl RowWalk<'_> {
         columns: &mut Vec<Cells>,
     ) -> Result<(), WalkFault>
         requires row { Stands self.now.survivors.now.catalog (contents_of self.now.survivors.now) row }
-        requires desk { IsReading self.now.survivors.now.catalog desk.old.reading }
+        requires desk { IsReading self.now.fresh_only self.now.survivors.now.catalog desk.old.reading }
         requires columns { ColumnsFit self.now.survivors.now.catalog columns.old.items }
-        ensures desk { OnOk result (IsReading self.now.survivors.now.catalog desk.new.reading) }
+        ensures desk { OnOk result (IsReading self.now.fresh_only self.now.survivors.now.catalog desk.new.reading) }
         ensures fit { OnOk result (ColumnsFit self.now.survivors.now.catalog columns.new.items) }
         ensures sound { OnOk result (find (is_stray_row self.now.survivors.now.catalog self.now.loss (contents_of self.now.survivors.now)) (row ∷ []) ≡ None) }
-        ensures cells { OnOk result ((rows : List Row) → AreRows self.now.survivors.now.catalog rows columns.old.items → AreRows self.now.survivors.now.catalog (rows ++ filter_map (fresh_row self.now.survivors.now.catalog self.now.loss (contents_of self.now.survivors.now)) (row ∷ [])) columns.new.items) }
+        ensures cells { OnOk result ((rows : List Row) → AreRows self.now.survivors.now.catalog rows columns.old.items → AreRows self.now.survivors.now.catalog (rows ++ filter_map (given_row self.now.fresh_only self.now.survivors.now.catalog self.now.loss (contents_of self.now.survivors.now)) (row ∷ [])) columns.new.items) }
         ensures fault { IfErr result (IsStrayFault self.now.survivors.now.catalog self.now.loss (contents_of self.now.survivors.now) (row ∷ [])) }
     {
         if !walk_from(self, row, &mut desk.finding, &mut desk.landings)? {
@@ -117,7 +95,13 @@ impl RowWalk<'_> {
                 row: row.1.1,
             });
         }
-        push_found(self.survivors, &desk.finding, &mut desk.reading, columns)?;
+        push_found(
+            self.survivors,
+            &desk.finding,
+            &mut desk.reading,
+            self.fresh_only,
+            columns,
+        )?;
         Ok(())
     }
 
@@ -129,16 +113,16 @@ impl RowWalk<'_> {
         desk: &mut Desk,
         columns: &mut Vec<Cells>,
     ) -> Result<(), WalkFault>
-        requires desk { IsReading self.now.survivors.now.catalog desk.old.reading }
+        requires desk { IsReading self.now.fresh_only self.now.survivors.now.catalog desk.old.reading }
         requires columns { ColumnsFit self.now.survivors.now.catalog columns.old.items }
         requires projection { segment.0 < length self.now.survivors.now.catalog.projections }
         requires segment { segment.1 < segments self.now.survivors.now.catalog segment.0 }
         requires order { rows.0 ≤ rows.1 }
         requires within { rows.1 ≤ length ((contents_of self.now.survivors.now).image segment.0 segment.1).pairs }
-        ensures desk { OnOk result (IsReading self.now.survivors.now.catalog desk.new.reading) }
+        ensures desk { OnOk result (IsReading self.now.fresh_only self.now.survivors.now.catalog desk.new.reading) }
         ensures fit { OnOk result (ColumnsFit self.now.survivors.now.catalog columns.new.items) }
         ensures sound { OnOk result (find (is_stray_row self.now.survivors.now.catalog self.now.loss (contents_of self.now.survivors.now)) (reached_from segment.0 segment.1 rows.0 (rows.1 - rows.0)) ≡ None) }
-        ensures cells { OnOk result ((found : List Row) → AreRows self.now.survivors.now.catalog found columns.old.items → AreRows self.now.survivors.now.catalog (found ++ filter_map (fresh_row self.now.survivors.now.catalog self.now.loss (contents_of self.now.survivors.now)) (reached_from segment.0 segment.1 rows.0 (rows.1 - rows.0))) columns.new.items) }
+        ensures cells { OnOk result ((found : List Row) → AreRows self.now.survivors.now.catalog found columns.old.items → AreRows self.now.survivors.now.catalog (found ++ filter_map (given_row self.now.fresh_only self.now.survivors.now.catalog self.now.loss (contents_of self.now.survivors.now)) (reached_from segment.0 segment.1 rows.0 (rows.1 - rows.0))) columns.new.items) }
         ensures fault { IfErr result (IsStrayFault self.now.survivors.now.catalog self.now.loss (contents_of self.now.survivors.now) (reached_from segment.0 segment.1 rows.0 (rows.1 - rows.0))) }
     {
         if has_all_columns(self.survivors, segment.0) {
@@ -162,14 +146,14 @@ impl RowWalk<'_> {
         desk: &mut Desk,
         columns: &mut Vec<Cells>,
     ) -> Result<(), WalkFault>
-        requires desk { IsReading self.now.survivors.now.catalog desk.old.reading }
+        requires desk { IsReading self.now.fresh_only self.now.survivors.now.catalog desk.old.reading }
         requires columns { ColumnsFit self.now.survivors.now.catalog columns.old.items }
         requires projection { p < length self.now.survivors.now.catalog.projections }
         requires order { range.0 ≤ range.1 }
-        ensures desk { OnOk result (IsReading self.now.survivors.now.catalog desk.new.reading) }
+        ensures desk { OnOk result (IsReading self.now.fresh_only self.now.survivors.now.catalog desk.new.reading) }
         ensures fit { OnOk result (ColumnsFit self.now.survivors.now.catalog columns.new.items) }
         ensures sound { OnOk result (find (is_stray_row self.now.survivors.now.catalog self.now.loss (contents_of self.now.survivors.now)) (drop range.0 (take range.1 (projection_kept self.now.survivors.now.catalog self.now.loss (contents_of self.now.survivors.now) p))) ≡ None) }
-        ensures cells { OnOk result ((found : List Row) → AreRows self.now.survivors.now.catalog found columns.old.items → AreRows self.now.survivors.now.catalog (found ++ filter_map (fresh_row self.now.survivors.now.catalog self.now.loss (contents_of self.now.survivors.now)) (drop range.0 (take range.1 (projection_kept self.now.survivors.now.catalog self.now.loss (contents_of self.now.survivors.now) p)))) columns.new.items) }
+        ensures cells { OnOk result ((found : List Row) → AreRows self.now.survivors.now.catalog found columns.old.items → AreRows self.now.survivors.now.catalog (found ++ filter_map (given_row self.now.fresh_only self.now.survivors.now.catalog self.now.loss (contents_of self.now.survivors.now)) (drop range.0 (take range.1 (projection_kept self.now.survivors.now.catalog self.now.loss (contents_of self.now.survivors.now) p)))) columns.new.items) }
         ensures fault { IfErr result (IsStrayFault self.now.survivors.now.catalog self.now.loss (contents_of self.now.survivors.now) (drop range.0 (take range.1 (projection_kept self.now.survivors.now.catalog self.now.loss (contents_of self.now.survivors.now) p)))) }
     {
         let mut first: usize = 0;
@@ -193,12 +177,12 @@ impl RowWalk<'_> {
         desk: &mut Desk,
         columns: &mut Vec<Cells>,
     ) -> Result<(), WalkFault>
-        requires desk { IsReading self.now.survivors.now.catalog desk.old.reading }
+        requires desk { IsReading self.now.fresh_only self.now.survivors.now.catalog desk.old.reading }
         requires columns { ColumnsFit self.now.survivors.now.catalog columns.old.items }
         requires order { range.0 ≤ range.1 }
         ensures fit { OnOk result (ColumnsFit self.now.survivors.now.catalog columns.new.items) }
         ensures sound { OnOk result (find (is_stray_row self.now.survivors.now.catalog self.now.loss (contents_of self.now.survivors.now)) (surviving_between self.now.survivors.now.catalog self.now.loss (contents_of self.now.survivors.now) range.0 range.1) ≡ None) }
-        ensures cells { OnOk result ((found : List Row) → AreRows self.now.survivors.now.catalog found columns.old.items → AreRows self.now.survivors.now.catalog (found ++ filter_map (fresh_row self.now.survivors.now.catalog self.now.loss (contents_of self.now.survivors.now)) (surviving_between self.now.survivors.now.catalog self.now.loss (contents_of self.now.survivors.now) range.0 range.1)) columns.new.items) }
+        ensures cells { OnOk result ((found : List Row) → AreRows self.now.survivors.now.catalog found columns.old.items → AreRows self.now.survivors.now.catalog (found ++ filter_map (given_row self.now.fresh_only self.now.survivors.now.catalog self.now.loss (contents_of self.now.survivors.now)) (surviving_between self.now.survivors.now.catalog self.now.loss (contents_of self.now.survivors.now) range.0 range.1)) columns.new.items) }
         ensures fault { IfErr result (IsStrayFault self.now.survivors.now.catalog self.now.loss (contents_of self.now.survivors.now) (surviving_between self.now.survivors.now.catalog self.now.loss (contents_of self.now.survivors.now) range.0 range.1)) }
     {
         let mut first: usize = 0;
@@ -212,13 +196,45 @@ impl RowWalk<'_> {
         }
         Ok(())
     }
+
+    /// The rows that the walks from the surviving rows numbered from..to give.
+    fn range(
+        &self,
+        alloc: Global,
+        catalog: &Catalog,
+        from: usize,
+        to: usize,
+    ) -> Result<Walked, WalkFault>
+        requires same { self.now.survivors.now.catalog ≡ catalog.now }
+        requires order { from ≤ to }
+        ensures kinds { IfOk result (λ walked. walked.kinds ≡ map (λ c. c.kind) catalog.now.columns) }
+        ensures rows { IfOk result (λ walked. Ok walked.rows ≡ given_among self.now.fresh_only catalog.now self.now.loss (contents_of self.now.survivors.now) (surviving_between catalog.now self.now.loss (contents_of self.now.survivors.now) from to)) }
+        ensures fault { IfErr result (IsWalkFault (given_among self.now.fresh_only catalog.now self.now.loss (contents_of self.now.survivors.now) (surviving_between catalog.now self.now.loss (contents_of self.now.survivors.now) from to))) }
+    {
+        // most walks find a row
+        let room = to
+            .min(surviving_row_count(self.survivors, self.loss))
+            .saturating_sub(from);
+        let mut columns = match new_columns(alloc, catalog, room) {
+            Ok(columns) => columns,
+            Err(_) => return Err(WalkFault::Memory),
+        };
+        let mut desk = match new_desk(alloc, catalog) {
+            Ok(desk) => desk,
+            Err(_) => return Err(WalkFault::Memory),
+        };
+        match self.walk_projections((from, to), &mut desk, &mut columns) {
+            Ok(()) => Ok(Walked::from_columns(columns)),
+            Err(fault) => Err(fault),
+        }
+    }
 }
 
-/// The full rows that the walks from the surviving rows numbered from..to find, a row of the table once for each of these, but
-/// for those whose key is read in a row of an earlier projection that has every column: the walk from there finds it too.
+/// The full rows among the surviving rows numbered from..to: every row whose walk finds a whole row gives that row, in the
+/// order of their numbers.
 ///
 /// The surviving rows are those of all segments that are not lost, by projection, segment and position. Refuses with
-/// `Astray` the first of them that the join indexes lead astray, and with `Memory` for want of memory alone.
+/// `Astray` the first of them that the join indexes lead astray, and with `Memory` only when memory runs out.
 pub fn walk_rows(
     alloc: Global,
     catalog: &Catalog,
@@ -233,21 +249,38 @@ pub fn walk_rows(
     ensures rows { IfOk result (λ walked. Ok walked.rows ≡ found_among catalog.now loss (contents_of survivors.now) (surviving_between catalog.now loss (contents_of survivors.now) from to)) }
     ensures fault { IfErr result (IsWalkFault (found_among catalog.now loss (contents_of survivors.now) (surviving_between catalog.now loss (contents_of survivors.now) from to))) }
 {
-    // most walks find a row
-    let room = to
-        .min(surviving_row_count(survivors, loss))
-        .saturating_sub(from);
-    let mut columns = match new_columns(alloc, catalog, room) {
-        Ok(columns) => columns,
-        Err(_) => return Err(WalkFault::Memory),
+    let fresh_only = false;
+    let walk = RowWalk {
+        survivors,
+        loss,
+        fresh_only,
     };
-    let mut desk = match new_desk(alloc, catalog) {
-        Ok(desk) => desk,
-        Err(_) => return Err(WalkFault::Memory),
+    walk.range(alloc, catalog, from, to)
+}
+
+/// The rows of `walk_rows` without those whose key is read in a row of an earlier projection that has every column: the walk
+/// from there finds it by itself. `rebuild` leaves them out while it walks, since they are later repeats of a key.
+///
+/// Refuses as `walk_rows` does.
+pub fn walk_fresh_rows(
+    alloc: Global,
+    catalog: &Catalog,
+    loss: Loss,
+    survivors: &Survivors<'_>,
+    from: usize,
+    to: usize,
+) -> Result<Walked, WalkFault>
+    requires same { survivors.now.catalog ≡ catalog.now }
+    requires order { from ≤ to }
+    ensures kinds { IfOk result (λ walked. walked.kinds ≡ map (λ c. c.kind) catalog.now.columns) }
+    ensures rows { IfOk result (λ walked. Ok walked.rows ≡ fresh_among catalog.now loss (contents_of survivors.now) (surviving_between catalog.now loss (contents_of survivors.now) from to)) }
+    ensures fault { IfErr result (IsWalkFault (fresh_among catalog.now loss (contents_of survivors.now) (surviving_between catalog.now loss (contents_of survivors.now) from to))) }
+{
+    let fresh_only = true;
+    let walk = RowWalk {
+        survivors,
+        loss,
+        fresh_only,
     };
-    let walk = RowWalk { survivors, loss };
-    match walk.walk_projections((from, to), &mut desk, &mut columns) {
-        Ok(()) => Ok(Walked::from_columns(columns)),
-        Err(fault) => Err(fault),
-    }
+    walk.range(alloc, catalog, from, to)
 }

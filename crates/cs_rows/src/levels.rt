@@ -50,6 +50,8 @@ impl Model for Finding {
 pub(crate) struct RowWalk<'a> {
     pub(crate) survivors: &'a Survivors<'a>,
     pub(crate) loss: Loss,
+    /// Whether rows that the walk from an earlier row finds by itself are left out.
+    pub(crate) fresh_only: bool,
 }
 
 /// The entry of a row in the join index to a projection.

@@ -15,7 +15,7 @@ ghost use Rattle.cs_rows.specs.WalkedView.{IsWide};
 use crate::joining::{join_column, rows_in, text_size};
 use crate::marks::push_unmarked;
 use crate::numbers::{column_count, key_column, kind};
-use crate::repeats::find_repeats;
+use crate::repeats::{find_repeats, find_repeats_alone};
 use crate::walked::Walked;
 use cs_schema::{Catalog, Cells};
 use rayon::prelude::*;
@@ -128,5 +128,46 @@ pub fn join_once<R: Threads + Sync>(
 {
     let marks = mark_repeats_in(rt, alloc, catalog, pieces)?;
     let columns = unmarked_columns(rt, alloc, catalog, pieces, &marks)?;
+    Ok(Walked::from_columns(columns))
+}
+
+/// The columns of the unmarked rows of a walk.
+fn columns_left(
+    alloc: Global,
+    catalog: &Catalog,
+    walked: &Walked,
+    marks: &[bool],
+) -> Result<Vec<Cells>, AllocError>
+    requires kinds { walked.now.kinds ≡ map (λ c. c.kind) catalog.now.columns }
+    requires marks { length marks.now ≡ length walked.now.rows }
+    ensures fit { IfOk result (λ columns. ColumnsFit catalog.now columns.items) }
+    ensures rows { IfOk result (λ columns. AreRows catalog.now (unmarked marks.now walked.now.rows) columns.items) }
+    ensures wide { IsWide walked.now }
+    ensures rules { IsCatalog catalog.now }
+{
+    // tells how wide the rows are
+    let _rows = walked.rows();
+    let mut columns = Vec::new(alloc);
+    for c in 0..column_count(catalog) {
+        let mut left = Cells::new(alloc, kind(catalog, c));
+        push_unmarked(&mut left, walked.column(c), marks)?;
+        columns.push(left)?;
+    }
+    Ok(columns)
+}
+
+/// The rows of a walk without each row whose primary key stands in an earlier one, in n log n steps of this thread alone.
+pub(crate) fn first_rows(
+    alloc: Global,
+    catalog: &Catalog,
+    walked: &Walked,
+) -> Result<Walked, AllocError>
+    requires { walked.now.kinds ≡ map (λ c. c.kind) catalog.now.columns }
+    ensures kinds { IfOk result (λ left. left.kinds ≡ walked.now.kinds) }
+    ensures rows { IfOk result (λ left. left.rows ≡ without_repeats catalog.now walked.now.rows) }
+{
+    let keys = walked.column(key_column(catalog));
+    let marks = find_repeats_alone(alloc, keys)?;
+    let columns = columns_left(alloc, catalog, walked, marks.as_slice())?;
     Ok(Walked::from_columns(columns))
 }

@@ -8,12 +8,12 @@ ghost use Rattle.cs_schema.specs.declared.cells.Cells.{Cells as CellsData};
 ghost use Rattle.cs_rows.specs.Survivors.{contents_of};
 ghost use Rattle.cs_rows.specs.Columns.{ColumnsFit};
 ghost use Rattle.cs_rows.specs.OwnRows.{HasAll, has_all, own_cells};
-ghost use Rattle.cs_rows.specs.RangeByRows.{is_stray_row, fresh_row};
+ghost use Rattle.cs_rows.specs.RangeByRows.{is_stray_row, given_row};
 ghost use Rattle.cs_rows.specs.RowSteps.{Stands, AreRows, reached_from, IsStrayFault};
 ghost use Rattle.cs_schema.specs.Rows.{Row};
 
-use crate::by_rows::Desk;
 use crate::catalog_of::{column_count, columns_of, projection_count};
+use crate::desk::Desk;
 use crate::levels::{RowWalk, walk_from};
 use crate::range::{WalkFault, place_in};
 use crate::survivors::Survivors;
@@ -126,7 +126,7 @@ impl RowWalk<'_> {
         ensures reading { desk.new.reading ≡ desk.old.reading }
         ensures fit { OnOk result (ColumnsFit self.now.survivors.now.catalog columns.new.items) }
         ensures sound { OnOk result (find (is_stray_row self.now.survivors.now.catalog self.now.loss (contents_of self.now.survivors.now)) (reached_from segment.0 segment.1 rows.0 (rows.1 - rows.0)) ≡ None) }
-        ensures cells { OnOk result ((found : List Row) → AreRows self.now.survivors.now.catalog found columns.old.items → AreRows self.now.survivors.now.catalog (found ++ filter_map (fresh_row self.now.survivors.now.catalog self.now.loss (contents_of self.now.survivors.now)) (reached_from segment.0 segment.1 rows.0 (rows.1 - rows.0))) columns.new.items) }
+        ensures cells { OnOk result ((found : List Row) → AreRows self.now.survivors.now.catalog found columns.old.items → AreRows self.now.survivors.now.catalog (found ++ filter_map (given_row self.now.fresh_only self.now.survivors.now.catalog self.now.loss (contents_of self.now.survivors.now)) (reached_from segment.0 segment.1 rows.0 (rows.1 - rows.0))) columns.new.items) }
         ensures fault { IfErr result (IsStrayFault self.now.survivors.now.catalog self.now.loss (contents_of self.now.survivors.now) (reached_from segment.0 segment.1 rows.0 (rows.1 - rows.0))) }
     {
         // tells that the key is a column

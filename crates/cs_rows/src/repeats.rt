@@ -101,6 +101,17 @@ fn sorted_rows<R: Threads + Sync>(
     numbers(alloc, rows)
 }
 
+/// The numbers of `sorted_rows`, sorted in this thread alone.
+fn sorted_rows_alone(alloc: Global, keys: &Cells) -> Result<Vec<usize>, AllocError>
+    ensures permutation { IfOk result (λ v. IsPermutation (range_with_len 0 (length (values keys.now))) v.items) }
+    ensures sorted { IfOk result (λ v. IsSorted (numbered_cmp (values keys.now)) v.items) }
+{
+    let mut rows = keyed_rows(alloc, keys)?;
+    let rows = rows.as_mut_slice();
+    rows.sort_unstable();
+    numbers(alloc, rows)
+}
+
 /// Marks each row whose left neighbour by ascending keys has its key.
 fn mark_repeats(keys: &Cells, sorted: &[usize], marks: &mut [bool])
     requires permutation { IsPermutation (range_with_len 0 (length (values keys.now))) sorted.now }
@@ -131,5 +142,15 @@ pub(crate) fn find_repeats<R: Threads + Sync>(
             mark_repeats(keys, sorted.as_slice(), marks.as_mut_slice());
         }
     }
+    Ok(marks)
+}
+
+/// The marks of `find_repeats`, found in this thread alone.
+pub(crate) fn find_repeats_alone(alloc: Global, keys: &Cells) -> Result<Vec<bool>, AllocError>
+    ensures { IfOk result (λ marks. AreRepeats (values keys.now) marks.items) }
+{
+    let mut marks = no_marks(alloc, keys.len())?;
+    let sorted = sorted_rows_alone(alloc, keys)?;
+    mark_repeats(keys, sorted.as_slice(), marks.as_mut_slice());
     Ok(marks)
 }

@@ -1,5 +1,5 @@
 //! Where the columns of found rows are read, sought once for rows that were found through the same projections.
-ghost use Rattle.std.specs.Prelude.{◌≡◌, ◌<◌, ◌↔◌, ℕ, length, true, All, IfOk, OnOk, IsTrue, MatchOption, None};
+ghost use Rattle.std.specs.Prelude.{◌≡◌, ◌<◌, ◌↔◌, ◌&&◌, Bool, ℕ, length, true, All, IfOk, OnOk, IsTrue, MatchOption, None};
 ghost use Rattle.std.specs.List.{find};
 ghost use Rattle.cs_schema.specs.CatalogData.{CatalogData};
 ghost use Rattle.cs_safety.specs.Paths.{holds_column};
@@ -20,13 +20,12 @@ pub(crate) struct Source {
     pub(crate) place: usize,
 }
 
-/// Where each column is read of rows that were found through some projections, where these have all columns, and no walk before
-/// finds the row.
+/// Whether rows that were found through some projections are given, and where each column is read then.
 #[derive(Drop)]
 pub(crate) struct Reading {
     projections: Vec<u16>,
     pub(crate) sources: Vec<Source>,
-    pub(crate) fresh: bool,
+    pub(crate) given: bool,
 }
 
 /// Where a column is read, if one of the projections has it: the first.
@@ -71,6 +70,20 @@ fn is_found_before(survivors: &Survivors<'_>, projections: &[u16], key: Source) 
     q < projections[0] && has_all_columns(survivors, q)
 }
 
+/// Whether rows of such projections are left out: those that are found before, where fresh ones alone are asked for.
+fn is_left_out(
+    survivors: &Survivors<'_>,
+    projections: &[u16],
+    key: Source,
+    fresh_only: bool,
+) -> bool
+    requires there { All (λ p. p < length survivors.now.catalog.projections) projections.now }
+    requires key { IsSource survivors.now.catalog projections.now survivors.now.catalog.key key }
+    ensures { result ≡ (fresh_only && is_found_before survivors.now.catalog projections.now) }
+{
+    fresh_only && is_found_before(survivors, projections, key)
+}
+
 /// Whether rows were reached in these projections, one after the other.
 fn are_in(reached: &[(u16, (u16, u32))], projections: &[u16]) -> bool
     ensures { IsTrue result ↔ (numbers_of reached.now ≡ projections.now) }
@@ -104,7 +117,7 @@ impl Reading {
     /// Room for so many projections and columns, and no projection yet.
     pub(crate) fn new(alloc: Global, projections: usize, columns: usize) -> Result<Self, AllocError>
         requires { 0 < columns }
-        ensures { IfOk result (λ reading. (C : CatalogData) → length C.columns ≡ columns → IsReading C reading) }
+        ensures { IfOk result (λ reading. (fresh_only : Bool) (C : CatalogData) → length C.columns ≡ columns → IsReading fresh_only C reading) }
     {
         let mut sources = Vec::with_capacity(alloc, columns)?;
         for _column in 0..columns {
@@ -116,19 +129,20 @@ impl Reading {
         Ok(Reading {
             projections: Vec::with_capacity(alloc, projections)?,
             sources,
-            fresh: false,
+            given: false,
         })
     }
 
-    /// Goes over to rows that were reached. There is nothing to find where the last ones were in the same projections.
+    /// Goes over to rows that were reached, of which fresh ones alone are given if that is asked for. There is nothing to find where the last ones were in the same projections.
     pub(crate) fn update(
         &mut self,
         survivors: &Survivors<'_>,
         reached: &[(u16, (u16, u32))],
+        fresh_only: bool,
     ) -> Result<(), AllocError>
         requires there { All (λ row. row.0 < length survivors.now.catalog.projections) reached.now }
-        requires reading { IsReading survivors.now.catalog self.old }
-        ensures reading { OnOk result (IsReading survivors.now.catalog self.new) }
+        requires reading { IsReading fresh_only survivors.now.catalog self.old }
+        ensures reading { OnOk result (IsReading fresh_only survivors.now.catalog self.new) }
         ensures projections { OnOk result (self.new.projections.items ≡ numbers_of reached.now) }
     {
         if are_in(reached, self.projections.as_slice()) {
@@ -136,10 +150,10 @@ impl Reading {
         }
         list_projections(&mut self.projections, reached)?;
         let projections = self.projections.as_slice();
-        self.fresh = false;
+        self.given = false;
         if find_sources(survivors, projections, &mut self.sources) {
             let key = self.sources[key_column(survivors)];
-            self.fresh = !is_found_before(survivors, projections, key);
+            self.given = !is_left_out(survivors, projections, key, fresh_only);
         }
         Ok(())
     }

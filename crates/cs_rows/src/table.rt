@@ -1,5 +1,5 @@
 //! The rows of the whole table, in columns that were made or that images lend.
-ghost use Rattle.std.specs.Prelude.{◌≡◌, ◌<◌, ℕ, length, map, slice_get, slice_index_or, None, Some};
+ghost use Rattle.std.specs.Prelude.{◌≡◌, ◌<◌, ℕ, length, map, slice_get, slice_index_or, None, Some, IfOk};
 ghost use Rattle.cs_schema.specs.Values.{values, kind_of};
 ghost use Rattle.cs_schema.specs.Rows.{cell};
 ghost use Rattle.cs_rows.specs.WalkedView.{walked_data, AreColumns};
@@ -7,8 +7,8 @@ ghost use Rattle.cs_rows.specs.TableView.{over};
 
 use crate::lent::Lent;
 use crate::walked::Walked;
-use cs_schema::Cells;
-use std::alloc::Global;
+use cs_schema::{Cells, Kind};
+use std::alloc::{AllocError, Global};
 use std::marker::Model;
 
 /// Rows of the whole table, in the order of the walk. A column that stands whole in one image needn't be made: it is lent.
@@ -49,6 +49,20 @@ impl<'a> Table<'a> {
             made: walked.into_columns(),
             lent: Lent::nothing(alloc),
         }
+    }
+
+    /// The rows of a walk, which lends all its columns.
+    pub fn lent_by(alloc: Global, walked: &'a Walked) -> Result<Self, AllocError>
+        ensures { IfOk result (λ table. table ≡ walked.entry.now) }
+    {
+        let columns = walked.columns();
+        let mut made = Vec::new(alloc);
+        let mut lent = Lent::nothing(alloc);
+        for c in 0..columns.len() {
+            made.push(Cells::new(alloc, Kind::Int))?;
+            lent.push(Some(&columns[c]))?;
+        }
+        Ok(Table { made, lent })
     }
 
     /// The rows that stand across columns of one length, of which there is one at least: those that were made, and those

@@ -2,8 +2,10 @@
 ghost use Rattle.std.specs.Prelude.{◌≡◌, ◌<◌, ◌++◌, ℕ, length, map, slice_get, slice_index_or, Some, [], IfOk, OnOk, OnErr, take};
 ghost use Rattle.cs_schema.specs.Values.{values, kind_of};
 ghost use Rattle.cs_schema.specs.Rows.{cell};
+ghost use Rattle.cs_rows.specs.WalkByRows.{without_repeats};
 ghost use Rattle.cs_rows.specs.WalkedView.{walked_data, AreColumns, IsWide};
 
+use crate::once::first_rows;
 use crate::range::new_columns;
 use cs_schema::{Catalog, Cells, Value};
 use std::alloc::{AllocError, Global};
@@ -82,6 +84,14 @@ impl Walked {
         columns
     }
 
+    /// The columns, of one length, as they stand.
+    pub(crate) fn columns(&self) -> &[Cells]
+        ensures columns { AreColumns result.now }
+        ensures rows { walked_data result.now ≡ self.now }
+    {
+        &self.columns
+    }
+
     /// No rows, with the columns of a catalog.
     pub fn none(alloc: Global, catalog: &Catalog) -> Result<Self, AllocError>
         ensures kinds { IfOk result (λ walked. walked.kinds ≡ map (λ c. c.kind) catalog.now.columns) }
@@ -130,6 +140,20 @@ impl Walked {
             Ok(()) => {}
             Err(fault) => return Err(fault),
         }
+        Ok(())
+    }
+    /// Leaves out each row whose primary key stands in an earlier row, in n log n steps. A refusal changes nothing.
+    ///
+    /// It works in this thread alone; `join_once` gives the same rows of several walks with threads.
+    pub fn once(&mut self, catalog: &Catalog) -> Result<(), AllocError>
+        requires { self.old.kinds ≡ map (λ c. c.kind) catalog.now.columns }
+        ensures kinds { self.new.kinds ≡ self.old.kinds }
+        ensures ok { OnOk result (self.new.rows ≡ without_repeats catalog.now self.old.rows) }
+        ensures err { OnErr result (self.new ≡ self.old) }
+    {
+        let alloc = *self.columns.allocator();
+        let left = first_rows(alloc, catalog, self)?;
+        *self = left;
         Ok(())
     }
 }

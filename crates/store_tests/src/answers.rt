@@ -1,6 +1,7 @@
-//! What a store answers, asked with few and many workers, and with small and large cuts.
+//! What a store answers, asked with few and many workers, and with small and large cuts, and in what order its rounds open.
+use crate::rounds::Opened;
 use crate::stores::Store;
-use cs_rebuild::{check, rebuild};
+use cs_rebuild::{check, check_gated, rebuild, rebuild_gated};
 use cs_schema::FileName;
 use cs_store::{Fault, FileSet};
 use std::alloc::Global;
@@ -64,9 +65,13 @@ pub fn expect(rt: &(impl Threads + Sync + Abort), store: &Store, asks: &[Ask]) -
         match ask {
             Ask::Files(sites, _) | Ask::Restored(sites, _) | Ask::Refused(sites, _) => {
                 expect_rebuilt(rt, store, sites, ask)?;
+                expect_rounds(rt, store, sites);
             }
             Ask::Checked(k, Ok(rows)) => expect_checked(rt, store, *k, Ok(*rows)),
             Ask::Checked(k, Err(refusal)) => expect_checked(rt, store, *k, Err(refusal.fault())),
+        }
+        if let Ask::Checked(k, _) = ask {
+            expect_rounds_of_check(rt, store, *k);
         }
     }
     Ok(())
@@ -94,6 +99,48 @@ fn expect_rebuilt(
         }
     }
     Ok(())
+}
+
+/// Asks that the rounds of a rebuild open one after the other: files, walk, images and joins once, and then those of columns, if
+/// anything is lost. One that is refused may end after any of them.
+fn expect_rounds(rt: &(impl Threads + Sync + Abort), store: &Store, sites: &[u8]) {
+    let gate = Opened::none();
+    let out = rebuild_gated(
+        rt,
+        store.alloc,
+        &store.catalog,
+        &store.files,
+        loss_of(sites),
+        2,
+        1,
+        &gate,
+    );
+    let last = gate.last_in_order();
+    match out {
+        Ok(files) if files.len() > 0 => assert_eq!(rt; last, Some(5)),
+        Ok(_) => assert_eq!(rt; last, Some(4)),
+        Err(_) => assert!(rt; last.is_some()),
+    }
+}
+
+/// Asks that the rounds of a check open one after the other, files, walk, images and joins, each once.
+fn expect_rounds_of_check(rt: &(impl Threads + Sync + Abort), store: &Store, k: u8) {
+    let gate = Opened::none();
+    let rows = check_gated(
+        rt,
+        store.alloc,
+        &store.catalog,
+        &store.files,
+        k,
+        2,
+        1,
+        &gate,
+    );
+    let last = gate.last_in_order();
+    match rows {
+        Ok(_) => assert_eq!(rt; last, Some(4)),
+        Err(_) => assert!(rt; last.is_some()),
+    }
 }
 
 fn expect_answer(

@@ -29,6 +29,8 @@ mod orders_by_ties;
 #[cfg(test)]
 mod plays;
 #[cfg(test)]
+mod rounds;
+#[cfg(test)]
 mod safety;
 #[cfg(test)]
 mod sort_orders;

@@ -4,7 +4,7 @@ ghost use Rattle.std.specs.Prelude.{◌≡◌, ◌<◌, ◌^◌, length, map};
 use cs_catalog::read_catalog;
 use cs_order::samples::walked_rows;
 use cs_order::{OrderFault, orders};
-use cs_rows::Table;
+use cs_rows::Walked;
 use cs_schema::samples::{CITIES, THREE_PROJECTIONS, TWO_ORDERS};
 use cs_schema::{Catalog, Cells, Texts, Value, Word};
 use std::alloc::AllocGlobal;
@@ -12,11 +12,7 @@ use std::process::Abort;
 use std::thread::Threads;
 
 /// Rows of these columns, few enough to be numbered.
-fn walked<'a>(
-    rt: &(impl Abort + AllocGlobal),
-    catalog: &'a Catalog,
-    columns: Vec<Cells>,
-) -> Table<'a>
+fn walked(rt: &(impl Abort + AllocGlobal), catalog: &Catalog, columns: Vec<Cells>) -> Walked
     ensures kinds { result.kinds ≡ map (λ c. c.kind) catalog.now.columns }
     ensures few { length result.rows < 2 ^ 32 }
 {
@@ -24,7 +20,7 @@ fn walked<'a>(
         panic!(rt; "these are no columns of the catalog");
     };
     assert!(rt; walked.rows() <= u32::MAX as usize);
-    Table::of_walk(rt.alloc(), walked)
+    walked
 }
 
 /// The catalog of a text.
@@ -33,7 +29,7 @@ fn catalog(rt: &(impl Abort + AllocGlobal), text: &str) -> Catalog {
 }
 
 /// The int key of a row.
-fn int_key(rt: &impl Abort, catalog: &Catalog, walked: &Table<'_>, row: u32) -> i64
+fn int_key(rt: &impl Abort, catalog: &Catalog, walked: &Walked, row: u32) -> i64
     requires { walked.now.kinds ≡ map (λ c. c.kind) catalog.now.columns }
     ensures { row < length walked.now.rows }
 {

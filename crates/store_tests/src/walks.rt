@@ -1,7 +1,7 @@
 //! Walks of small stores.
 ghost use Rattle.std.specs.Prelude.{◌≡◌, map, IfOk};
 
-use crate::surviving::catalogs::{NUMBERED_CITIES, THREE_ORDERS};
+use crate::surviving::catalogs::{NUMBERED_CITIES, THREE_ORDERS, TWO_ORDERS};
 use crate::surviving::{Store, catalog};
 use cs_rows::lent::Lent;
 use cs_rows::range::{WalkFault, walk_range};
@@ -177,35 +177,45 @@ fn images_and_joins_that_were_put(rt: HostRuntime) {
     assert!(rt; survivors.join(1, 1, 0).is_none());
 }
 
-/// Whether the walk by rows has so many rows in a first and in a second piece, and these where each key stands once.
+/// Whether the walk by rows gives these rows, at once and in two pieces, and `once` and `join_once` leave those of them where each
+/// key stands once.
 fn gives_once(
     rt: &(impl AllocGlobal + Threads + Sync),
     store: &Store<'_>,
     loss: Loss,
-    counts: [usize; 2],
-    rows: &[&[i64]],
+    all: &[&[i64]],
+    once: &[&[i64]],
 ) -> bool {
     let alloc = rt.alloc();
     let catalog = store.survivors.catalog();
-    let (Ok(first), Ok(second)) = (
-        store.walk_by_rows(alloc, loss, 0, counts[0]),
-        store.walk_by_rows(alloc, loss, counts[0], ALL),
+    let (Ok(mut walked), Ok(first), Ok(second)) = (
+        store.walk_by_rows(alloc, loss, 0, ALL),
+        store.walk_by_rows(alloc, loss, 0, 3),
+        store.walk_by_rows(alloc, loss, 3, ALL),
     ) else {
         return false;
     };
     let pieces = [first, second];
-    let Ok(once) = join_once(rt, alloc, catalog, &pieces) else {
+    let Ok(joined) = join_once(rt, alloc, catalog, &pieces) else {
         return false;
     };
-    pieces[0].rows() == counts[0] && pieces[1].rows() == counts[1] && shows(&once, catalog, rows)
+    shows(&walked, catalog, all)
+        && pieces[0].rows() == 3
+        && pieces[1].rows().saturating_add(3) == all.len()
+        && shows(&joined, catalog, once)
+        && walked.once(catalog).is_ok()
+        && shows(&walked, catalog, once)
 }
 
 /// Whether no rows are no rows where each key stands once, in one piece and in none.
 fn keeps_no_rows(rt: &(impl AllocGlobal + Threads + Sync), catalog: &Catalog) -> bool {
     let alloc = rt.alloc();
-    let Ok(none) = Walked::none(alloc, catalog) else {
+    let Ok(mut none) = Walked::none(alloc, catalog) else {
         return false;
     };
+    if none.once(catalog).is_err() || none.rows() != 0 {
+        return false;
+    }
     let (Ok(one), Ok(no_piece)) = (
         join_once(rt, alloc, catalog, &[none]),
         join_once(rt, alloc, catalog, &[]),
@@ -224,24 +234,33 @@ fn rows_of_surviving_segments_with_ample_memory(rt: HostRuntime) {
     store.put_segment(&rt, 1, 1, &[&[3, 1], &[20, 30]], &[]);
     store.put_segment(&rt, 2, 0, &[&[2, 4, 3], &[10, 10, 20]], &[]);
     let loss = Loss::none().with(1).with(3).with(6);
-    let rows: [&[i64]; 4] = [&[3, 20], &[4, 10], &[1, 30], &[2, 10]];
-    assert!(rt; gives_once(&rt, &store, loss, [3, 4], &rows));
+    let all: [&[i64]; 7] = [
+        &[3, 20],
+        &[4, 10],
+        &[3, 20],
+        &[1, 30],
+        &[2, 10],
+        &[4, 10],
+        &[3, 20],
+    ];
+    let once: [&[i64]; 4] = [&[3, 20], &[4, 10], &[1, 30], &[2, 10]];
+    assert!(rt; gives_once(&rt, &store, loss, &all, &once));
     assert!(rt; keeps_no_rows(&rt, store.survivors.catalog()));
 }
 
 // One segment is left, in which a key stands twice.
 #[test]
 fn rows_with_a_key_twice(rt: HostRuntime) {
-    let catalog = catalog(&rt, THREE_ORDERS);
+    let catalog = catalog(&rt, TWO_ORDERS);
     let mut store = Store::of(&rt, &catalog);
-    store.put_segment(&rt, 2, 0, &[&[2, 4, 3, 2], &[10, 10, 20, 30]], &[]);
-    let loss = Loss::none().with(1).with(2).with(3).with(4).with(6);
-    let rows: [&[i64]; 3] = [&[2, 10], &[4, 10], &[3, 20]];
-    assert!(rt; gives_once(&rt, &store, loss, [3, 1], &rows));
+    store.put_segment(&rt, 1, 0, &[&[2, 4, 3, 2], &[10, 10, 20, 30]], &[]);
+    let loss = Loss::none().with(1);
+    let all: [&[i64]; 4] = [&[2, 10], &[4, 10], &[3, 20], &[2, 30]];
+    assert!(rt; gives_once(&rt, &store, loss, &all, &all[..3]));
 }
 
-// One segment of the second projection is lost: the rows there are marked, and full without it. The row that survives there is
-// found before, from the first projection.
+// One segment of the second projection is lost: the projection is marked for two rows, which are full without it. The row that
+// survives there leads back to the first of all, whose walk finds the same row.
 #[test]
 fn rows_with_a_marked_projection(rt: HostRuntime) {
     let loss = Loss::none().with(2);
@@ -251,8 +270,8 @@ fn rows_with_a_marked_projection(rt: HostRuntime) {
     store.put_segment(&rt, 1, 1, &[&[2], &[7]], &[]);
     store.put_join(&rt, 0, 0, 1, &[(1, 1), (0, 1), (0, 2)]);
     store.put_join(&rt, 1, 1, 0, &[(0, 1)]);
-    let rows: [&[i64]; 3] = [&[1, 2, 7], &[2, 1, 5], &[3, 1, 3]];
-    assert!(rt; gives_once(&rt, &store, loss, [3, 0], &rows));
+    let all: [&[i64]; 4] = [&[1, 2, 7], &[2, 1, 5], &[3, 1, 3], &[1, 2, 7]];
+    assert!(rt; gives_once(&rt, &store, loss, &all, &all[..3]));
     store.put_join(&rt, 0, 0, 1, &[(1, 1), (0, 0), (0, 2)]);
     assert!(rt; is_astray(store.walk_by_rows(rt.alloc(), loss, 0, ALL)));
 }

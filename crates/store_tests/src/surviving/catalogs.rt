@@ -70,3 +70,33 @@ cuts = [2]
 sites = [2, 3]
 joins = ["a"]
 "#;
+
+// Two columns in two projections of one segment each, on two sites, with no join.
+pub const TWO_ORDERS: &str = r#"version = 2
+safety = "rows"
+table = "t"
+key = "id"
+sites = 2
+[[column]]
+name = "id"
+kind = "int"
+[[column]]
+name = "v"
+kind = "int"
+[[projection]]
+name = "a"
+columns = ["id", "v"]
+codes = [4, 4]
+sort = ["id"]
+cuts = []
+sites = [1]
+joins = []
+[[projection]]
+name = "b"
+columns = ["id", "v"]
+codes = [4, 4]
+sort = ["v"]
+cuts = []
+sites = [2]
+joins = []
+"#;

@@ -20,10 +20,10 @@ pub files-requires : goal.files-requires
 files-requires g c = (c.requires.held.0, ap held_files (c.rebuild_beside-sealed.ensures.kept c.if-sealed.false) ∙ c.requires.held.1)
 
 pub rebuild_read-requires-clause-read : goal.rebuild_read-requires-clause-read
-rebuild_read-requires-clause-read g c κs within = (contents_of c.files.result.now, (c.read_store-read.ensures.ok, c.read_store-read.ensures.err))
+rebuild_read-requires-clause-read g c κs within = (contents_of c.files.result.now, (c.read_again-read.ensures.ok, c.read_again-read.ensures.err))
 
 pub returns : goal.returns
 returns g c F held =
     let same : c.files.result.now ≡ F = same_Some c.files.result.now F (sym c.files.ensures ∙ ap held_files (c.rebuild_beside-sealed.ensures.kept c.if-sealed.false) ∙ held) in
     subst (λ (G : Files). IsRecovery c.args.catalog.now (contents_of G) c.args.loss c.rebuild_read.result) same
-    (c.rebuild_read.ensures (contents_of c.files.result.now) (c.read_store-read.ensures.ok, c.read_store-read.ensures.err))
+    (c.rebuild_read.ensures (contents_of c.files.result.now) (c.read_again-read.ensures.ok, c.read_again-read.ensures.err))

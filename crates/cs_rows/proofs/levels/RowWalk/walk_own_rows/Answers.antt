@@ -10,4 +10,4 @@ returns-clause-cells c =
     let C = c.args.self.now.survivors.now.catalog in
     let p : ℕ = c.args.segment.0 in
     let n : ℕ = c.args.rows.1 - c.args.rows.0 in
-    own_grow C c.args.self.now.loss (contents_of c.args.self.now.survivors.now) c.projection_count-rules.ensures.rules.key (reached_from p c.args.segment.1 c.args.rows.0 n) c.args.columns.now.items c.copy_rows.new.columns.items (all_of (HasAll C) p c.args.segment.1 c.args.rows.0 n c.requires.all) c.in-Ok.ensures.sound c.in_ok-copy_rows.ensures.cells
+    own_grow C c.args.self.now.loss (contents_of c.args.self.now.survivors.now) c.args.self.now.fresh_only c.projection_count-rules.ensures.rules.key (reached_from p c.args.segment.1 c.args.rows.0 n) c.args.columns.now.items c.copy_rows.new.columns.items (all_of (HasAll C) p c.args.segment.1 c.args.rows.0 n c.requires.all) c.in-Ok.ensures.sound c.in_ok-copy_rows.ensures.cells

@@ -43,7 +43,7 @@ loop-s-preserved c =
       count = ap (λ (k : ℕ). c.loop-s.first + k) (c.kept_in_segment-count.ensures ∙ sym (length-map-range_with_len (row_at p s) 0 n)) ∙ first_more f c.loop-s.first s c.loop-s.invariant.count;
       sound = ap (find (is_stray_row c.args.self.now.survivors.now.catalog c.args.self.now.loss (contents_of c.args.self.now.survivors.now))) more
           ∙ none_stray c.args.self.now.survivors.now.catalog c.args.self.now.loss (contents_of c.args.self.now.survivors.now) (part f c.args.range.0 c.args.range.1 s) (reached_from p s c.min-start.result (c.min-end.result - c.min-start.result)) c.loop-s.invariant.sound c.in-Ok.ensures.sound;
-      grown = grows_more c.args.self.now.survivors.now.catalog c.args.self.now.loss (contents_of c.args.self.now.survivors.now) (part f c.args.range.0 c.args.range.1 s) (reached_from p s c.min-start.result (c.min-end.result - c.min-start.result)) (part f c.args.range.0 c.args.range.1 (s + 1)) c.args.columns.now.items c.loop-s.columns.items c.walk_segment.new.columns.items
+      grown = grows_more c.args.self.now.survivors.now.catalog c.args.self.now.loss (contents_of c.args.self.now.survivors.now) c.args.self.now.fresh_only (part f c.args.range.0 c.args.range.1 s) (reached_from p s c.min-start.result (c.min-end.result - c.min-start.result)) (part f c.args.range.0 c.args.range.1 (s + 1)) c.args.columns.now.items c.loop-s.columns.items c.walk_segment.new.columns.items
           more c.loop-s.invariant.grown c.in-Ok.ensures.cells;
     }
 
@@ -51,4 +51,4 @@ pub returns-clause-cells : goal.returns-clause-cells
 returns-clause-cells c =
     let within = c.segments-s-end.ensures.count in
     let e : c.loop-s.s ≡ segments c.args.self.now.survivors.now.catalog c.args.p = omega arith in
-    subst (λ (n : ℕ). Grows c.args.self.now.survivors.now.catalog c.args.self.now.loss (contents_of c.args.self.now.survivors.now) (part (kept_rows c.args.self.now.survivors.now.catalog c.args.self.now.loss (contents_of c.args.self.now.survivors.now) c.args.p) c.args.range.0 c.args.range.1 n) c.args.columns.now.items c.loop-s.columns.items) e c.loop-s.invariant.grown
+    subst (λ (n : ℕ). Grows c.args.self.now.survivors.now.catalog c.args.self.now.loss (contents_of c.args.self.now.survivors.now) c.args.self.now.fresh_only (part (kept_rows c.args.self.now.survivors.now.catalog c.args.self.now.loss (contents_of c.args.self.now.survivors.now) c.args.p) c.args.range.0 c.args.range.1 n) c.args.columns.now.items c.loop-s.columns.items) e c.loop-s.invariant.grown

@@ -34,7 +34,7 @@ loop-p-preserved c =
       count = ap (λ (k : ℕ). c.loop-p.first + k) c.kept_in_projection-first.ensures.count ∙ first_more f c.loop-p.first p c.loop-p.invariant.count;
       sound = ap (find (is_stray_row c.args.self.now.survivors.now.catalog c.args.self.now.loss (contents_of c.args.self.now.survivors.now))) more
           ∙ none_stray c.args.self.now.survivors.now.catalog c.args.self.now.loss (contents_of c.args.self.now.survivors.now) (part f c.args.range.0 c.args.range.1 p) now c.loop-p.invariant.sound c.in-Ok.ensures.sound;
-      grown = grows_more c.args.self.now.survivors.now.catalog c.args.self.now.loss (contents_of c.args.self.now.survivors.now) (part f c.args.range.0 c.args.range.1 p) now (part f c.args.range.0 c.args.range.1 (p + 1)) c.args.columns.now.items c.loop-p.columns.items c.walk_projection.new.columns.items
+      grown = grows_more c.args.self.now.survivors.now.catalog c.args.self.now.loss (contents_of c.args.self.now.survivors.now) c.args.self.now.fresh_only (part f c.args.range.0 c.args.range.1 p) now (part f c.args.range.0 c.args.range.1 (p + 1)) c.args.columns.now.items c.loop-p.columns.items c.walk_projection.new.columns.items
           more c.loop-p.invariant.grown c.in-Ok.ensures.cells;
     }
 
@@ -49,5 +49,5 @@ pub returns-clause-cells : goal.returns-clause-cells
 returns-clause-cells c =
     let within = c.projection_count-p-end.ensures.count in
     let e : c.loop-p.p ≡ length c.args.self.now.survivors.now.catalog.projections = omega arith in
-    let all = subst (λ (n : ℕ). Grows c.args.self.now.survivors.now.catalog c.args.self.now.loss (contents_of c.args.self.now.survivors.now) (part (projection_kept c.args.self.now.survivors.now.catalog c.args.self.now.loss (contents_of c.args.self.now.survivors.now)) c.args.range.0 c.args.range.1 n) c.args.columns.now.items c.loop-p.columns.items) e c.loop-p.invariant.grown in
-    subst (λ (l : List Reached). Grows c.args.self.now.survivors.now.catalog c.args.self.now.loss (contents_of c.args.self.now.survivors.now) (drop c.args.range.0 (take c.args.range.1 l)) c.args.columns.now.items c.loop-p.columns.items) (sym (surviving_are c.args.self.now.survivors.now.catalog c.args.self.now.loss (contents_of c.args.self.now.survivors.now))) all
+    let all = subst (λ (n : ℕ). Grows c.args.self.now.survivors.now.catalog c.args.self.now.loss (contents_of c.args.self.now.survivors.now) c.args.self.now.fresh_only (part (projection_kept c.args.self.now.survivors.now.catalog c.args.self.now.loss (contents_of c.args.self.now.survivors.now)) c.args.range.0 c.args.range.1 n) c.args.columns.now.items c.loop-p.columns.items) e c.loop-p.invariant.grown in
+    subst (λ (l : List Reached). Grows c.args.self.now.survivors.now.catalog c.args.self.now.loss (contents_of c.args.self.now.survivors.now) c.args.self.now.fresh_only (drop c.args.range.0 (take c.args.range.1 l)) c.args.columns.now.items c.loop-p.columns.items) (sym (surviving_are c.args.self.now.survivors.now.catalog c.args.self.now.loss (contents_of c.args.self.now.survivors.now))) all

@@ -25,11 +25,11 @@ loop-i-preserved c =
       fit = c.in-Ok.ensures.fit;
       sound = ap (find (is_stray_row c.args.self.now.survivors.now.catalog c.args.self.now.loss (contents_of c.args.self.now.survivors.now))) more
           ∙ none_stray c.args.self.now.survivors.now.catalog c.args.self.now.loss (contents_of c.args.self.now.survivors.now) (reached_from p s c.args.rows.0 (c.loop-i.i - c.args.rows.0)) (row_at p s c.loop-i.i ∷ []) c.loop-i.invariant.sound c.in-Ok.ensures.sound;
-      grown = grows_more c.args.self.now.survivors.now.catalog c.args.self.now.loss (contents_of c.args.self.now.survivors.now) (reached_from p s c.args.rows.0 (c.loop-i.i - c.args.rows.0)) (row_at p s c.loop-i.i ∷ []) (reached_from p s c.args.rows.0 (c.loop-i.i + 1 - c.args.rows.0)) c.args.columns.now.items c.loop-i.columns.items c.walk_row.new.columns.items
+      grown = grows_more c.args.self.now.survivors.now.catalog c.args.self.now.loss (contents_of c.args.self.now.survivors.now) c.args.self.now.fresh_only (reached_from p s c.args.rows.0 (c.loop-i.i - c.args.rows.0)) (row_at p s c.loop-i.i ∷ []) (reached_from p s c.args.rows.0 (c.loop-i.i + 1 - c.args.rows.0)) c.args.columns.now.items c.loop-i.columns.items c.walk_row.new.columns.items
           more c.loop-i.invariant.grown c.in-Ok.ensures.cells;
     }
 
 pub returns-clause-cells : goal.returns-clause-cells
 returns-clause-cells c =
     let e : c.loop-i.i ≡ c.args.rows.1 = omega arith in
-    subst (λ (n : ℕ). Grows c.args.self.now.survivors.now.catalog c.args.self.now.loss (contents_of c.args.self.now.survivors.now) (reached_from c.args.segment.0 c.args.segment.1 c.args.rows.0 (n - c.args.rows.0)) c.args.columns.now.items c.loop-i.columns.items) e c.loop-i.invariant.grown
+    subst (λ (n : ℕ). Grows c.args.self.now.survivors.now.catalog c.args.self.now.loss (contents_of c.args.self.now.survivors.now) c.args.self.now.fresh_only (reached_from c.args.segment.0 c.args.segment.1 c.args.rows.0 (n - c.args.rows.0)) c.args.columns.now.items c.loop-i.columns.items) e c.loop-i.invariant.grown

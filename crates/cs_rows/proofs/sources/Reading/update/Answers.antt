@@ -7,7 +7,7 @@ find_sources-requires-clause-there c =
     let n = length c.args.survivors.now.catalog.projections in
     subst (All (λ (p : ℕ). p < n)) (sym (c.as_slice-projections.ensures.value ∙ c.in_ok-list_projections.ensures)) (all_numbers n c.args.reached.now c.requires.there)
 
-pub is_found_before-requires-clause-there : goal.is_found_before-requires-clause-there
-is_found_before-requires-clause-there c =
+pub is_left_out-requires-clause-there : goal.is_left_out-requires-clause-there
+is_left_out-requires-clause-there c =
     let n = length c.args.survivors.now.catalog.projections in
     subst (All (λ (p : ℕ). p < n)) (sym (c.as_slice-projections.ensures.value ∙ c.in_ok-list_projections.ensures)) (all_numbers n c.args.reached.now c.requires.there)

@@ -5,7 +5,7 @@ use Rattle.cs_order.specs.Tables.{table_of}
 use Rattle.cs_order.specs.Numbers.{AreSegmentsOf, ProjectionsFitBelow}
 use Rattle.cs_order.specs.Places.{segment_lists, HavePlaces}
 use Rattle.cs_order.specs.Sides.{IsOrderOrFault}
-use Rattle.cs_order.proofs.parallel.orders.Given as goal
+use Rattle.cs_order.proofs.parallel.table_orders.Given as goal
 
 abbrev pub invariant-loop-p : goal.invariant-loop-p
 invariant-loop-p g l = record {

@@ -16,7 +16,7 @@ use Rattle.cs_order.proofs.FullRanges.{none_full}
 use Rattle.cs_order.proofs.FirstFault.{err_from, range_fault}
 use Rattle.cs_order.proofs.Filling.{lists_more}
 use Rattle.cs_order.proofs.Sides.{one_taken, none_taken}
-use Rattle.cs_order.proofs.parallel.orders.Goals as goal
+use Rattle.cs_order.proofs.parallel.table_orders.Goals as goal
 
 pub made_orders-requires : goal.made_orders-requires
 made_orders-requires g c = (

@@ -5,7 +5,7 @@ use Rattle.cs_store.specs.Fault.{MemoryOr}
 use Rattle.cs_rebuild.specs.Steps.{AreRead, IsBadFile}
 use Rattle.cs_rebuild.proofs.Sealing.{read_as_is}
 use Rattle.cs_rebuild.proofs.Verdicts.{memory_or, on_error, bad_file}
-use Rattle.cs_rebuild.proofs.reading.read_store.Goals as goal
+use Rattle.cs_rebuild.proofs.reading.read_compared.Goals as goal
 
 pub returns-clause-ok : goal.returns-clause-ok
 returns-clause-ok g c = subst (λ F. IfOk c.read_segments.result (AreRead c.args.catalog.now F c.args.loss)) (read_as_is (contents_of c.args.files.now)) c.read_segments.ensures.ok
