@@ -11,13 +11,10 @@ pub mod SortColumns
 pub mod AllOrders
 pub mod SampleColumns
 pub mod KeyLed
-pub mod KeyTurns
-pub mod Leads
+pub mod KeyColumns
+pub mod KeyPrefixes
 pub mod ApartInts
 pub mod Ties
 pub mod PassLemmas
-pub mod WordLemmas
-pub mod DealingLemmas
-pub mod HoleLemmas
 pub mod Sides
 pub mod KeyOrder

@@ -5,9 +5,7 @@ pub mod Ranges
 pub mod Items
 pub mod Faults
 pub mod Places
-pub mod Leads
+pub mod KeyPrefixes
 pub mod Ties
 pub mod Passes
-pub mod Words
-pub mod Dealing
 pub mod Sides

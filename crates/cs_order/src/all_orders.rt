@@ -4,7 +4,7 @@ ghost use Rattle.cs_order.specs.Orders.{numbers_in, StandsAt};
 ghost use Rattle.cs_order.specs.Places.{IsAmong};
 
 use crate::places::PLACES;
-use crate::ranges::Segment;
+use crate::ranges::RowIds;
 use crate::segments::ProjectionOrder;
 use std::marker::Model;
 
@@ -68,7 +68,7 @@ fn index_of(rows: &[u32], row: u32) -> Option<u32>
 }
 
 /// The segment in which a row stands, and its index there.
-fn find_row(segments: &[Segment], row: u32) -> (u16, u32)
+fn find_row(segments: &[RowIds], row: u32) -> (u16, u32)
     requires few { length segments.now ≤ 16 }
     requires short { All (λ rows. length rows ≤ 1048576) segments.now }
     requires there { IsAmong segments.now row }

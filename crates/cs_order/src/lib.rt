@@ -7,15 +7,12 @@
 
 mod all_orders;
 mod by_key;
-mod dealing;
 mod fault;
 mod item;
-mod lead;
-mod leading_bits;
+mod key_prefix;
 mod neighbours;
 mod parallel;
 mod passes;
-mod pigeonholes;
 mod places;
 mod range_numbers;
 mod ranges;
@@ -25,7 +22,6 @@ mod segments;
 mod sort;
 mod sort_items;
 mod sorter;
-mod words;
 mod writing;
 
 pub use all_orders::Orders;

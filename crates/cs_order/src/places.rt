@@ -2,14 +2,14 @@
 ghost use Rattle.std.specs.Prelude.{◌≡◌, [], ℕ, ◌<◌, ◌≤◌, IfOk, length, slice_index, slice_index_or, All, Contains};
 ghost use Rattle.cs_order.specs.Places.{IsThere};
 
-use crate::ranges::Segment;
+use crate::ranges::RowIds;
 use std::alloc::{AllocError, Global};
 
 /// How many places the number of a place keeps for each segment: as many as a segment has rows at most.
 pub const PLACES: u32 = 1_048_576;
 
 /// The place of each row.
-pub fn places(alloc: Global, segments: &[Segment], count: usize) -> Result<Vec<u32>, AllocError>
+pub fn places(alloc: Global, segments: &[RowIds], count: usize) -> Result<Vec<u32>, AllocError>
     requires few { length segments.now ≤ 16 }
     requires rows { All (λ rows. (length rows ≤ 1048576) × All (λ r. r < count) rows) segments.now }
     ensures count { IfOk result (λ v. length v.items ≡ count) }
@@ -22,7 +22,7 @@ pub fn places(alloc: Global, segments: &[Segment], count: usize) -> Result<Vec<u
 }
 
 /// Writes at each row its place.
-fn write_all(places: &mut [u32], segments: &[Segment])
+fn write_all(places: &mut [u32], segments: &[RowIds])
     requires few { length segments.now ≤ 16 }
     requires rows { All (λ rows. (length rows ≤ 1048576) × All (λ r. r < length places.old) rows) segments.now }
     ensures { (s r : ℕ) → s < length segments.now → Contains (slice_index_or segments.now s []) r → ((t : ℕ) → t < length segments.now → Contains (slice_index_or segments.now t []) r → t ≡ s) → IsThere (slice_index_or segments.now s []) s r (slice_index places.new r) }

@@ -21,23 +21,9 @@ pub record AreRepeats (keys : List Value) (marks : List Bool) : Type 0 where
   pub count : length marks ≡ length keys
   pub each : (j : ℕ) → j < length keys → slice_index_or marks j false ≡ is_repeat keys j
 
--- a row's int and its number
-abbrev pub IsPairOf : List ℤ → ℤ × ℕ → Type 0
-IsPairOf ints pair = (pair.1 < length ints) × (pair.0 ≡ slice_index_or ints pair.1 (pos 0))
-
 -- the int is one of so many from the least on
 abbrev pub IsNear : ℤ → ℕ → ℤ → Type 0
 IsNear least count x = (least ≤ℤ x) × (x <ℤ (least +ℤ pos count))
-
--- pairs by their ints, and those of one int by their rows
-abbrev pub pair_cmp : ℤ × ℕ → ℤ × ℕ → Ordering
-pair_cmp x y = ordering_then (int_cmp x.0 y.0) (nat_cmp x.1 y.1)
-
--- the int and the number of each row, in ascending order
-pub record AreSortedPairs (ints : List ℤ) (pairs : List (ℤ × ℕ)) : Type 0 where
-  pub each : All (IsPairOf ints) pairs
-  pub rows : IsPermutation (range_with_len 0 (length ints)) (map (λ (pair : ℤ × ℕ). pair.1) pairs)
-  pub sorted : IsSorted pair_cmp pairs
 
 -- the elements that are not marked
 abbrev pub unmarked : {X : Type 0} → List Bool → List X → List X

@@ -9,13 +9,17 @@ ghost use Rattle.cs_schema.specs.ValueOrder.{value_cmp_total};
 ghost use Rattle.cs_schema.specs.Rows.{cell};
 ghost use Rattle.cs_rows.specs.Repeats.{numbered_cmp, AreRepeats};
 
-use crate::int_repeats::mark_repeated_ints;
 use crate::marks::no_marks;
+use crate::near_ints::{mark_near_ints, near_ints};
+use crate::rows_by_int::rows_by_int;
 use cs_schema::Cells;
 use rayon::prelude::*;
 use std::alloc::{AllocError, Global};
 use std::cmp::Ordering;
 use std::thread::Threads;
+
+/// How many rows 32 bits number.
+const NUMBERED: usize = 4_294_967_296;
 
 /// A row by its number, with the column of the keys.
 #[derive(Clone, Copy)]
@@ -94,6 +98,11 @@ fn sorted_rows<R: Threads + Sync>(
     ensures permutation { IfOk result (λ v. IsPermutation (range_with_len 0 (length (values keys.now))) v.items) }
     ensures sorted { IfOk result (λ v. IsSorted (numbered_cmp (values keys.now)) v.items) }
 {
+    if let Cells::Ints(ints) = keys {
+        if ints.len() < NUMBERED {
+            return rows_by_int(alloc, ints);
+        }
+    }
     let mut rows = keyed_rows(alloc, keys)?;
     let rows = rows.as_mut_slice();
     // no two rows tie, so none changes places with its equal
@@ -135,13 +144,14 @@ pub(crate) fn find_repeats<R: Threads + Sync>(
     ensures { IfOk result (λ marks. AreRepeats (values keys.now) marks.items) }
 {
     let mut marks = no_marks(alloc, keys.len())?;
-    match keys {
-        Cells::Ints(ints) => mark_repeated_ints(rt, alloc, ints, marks.as_mut_slice())?,
-        Cells::Texts(_) => {
-            let sorted = sorted_rows(rt, alloc, keys)?;
-            mark_repeats(keys, sorted.as_slice(), marks.as_mut_slice());
+    if let Cells::Ints(ints) = keys {
+        if let Some((least, count)) = near_ints(ints) {
+            mark_near_ints(alloc, ints, least, count, marks.as_mut_slice())?;
+            return Ok(marks);
         }
     }
+    let sorted = sorted_rows(rt, alloc, keys)?;
+    mark_repeats(keys, sorted.as_slice(), marks.as_mut_slice());
     Ok(marks)
 }
 
