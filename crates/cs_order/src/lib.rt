@@ -8,6 +8,7 @@
 mod all_orders;
 mod by_key;
 mod fault;
+mod int_columns;
 mod item;
 mod key_prefix;
 mod neighbours;
@@ -16,7 +17,6 @@ mod passes;
 mod places;
 mod range_numbers;
 mod ranges;
-mod rising;
 pub mod samples;
 mod segments;
 mod sort;
