@@ -1,8 +1,7 @@
 -- Rows whose key stands in an earlier row, by their numbers.
-use Rattle.std.specs.Prelude.{ℕ, ℤ, pos, ◌+ℤ◌, ◌≤ℤ◌, ◌<ℤ◌, ◌≡◌, ◌<◌, Bool, false, if◌then◌else◌, All, List, [], ◌∷◌, length, map, take, slice_index_or}
-use Rattle.std.specs.List.{list_any, range_with_len}
-use Rattle.std.specs.List.Sorted.{IsPermutation, IsSorted}
-use Rattle.std.specs.Ordering.{ordering_then, int_cmp, nat_cmp}
+use Rattle.std.specs.Prelude.{ℕ, ℤ, pos, ◌+ℤ◌, ◌≤ℤ◌, ◌<ℤ◌, ◌≡◌, ◌<◌, Bool, false, if◌then◌else◌, List, [], ◌∷◌, length, take, slice_index_or}
+use Rattle.std.specs.List.{list_any}
+use Rattle.std.specs.Ordering.{ordering_then, nat_cmp}
 use Rattle.std.specs.declared.cmp.Ordering.{Ordering}
 use Rattle.cs_schema.specs.declared.cells.Value.{Value}
 use Rattle.cs_schema.specs.Values.{value_cmp, value_eq}
