@@ -24,7 +24,6 @@ mod files_of;
 mod groups;
 mod growing;
 mod held;
-mod in_turn;
 mod joined;
 mod joining;
 mod lending;
