@@ -1,5 +1,5 @@
 //! The walk by rows of a range of surviving rows.
-ghost use Rattle.std.specs.Prelude.{◌≡◌, ◌<◌, ◌≤◌, ◌-◌, ◌++◌, ◌∷◌, [], Bool, List, length, map, true, false, IfOk, IfErr, OnOk, drop, take, None, Ok};
+ghost use Rattle.std.specs.Prelude.{◌≡◌, ◌<◌, ◌≤◌, ◌-◌, ◌++◌, ◌∷◌, [], List, length, map, true, false, IfOk, IfErr, OnOk, drop, take, None, Ok};
 ghost use Rattle.std.specs.List.{find, filter_map};
 ghost use Rattle.cs_schema.specs.CatalogData.{segments};
 ghost use Rattle.cs_schema.specs.Rows.{Row};
@@ -15,7 +15,6 @@ use crate::catalog_of;
 use crate::counts::{kept_in_projection, kept_in_segment, surviving_row_count};
 use crate::desk::{Desk, new_desk};
 use crate::levels::{Finding, RowWalk, walk_from};
-use crate::own_rows::has_all_columns;
 use crate::range::{WalkFault, new_columns, push_cell};
 use crate::sources::{Reading, Source};
 use crate::survivors::Survivors;
@@ -125,9 +124,6 @@ impl RowWalk<'_> {
         ensures cells { OnOk result ((found : List Row) → AreRows self.now.survivors.now.catalog found columns.old.items → AreRows self.now.survivors.now.catalog (found ++ filter_map (given_row self.now.fresh_only self.now.survivors.now.catalog self.now.loss (contents_of self.now.survivors.now)) (reached_from segment.0 segment.1 rows.0 (rows.1 - rows.0))) columns.new.items) }
         ensures fault { IfErr result (IsStrayFault self.now.survivors.now.catalog self.now.loss (contents_of self.now.survivors.now) (reached_from segment.0 segment.1 rows.0 (rows.1 - rows.0))) }
     {
-        if has_all_columns(self.survivors, segment.0) {
-            return self.walk_own_rows(segment, rows, desk, columns);
-        }
         for i in rows.0..rows.1 {
             let row = (segment.0, (segment.1, i));
             match self.walk_row(row, desk, columns) {

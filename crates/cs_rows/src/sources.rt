@@ -1,14 +1,13 @@
 //! Where the columns of found rows are read, sought once for rows that were found through the same projections.
-ghost use Rattle.std.specs.Prelude.{◌≡◌, ◌<◌, ◌↔◌, ◌&&◌, Bool, ℕ, length, true, All, IfOk, OnOk, IsTrue, MatchOption, None};
+ghost use Rattle.std.specs.Prelude.{◌≡◌, ◌<◌, ◌↔◌, ◌&&◌, Bool, length, true, All, IfOk, OnOk, IsTrue, MatchOption, None};
 ghost use Rattle.std.specs.List.{find};
 ghost use Rattle.cs_schema.specs.CatalogData.{CatalogData};
 ghost use Rattle.cs_safety.specs.Paths.{holds_column};
 ghost use Rattle.cs_rows.specs.WalkByRows.{numbers_of};
 ghost use Rattle.cs_rows.specs.RowSteps.{IsSource, AreSources, IsReading, have_all};
-ghost use Rattle.cs_rows.specs.OwnRows.{is_found_before};
+ghost use Rattle.cs_rows.specs.OwnRows.{has_all, is_found_before};
 
-use crate::catalog_of::{columns_of, key_column};
-use crate::own_rows::has_all_columns;
+use crate::catalog_of::{column_count, columns_of, key_column};
 use crate::range::place_in;
 use crate::survivors::Survivors;
 use std::alloc::{AllocError, Global};
@@ -26,6 +25,20 @@ pub(crate) struct Reading {
     projections: Vec<u16>,
     pub(crate) sources: Vec<Source>,
     pub(crate) given: bool,
+}
+
+/// Whether a projection has every column of the table.
+fn has_all_columns(survivors: &Survivors<'_>, p: u16) -> bool
+    requires { p < length survivors.now.catalog.projections }
+    ensures { result ≡ has_all survivors.now.catalog p }
+{
+    let columns = columns_of(survivors, p as usize);
+    for c in 0..column_count(survivors) {
+        if place_in(columns, c) >= columns.len() {
+            return false;
+        }
+    }
+    true
 }
 
 /// Where a column is read, if one of the projections has it: the first.
