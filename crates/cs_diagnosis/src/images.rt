@@ -16,7 +16,7 @@ use std::marker::Sync;
 use std::thread::Threads;
 
 /// The conflicts of a segment's image: it contradicts the table by itself, or not at all.
-fn image_conflict<R: Threads>(rt: &R, store: &OrderedStore<'_>, p: u16, s: u16) -> (u8, Loss)
+fn image_conflict<R: Threads + Sync>(rt: &R, store: &OrderedStore<'_>, p: u16, s: u16) -> (u8, Loss)
     requires { Survives store.now.catalog.now store.now.loss (NameData.Seg p s) }
     ensures { IsImageConflict store.now.catalog.now (held_on store.now) (table_on store.now) (p, s) result }
 {
@@ -38,7 +38,7 @@ struct ImagesWork<'a, R> {
     ghost survive: { (a : ℕ × ℕ) → IsIn a segments.now → Survives store.now.catalog.now store.now.loss (NameData.Seg a.0 a.1) },
 }
 
-impl<R: Threads> Tasks for ImagesWork<'_, R> {
+impl<R: Threads + Sync> Tasks for ImagesWork<'_, R> {
     type Out = (u8, Loss);
 
     ghost tasks = { λ work. length work.segments.now };

@@ -1,5 +1,5 @@
-//! Comparing the surviving join indexes with the places of their rows: a large one in several threads.
-ghost use Rattle.std.specs.Prelude.{◌≡◌, ◌<◌, ◌≤◌, ◌↔◌, ℕ, Some, None, IsTrue, IfErr, OnOk, length, not};
+//! Comparing the surviving join indexes with the places of their rows: a long one by several threads.
+ghost use Rattle.std.specs.Prelude.{◌≡◌, ◌<◌, ◌≤◌, ◌↔◌, ℕ, true, Some, None, IsTrue, IfErr, OnOk, length, not};
 ghost use Rattle.std.specs.List.{slice_get};
 ghost use Rattle.std.specs.Option.{option_and_then};
 ghost use lib.Pointwise.{pointwise};
@@ -11,21 +11,22 @@ ghost use Rattle.cs_store.specs.Fault.{MemoryOr};
 ghost use Rattle.cs_recovery.specs.Holding.{agrees};
 ghost use Rattle.cs_recovery.specs.Places.{entries_for};
 ghost use Rattle.cs_recovery.specs.Verdicts.{surviving_joins, misled};
-ghost use Rattle.cs_rebuild.specs.Verifying.{JoinedFaultAt, AreLed, HasNoKeylessPlace, is_misled, misled_at, raw_entry};
+ghost use Rattle.cs_rebuild.specs.Verifying.{JoinedFaultAt, AreLed, HasNoKeylessPlace, is_led_at, is_misled, misled_at, raw_entry};
 ghost use Rattle.cs_rebuild.specs.WorkLaws.{one_value};
 ghost use Rattle.cs_rebuild.specs.OnStore.{held_on, table_on};
 
+use crate::comparing::SHARE;
 use crate::ordered_store::OrderedStore;
 use crate::places::Entries;
 use crate::rounds::Tasks;
 use crate::run::Run;
-use crate::shares::Shares;
 use cs_board::{Gate, Round};
 use cs_jix::JoinIndex;
 use cs_schema::{Catalog, Loss};
 use cs_store::Fault;
+use rayon::prelude::*;
 use std::marker::Sync;
-use std::thread::{Threads, join_mut};
+use std::thread::Threads;
 
 /// The entry at a key, `(0, 0)` where it has no place.
 pub fn raw_entry(join: &JoinIndex, key: u32) -> (u16, u32)
@@ -53,63 +54,47 @@ fn agrees(catalog: &Catalog, loss: Loss, q: u16, entry: (u16, u32), place: (u16,
     place.1 != 0 && entry.1 >= 1 && catalog.lost(q, place.0, loss)
 }
 
-/// Whether a join index has the expected entries at the keys above one number, up to another.
-fn leads_between(entries: &Entries<'_>, index: &JoinIndex, from: u32, to: u32) -> bool
-    requires within { to ≤ length index.now }
+/// Whether a join index has the expected entry at the key above a number.
+fn has_entry(entries: &Entries<'_>, index: &JoinIndex, i: u32) -> bool
+    requires within { (i < length index.now) × (i < 4294967295) }
     requires raw { HasNoKeylessPlace index.now }
-    ensures { IsTrue result ↔ AreLed entries.now.store.now.catalog.now entries.now.store.now.loss (held_on entries.now.store.now) (table_on entries.now.store.now) entries.now.p entries.now.s entries.now.q index.now from to }
+    ensures { IsTrue result ↔ (is_led_at entries.now index.now i ≡ true) }
 {
     let store = entries.store;
-    for i in from..to {
-        let place = entries.at(i + 1);
-        if !agrees(
-            store.catalog,
-            store.loss,
-            entries.q,
-            raw_entry(index, i + 1),
-            place,
-        ) {
-            return false;
-        }
-    }
-    true
+    let place = entries.at(i + 1);
+    agrees(
+        store.catalog,
+        store.loss,
+        entries.q,
+        raw_entry(index, i + 1),
+        place,
+    )
 }
 
-/// Whether it has them at its first keys, so many, each `part` of which is looked at by a thread of its own.
-fn leads_first<R: Threads>(
+/// Whether a join index has the expected entries at its first keys, so many. If they are many, several threads look at them.
+fn has_entries<R: Threads + Sync>(
     rt: &R,
     entries: &Entries<'_>,
     index: &JoinIndex,
-    end: u32,
-    part: u32,
+    count: u32,
 ) -> bool
-    requires some { 0 < part }
-    requires within { end ≤ length index.now }
+    requires within { count ≤ length index.now }
     requires raw { HasNoKeylessPlace index.now }
-    ensures { IsTrue result ↔ AreLed entries.now.store.now.catalog.now entries.now.store.now.loss (held_on entries.now.store.now) (table_on entries.now.store.now) entries.now.p entries.now.s entries.now.q index.now 0 end }
+    ensures { IsTrue result ↔ AreLed entries.now index.now count }
 {
-    if end <= part {
-        return leads_between(entries, index, 0, end);
-    }
-    let start = end - part;
-    // of a closure over a struct of references `join` says nothing
-    let (here, before) = join_mut(
+    (0..count).into_par_iter().with_min_len(SHARE).all(
         rt,
-        &mut || -> bool
-            requires { (end ≤ length index.now) × HasNoKeylessPlace index.now }
-            ensures { IsTrue result ↔ AreLed entries.entry.now.store.now.catalog.now entries.entry.now.store.now.loss (held_on entries.entry.now.store.now) (table_on entries.entry.now.store.now) entries.entry.now.p entries.entry.now.s entries.entry.now.q index.entry.now start end }
-        { leads_between(entries, index, start, end) },
-        &mut || -> bool
-            requires { (0 < part) × (start ≤ length index.now) × HasNoKeylessPlace index.now }
-            ensures { IsTrue result ↔ AreLed entries.entry.now.store.now.catalog.now entries.entry.now.store.now.loss (held_on entries.entry.now.store.now) (table_on entries.entry.now.store.now) entries.entry.now.p entries.entry.now.s entries.entry.now.q index.entry.now 0 start }
-        { leads_first(rt, entries, index, start, part) },
-    );
-    here && before
+        |i: u32| -> bool
+            requires within { (i < length index.now) × (i < 4294967295) }
+            requires raw { HasNoKeylessPlace index.now }
+            ensures { IsTrue result ↔ (is_led_at entries.entry.now index.entry.now i ≡ true) }
+        { has_entry(entries, index, i) },
+    )
 }
 
 /// Whether a join index of a segment has the expected entries.
-fn leads<R: Threads>(
-    shares: &Shares<'_, R>,
+fn leads<R: Threads + Sync>(
+    rt: &R,
     store: &OrderedStore<'_>,
     p: u16,
     s: u16,
@@ -126,24 +111,17 @@ fn leads<R: Threads>(
     if index.top() != top {
         return false;
     }
-    let part = shares.part_of(top as usize).min(u32::MAX as usize);
-    leads_first(shares.rt, &entries, index, top, part as u32)
+    has_entries(rt, &entries, index, top)
 }
 
 /// Whether a surviving join index leads to the places of its rows.
-fn is_led<R: Threads>(
-    shares: &Shares<'_, R>,
-    store: &OrderedStore<'_>,
-    p: u16,
-    s: u16,
-    q: u16,
-) -> bool
+fn is_led<R: Threads + Sync>(rt: &R, store: &OrderedStore<'_>, p: u16, s: u16, q: u16) -> bool
     requires { Survives store.now.catalog.now store.now.loss (NameData.Jix p s q) }
     ensures { result ≡ not (is_misled store.now.catalog.now store.now.loss (held_on store.now) (table_on store.now) (p, s, q)) }
 {
     let _rules = store.catalog.projection_count();
     match store.survivors.join(p as usize, s as usize, q as usize) {
-        Some(index) => leads(shares, store, p, s, q, index),
+        Some(index) => leads(rt, store, p, s, q, index),
         None => unreachable!(),
     }
 }
@@ -152,14 +130,13 @@ fn is_led<R: Threads>(
 #[derive(Drop)]
 struct JoinedWork<'a, R> {
     rt: &'a R,
-    workers: u32,
     store: &'a OrderedStore<'a>,
     joins: &'a [(u16, u16, u16)],
     ghost few: { length joins.now ≤ 1024 },
     ghost survive: { (a : ℕ × ℕ × ℕ) → IsIn a joins.now → Survives store.now.catalog.now store.now.loss (NameData.Jix a.0 a.1 a.2) },
 }
 
-impl<R: Threads> Tasks for JoinedWork<'_, R> {
+impl<R: Threads + Sync> Tasks for JoinedWork<'_, R> {
     type Out = ();
 
     ghost tasks = { λ work. length work.joins.now };
@@ -174,9 +151,7 @@ impl<R: Threads> Tasks for JoinedWork<'_, R> {
 
     fn task(&self, i: u32) -> Result<(), Fault> {
         let (p, s, q) = self.joins[i as usize];
-        let left = self.joins.len() - i as usize;
-        let shares = Shares::new(self.rt, left, self.workers);
-        if is_led(&shares, self.store, p, s, q) {
+        if is_led(self.rt, self.store, p, s, q) {
             Ok(())
         } else {
             Err(Fault::Misled { p, s, q })
@@ -199,7 +174,6 @@ pub fn verify_joins<R: Threads + Sync, G: Gate + Sync>(
 {
     let work = JoinedWork {
         rt: run.rt,
-        workers: run.workers,
         store,
         joins,
     };

@@ -41,7 +41,6 @@ mod rounds;
 mod rowwise;
 mod run;
 mod run_texts;
-mod shares;
 mod sound_store;
 mod surviving;
 mod surviving_table;

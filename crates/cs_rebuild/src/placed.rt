@@ -15,33 +15,19 @@ use crate::comparing::has_rows;
 use crate::ordered_store::OrderedStore;
 use crate::rounds::Tasks;
 use crate::run::Run;
-use crate::shares::Shares;
 use cs_board::{Gate, Round};
 use cs_store::Fault;
 use std::marker::Sync;
 use std::thread::Threads;
 
 /// Whether the image of a surviving segment has the table's rows in its range, in their order.
-pub fn is_placed<R: Threads>(rt: &R, store: &OrderedStore<'_>, p: u16, s: u16) -> bool
-    requires { Survives store.now.catalog.now store.now.loss (NameData.Seg p s) }
-    ensures { result ≡ not (is_misplaced store.now.catalog.now (held_on store.now) (table_on store.now) (p, s)) }
-{
-    is_placed_by(&Shares::new(rt, 1, 1), store, p, s)
-}
-
-/// The same, where the comparison is cut into parts like this.
-fn is_placed_by<R: Threads>(
-    shares: &Shares<'_, R>,
-    store: &OrderedStore<'_>,
-    p: u16,
-    s: u16,
-) -> bool
+pub fn is_placed<R: Threads + Sync>(rt: &R, store: &OrderedStore<'_>, p: u16, s: u16) -> bool
     requires { Survives store.now.catalog.now store.now.loss (NameData.Seg p s) }
     ensures { result ≡ not (is_misplaced store.now.catalog.now (held_on store.now) (table_on store.now) (p, s)) }
 {
     let numbers = store.orders.segment(p, s);
     match store.survivors.image(p as usize, s as usize) {
-        Some(image) => has_rows(shares, store.catalog, p, image, &store.walked, numbers),
+        Some(image) => has_rows(rt, store.catalog, p, image, &store.walked, numbers),
         None => unreachable!(),
     }
 }
@@ -50,14 +36,13 @@ fn is_placed_by<R: Threads>(
 #[derive(Drop)]
 struct PlacedWork<'a, R> {
     rt: &'a R,
-    workers: u32,
     store: &'a OrderedStore<'a>,
     segments: &'a [(u16, u16)],
     ghost few: { length segments.now ≤ 128 },
     ghost survive: { (a : ℕ × ℕ) → IsIn a segments.now → Survives store.now.catalog.now store.now.loss (NameData.Seg a.0 a.1) },
 }
 
-impl<R: Threads> Tasks for PlacedWork<'_, R> {
+impl<R: Threads + Sync> Tasks for PlacedWork<'_, R> {
     type Out = ();
 
     ghost tasks = { λ work. length work.segments.now };
@@ -72,9 +57,7 @@ impl<R: Threads> Tasks for PlacedWork<'_, R> {
 
     fn task(&self, i: u32) -> Result<(), Fault> {
         let (p, s) = self.segments[i as usize];
-        let left = self.segments.len() - i as usize;
-        let shares = Shares::new(self.rt, left, self.workers);
-        if is_placed_by(&shares, self.store, p, s) {
+        if is_placed(self.rt, self.store, p, s) {
             Ok(())
         } else {
             Err(Fault::Misplaced { p, s })
@@ -97,7 +80,6 @@ pub fn verify_images<R: Threads + Sync, G: Gate + Sync>(
 {
     let work = PlacedWork {
         rt: run.rt,
-        workers: run.workers,
         store,
         segments,
     };
