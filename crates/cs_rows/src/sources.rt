@@ -72,11 +72,7 @@ pub(crate) fn find_sources(
 }
 
 /// Whether the key is read, as this source says, in a projection that has all columns and comes before that of the first row.
-fn is_found_before(
-    survivors: &Survivors<'_>,
-    reached: &[(u16, (u16, u32))],
-    key: Source,
-) -> bool
+fn is_found_before(survivors: &Survivors<'_>, reached: &[(u16, (u16, u32))], key: Source) -> bool
     requires there { All (λ row. row.0 < length survivors.now.catalog.projections) reached.now }
     requires key { IsSource survivors.now.catalog (numbers_of reached.now) survivors.now.catalog.key key }
     ensures { result ≡ is_found_before survivors.now.catalog (numbers_of reached.now) }
