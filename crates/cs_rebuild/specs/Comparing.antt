@@ -29,5 +29,6 @@ pub record AreBeside {X : Type 0} (cells column : List X) (numbers : List ℕ) :
 abbrev pub IsAlike : {X : Type 0} → List X → List X → List ℕ → ℕ → Type 0
 IsAlike cells column numbers k = slice_get cells k ≡ slice_get column (slice_index numbers k)
 
-abbrev pub AreAlike : {X : Type 0} → List X → List X → List ℕ → Type 0
-AreAlike cells column numbers = (k : ℕ) → k < length numbers → IsAlike cells column numbers k
+-- so are all cells up to an end
+abbrev pub AreAlike : {X : Type 0} → List X → List X → List ℕ → ℕ → Type 0
+AreAlike cells column numbers end = (k : ℕ) → k < end → IsAlike cells column numbers k

@@ -1,4 +1,4 @@
-//! Comparing the surviving join indexes with the places of their rows: a long one by several threads.
+//! Comparing the surviving join indexes with the places of their rows.
 ghost use Rattle.std.specs.Prelude.{◌≡◌, ◌<◌, ◌≤◌, ◌↔◌, ℕ, true, Some, None, IsTrue, IfErr, OnOk, length, not};
 ghost use Rattle.std.specs.List.{slice_get};
 ghost use Rattle.std.specs.Option.{option_and_then};
@@ -15,7 +15,6 @@ ghost use Rattle.cs_rebuild.specs.Verifying.{JoinedFaultAt, AreLed, HasNoKeyless
 ghost use Rattle.cs_rebuild.specs.WorkLaws.{one_value};
 ghost use Rattle.cs_rebuild.specs.OnStore.{held_on, table_on};
 
-use crate::comparing::SHARE;
 use crate::ordered_store::OrderedStore;
 use crate::places::Entries;
 use crate::rounds::Tasks;
@@ -24,7 +23,6 @@ use cs_board::{Gate, Round};
 use cs_jix::JoinIndex;
 use cs_schema::{Catalog, Loss};
 use cs_store::Fault;
-use rayon::prelude::*;
 use std::marker::Sync;
 use std::thread::Threads;
 
@@ -71,36 +69,22 @@ fn has_entry(entries: &Entries<'_>, index: &JoinIndex, i: u32) -> bool
     )
 }
 
-/// Whether a join index has the expected entries at its first keys, so many. If they are many, several threads look at them.
-fn has_entries<R: Threads + Sync>(
-    rt: &R,
-    entries: &Entries<'_>,
-    index: &JoinIndex,
-    count: u32,
-) -> bool
+/// Whether a join index has the expected entries at its first keys, so many.
+fn has_entries(entries: &Entries<'_>, index: &JoinIndex, count: u32) -> bool
     requires within { count ≤ length index.now }
     requires raw { HasNoKeylessPlace index.now }
     ensures { IsTrue result ↔ AreLed entries.now index.now count }
 {
-    (0..count).into_par_iter().with_min_len(SHARE).all(
-        rt,
-        |i: u32| -> bool
-            requires within { (i < length index.now) × (i < 4294967295) }
-            requires raw { HasNoKeylessPlace index.now }
-            ensures { IsTrue result ↔ (is_led_at entries.entry.now index.entry.now i ≡ true) }
-        { has_entry(entries, index, i) },
-    )
+    for i in 0..count {
+        if !has_entry(entries, index, i) {
+            return false;
+        }
+    }
+    true
 }
 
 /// Whether a join index of a segment has the expected entries.
-fn leads<R: Threads + Sync>(
-    rt: &R,
-    store: &OrderedStore<'_>,
-    p: u16,
-    s: u16,
-    q: u16,
-    index: &JoinIndex,
-) -> bool
+fn leads(store: &OrderedStore<'_>, p: u16, s: u16, q: u16, index: &JoinIndex) -> bool
     requires survives { Survives store.now.catalog.now store.now.loss (NameData.Jix p s q) }
     requires target { q < length store.now.catalog.now.projections }
     requires raw { HasNoKeylessPlace index.now }
@@ -111,32 +95,31 @@ fn leads<R: Threads + Sync>(
     if index.top() != top {
         return false;
     }
-    has_entries(rt, &entries, index, top)
+    has_entries(&entries, index, top)
 }
 
 /// Whether a surviving join index leads to the places of its rows.
-fn is_led<R: Threads + Sync>(rt: &R, store: &OrderedStore<'_>, p: u16, s: u16, q: u16) -> bool
+fn is_led(store: &OrderedStore<'_>, p: u16, s: u16, q: u16) -> bool
     requires { Survives store.now.catalog.now store.now.loss (NameData.Jix p s q) }
     ensures { result ≡ not (is_misled store.now.catalog.now store.now.loss (held_on store.now) (table_on store.now) (p, s, q)) }
 {
     let _rules = store.catalog.projection_count();
     match store.survivors.join(p as usize, s as usize, q as usize) {
-        Some(index) => leads(rt, store, p, s, q, index),
+        Some(index) => leads(store, p, s, q, index),
         None => unreachable!(),
     }
 }
 
 /// The comparing of some join indexes with the places of their rows.
 #[derive(Drop)]
-struct JoinedWork<'a, R> {
-    rt: &'a R,
+struct JoinedWork<'a> {
     store: &'a OrderedStore<'a>,
     joins: &'a [(u16, u16, u16)],
     ghost few: { length joins.now ≤ 1024 },
     ghost survive: { (a : ℕ × ℕ × ℕ) → IsIn a joins.now → Survives store.now.catalog.now store.now.loss (NameData.Jix a.0 a.1 a.2) },
 }
 
-impl<R: Threads + Sync> Tasks for JoinedWork<'_, R> {
+impl Tasks for JoinedWork<'_> {
     type Out = ();
 
     ghost tasks = { λ work. length work.joins.now };
@@ -151,7 +134,7 @@ impl<R: Threads + Sync> Tasks for JoinedWork<'_, R> {
 
     fn task(&self, i: u32) -> Result<(), Fault> {
         let (p, s, q) = self.joins[i as usize];
-        if is_led(self.rt, self.store, p, s, q) {
+        if is_led(self.store, p, s, q) {
             Ok(())
         } else {
             Err(Fault::Misled { p, s, q })
@@ -172,11 +155,7 @@ pub fn verify_joins<R: Threads + Sync, G: Gate + Sync>(
     ensures ok { OnOk result (misled store.now.catalog.now store.now.loss (held_on store.now) (table_on store.now) ≡ None) }
     ensures err { IfErr result (λ fault. MemoryOr fault (misled store.now.catalog.now store.now.loss (held_on store.now) (table_on store.now) ≡ Some fault)) }
 {
-    let work = JoinedWork {
-        rt: run.rt,
-        store,
-        joins,
-    };
+    let work = JoinedWork { store, joins };
     match run.round(Round::Joins, &work) {
         Ok(_done) => Ok(()),
         Err(fault) => Err(fault),

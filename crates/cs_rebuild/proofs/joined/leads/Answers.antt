@@ -11,7 +11,7 @@ use Rattle.cs_rebuild.proofs.StoreFacts.{same_top, same_agreement}
 use Rattle.cs_rebuild.proofs.joined.leads.Goals as goal
 
 pub returns-then-top : goal.returns-then-top
-returns-then-top g c =
+returns-then-top c =
     let store = c.args.store.now in
     let C = store.catalog.now in
     let S = contents_of store.survivors.now in
@@ -22,7 +22,7 @@ returns-then-top g c =
     sym (other_length (agrees C store.loss c.args.q) (λ i. entry_for C store.loss S T c.args.p c.args.s c.args.q (i + 1)) c.args.index.now no_place no_place top (λ e. c.if-top.true (c.top.ensures ∙ e ∙ sym (c.top-top.ensures ∙ same))))
 
 pub returns : goal.returns
-returns g c =
+returns c =
     let store = c.args.store.now in
     let C = store.catalog.now in
     let S = contents_of store.survivors.now in
