@@ -1,5 +1,5 @@
 -- What the steps of a walk by rows need to know.
-use Rattle.std.specs.Prelude.{ℕ, Bool, ◌≡◌, ◌<◌, ◌==◌, ◌++◌, List, [], ◌∷◌, All, map, take, length, slice_index, slice_index_or, Some, None, if◌then◌else◌}
+use Rattle.std.specs.Prelude.{ℕ, Bool, true, not, ◌&&◌, ◌≡◌, ◌<◌, ◌==◌, ◌++◌, List, [], ◌∷◌, All, map, take, length, slice_index, slice_index_or, Some, None, if◌then◌else◌}
 use Rattle.std.specs.List.{find, flat_map, list_all, position_or_len, range_with_len}
 use Rattle.std.specs.Option.{is_some}
 use Rattle.cs_schema.specs.declared.cells.Cells.{Cells}
@@ -11,10 +11,12 @@ use Rattle.cs_schema.specs.Rows.{Row, cell}
 use Rattle.cs_safety.specs.Paths.{holds_column}
 use Rattle.cs_rows.specs.declared.levels.Landed.{Landed}
 use Rattle.cs_rows.specs.declared.sources.Source.{Source}
+use Rattle.cs_rows.specs.declared.sources.Reading.{Reading}
 use Rattle.cs_rows.specs.declared.range.WalkFault.{WalkFault}
 use Rattle.cs_rows.specs.Walk.{Contents}
 use Rattle.cs_rows.specs.WalkByRows.{Reached, Found, Landing, numbers_of}
 use Rattle.cs_rows.specs.RangeByRows.{is_stray_row}
+use Rattle.cs_rows.specs.OwnRows.{is_found_before}
 use Rattle.cs_rows.specs.Steps.{IsAt}
 
 -- ---- levels
@@ -68,6 +70,13 @@ AreSources C ps sources n = (c : ℕ) (d : Source) → c < n → IsSource C ps c
 -- each column is one of some projection
 abbrev pub have_all : CatalogData → List ℕ → Bool
 have_all C ps = list_all (λ c. is_some (find (λ p. holds_column C p c) ps)) (numbers_below (length C.columns))
+
+-- Whether what is reached in some projections is a full row that is to be given, and where each column is read then. Where fresh
+-- rows alone are asked for, one that is found before is not.
+pub record IsReading (fresh_only : Bool) (C : CatalogData) (reading : Reading) : Type 0 where
+  pub count : length reading.sources.items ≡ length C.columns
+  pub given : reading.given ≡ (have_all C reading.projections.items && not (fresh_only && is_found_before C reading.projections.items))
+  pub each : reading.given ≡ true → AreSources C reading.projections.items reading.sources.items (length C.columns)
 
 -- where each column of a full row is read, which was found through rows that stand in images
 pub record AreSourcesOf (C : CatalogData) (S : Contents) (rs : List Reached) (sources : List Source) : Type 0 where

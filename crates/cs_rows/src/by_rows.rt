@@ -1,5 +1,5 @@
 //! The walk by rows of a range of surviving rows.
-ghost use Rattle.std.specs.Prelude.{◌≡◌, ◌<◌, ◌≤◌, ◌-◌, ◌++◌, ◌∷◌, [], List, length, map, true, false, IfOk, IfErr, OnOk, drop, take, None, Ok};
+ghost use Rattle.std.specs.Prelude.{◌≡◌, ◌<◌, ◌≤◌, ◌-◌, ◌++◌, ◌∷◌, [], Bool, List, length, map, true, false, IfOk, IfErr, OnOk, drop, take, None, Ok};
 ghost use Rattle.std.specs.List.{find, filter_map};
 ghost use Rattle.cs_schema.specs.CatalogData.{segments};
 ghost use Rattle.cs_schema.specs.Rows.{Row};
@@ -9,14 +9,15 @@ ghost use Rattle.cs_rows.specs.Range.{IsWalkFault};
 ghost use Rattle.cs_rows.specs.WalkByRows.{found_row};
 ghost use Rattle.cs_rows.specs.OwnRows.{is_given};
 ghost use Rattle.cs_rows.specs.RangeByRows.{is_stray_row, given_row, surviving_between, found_among, fresh_among, given_among};
-ghost use Rattle.cs_rows.specs.RowSteps.{Stands, AllStand, AreSourcesOf, through, RowPushed, AreRows, reached_from, projection_kept, IsStrayFault};
+ghost use Rattle.cs_rows.specs.RowSteps.{Stands, AllStand, IsReading, AreSourcesOf, through, RowPushed, AreRows, reached_from, projection_kept, IsStrayFault};
 
 use crate::catalog_of;
 use crate::counts::{kept_in_projection, kept_in_segment, surviving_row_count};
 use crate::desk::{Desk, new_desk};
 use crate::levels::{Finding, RowWalk, walk_from};
+use crate::own_rows::has_all_columns;
 use crate::range::{WalkFault, new_columns, push_cell};
-use crate::sources::{Source, find_sources, is_left_out};
+use crate::sources::{Reading, Source};
 use crate::survivors::Survivors;
 use crate::walked::Walked;
 use cs_schema::{Catalog, Cells, Loss};
@@ -50,27 +51,23 @@ fn push_row(
 fn push_found(
     survivors: &Survivors<'_>,
     finding: &Finding,
-    sources: &mut Vec<Source>,
+    reading: &mut Reading,
     fresh_only: bool,
     columns: &mut Vec<Cells>,
 ) -> Result<(), AllocError>
     requires stand { AllStand survivors.now.catalog (contents_of survivors.now) finding.now }
-    requires room { length sources.old.items ≡ length survivors.now.catalog.columns }
+    requires reading { IsReading fresh_only survivors.now.catalog reading.old }
     requires columns { ColumnsFit survivors.now.catalog columns.old.items }
-    ensures room { OnOk result (length sources.new.items ≡ length survivors.now.catalog.columns) }
+    ensures reading { OnOk result (IsReading fresh_only survivors.now.catalog reading.new) }
     ensures count { length columns.new.items ≡ length columns.old.items }
     ensures given { OnOk result (is_given fresh_only survivors.now.catalog finding.now ≡ true → RowPushed (found_row survivors.now.catalog (contents_of survivors.now) finding.now) columns.old.items columns.new.items (length survivors.now.catalog.columns)) }
     ensures not_given { OnOk result (is_given fresh_only survivors.now.catalog finding.now ≡ false → columns.new.items ≡ columns.old.items) }
 {
     let reached = finding.reached();
-    if !find_sources(survivors, reached, sources) {
-        return Ok(());
+    reading.update(survivors, reached, fresh_only)?;
+    if reading.given {
+        push_row(survivors, reached, reading.sources.as_slice(), columns)?;
     }
-    let key = sources[catalog_of::key_column(survivors)];
-    if is_left_out(survivors, reached, key, fresh_only) {
-        return Ok(());
-    }
-    push_row(survivors, reached, sources.as_slice(), columns)?;
     Ok(())
 }
 
@@ -83,9 +80,9 @@ impl RowWalk<'_> {
         columns: &mut Vec<Cells>,
     ) -> Result<(), WalkFault>
         requires row { Stands self.now.survivors.now.catalog (contents_of self.now.survivors.now) row }
-        requires room { length desk.old.sources.items ≡ length self.now.survivors.now.catalog.columns }
+        requires desk { IsReading self.now.fresh_only self.now.survivors.now.catalog desk.old.reading }
         requires columns { ColumnsFit self.now.survivors.now.catalog columns.old.items }
-        ensures room { OnOk result (length desk.new.sources.items ≡ length self.now.survivors.now.catalog.columns) }
+        ensures desk { OnOk result (IsReading self.now.fresh_only self.now.survivors.now.catalog desk.new.reading) }
         ensures fit { OnOk result (ColumnsFit self.now.survivors.now.catalog columns.new.items) }
         ensures sound { OnOk result (find (is_stray_row self.now.survivors.now.catalog self.now.loss (contents_of self.now.survivors.now)) (row ∷ []) ≡ None) }
         ensures cells { OnOk result ((rows : List Row) → AreRows self.now.survivors.now.catalog rows columns.old.items → AreRows self.now.survivors.now.catalog (rows ++ filter_map (given_row self.now.fresh_only self.now.survivors.now.catalog self.now.loss (contents_of self.now.survivors.now)) (row ∷ [])) columns.new.items) }
@@ -101,7 +98,7 @@ impl RowWalk<'_> {
         push_found(
             self.survivors,
             &desk.finding,
-            &mut desk.sources,
+            &mut desk.reading,
             self.fresh_only,
             columns,
         )?;
@@ -116,18 +113,21 @@ impl RowWalk<'_> {
         desk: &mut Desk,
         columns: &mut Vec<Cells>,
     ) -> Result<(), WalkFault>
-        requires room { length desk.old.sources.items ≡ length self.now.survivors.now.catalog.columns }
+        requires desk { IsReading self.now.fresh_only self.now.survivors.now.catalog desk.old.reading }
         requires columns { ColumnsFit self.now.survivors.now.catalog columns.old.items }
         requires projection { segment.0 < length self.now.survivors.now.catalog.projections }
         requires segment { segment.1 < segments self.now.survivors.now.catalog segment.0 }
         requires order { rows.0 ≤ rows.1 }
         requires within { rows.1 ≤ length ((contents_of self.now.survivors.now).image segment.0 segment.1).pairs }
-        ensures room { OnOk result (length desk.new.sources.items ≡ length self.now.survivors.now.catalog.columns) }
+        ensures desk { OnOk result (IsReading self.now.fresh_only self.now.survivors.now.catalog desk.new.reading) }
         ensures fit { OnOk result (ColumnsFit self.now.survivors.now.catalog columns.new.items) }
         ensures sound { OnOk result (find (is_stray_row self.now.survivors.now.catalog self.now.loss (contents_of self.now.survivors.now)) (reached_from segment.0 segment.1 rows.0 (rows.1 - rows.0)) ≡ None) }
         ensures cells { OnOk result ((found : List Row) → AreRows self.now.survivors.now.catalog found columns.old.items → AreRows self.now.survivors.now.catalog (found ++ filter_map (given_row self.now.fresh_only self.now.survivors.now.catalog self.now.loss (contents_of self.now.survivors.now)) (reached_from segment.0 segment.1 rows.0 (rows.1 - rows.0))) columns.new.items) }
         ensures fault { IfErr result (IsStrayFault self.now.survivors.now.catalog self.now.loss (contents_of self.now.survivors.now) (reached_from segment.0 segment.1 rows.0 (rows.1 - rows.0))) }
     {
+        if has_all_columns(self.survivors, segment.0) {
+            return self.walk_own_rows(segment, rows, desk, columns);
+        }
         for i in rows.0..rows.1 {
             let row = (segment.0, (segment.1, i));
             match self.walk_row(row, desk, columns) {
@@ -146,11 +146,11 @@ impl RowWalk<'_> {
         desk: &mut Desk,
         columns: &mut Vec<Cells>,
     ) -> Result<(), WalkFault>
-        requires room { length desk.old.sources.items ≡ length self.now.survivors.now.catalog.columns }
+        requires desk { IsReading self.now.fresh_only self.now.survivors.now.catalog desk.old.reading }
         requires columns { ColumnsFit self.now.survivors.now.catalog columns.old.items }
         requires projection { p < length self.now.survivors.now.catalog.projections }
         requires order { range.0 ≤ range.1 }
-        ensures room { OnOk result (length desk.new.sources.items ≡ length self.now.survivors.now.catalog.columns) }
+        ensures desk { OnOk result (IsReading self.now.fresh_only self.now.survivors.now.catalog desk.new.reading) }
         ensures fit { OnOk result (ColumnsFit self.now.survivors.now.catalog columns.new.items) }
         ensures sound { OnOk result (find (is_stray_row self.now.survivors.now.catalog self.now.loss (contents_of self.now.survivors.now)) (drop range.0 (take range.1 (projection_kept self.now.survivors.now.catalog self.now.loss (contents_of self.now.survivors.now) p))) ≡ None) }
         ensures cells { OnOk result ((found : List Row) → AreRows self.now.survivors.now.catalog found columns.old.items → AreRows self.now.survivors.now.catalog (found ++ filter_map (given_row self.now.fresh_only self.now.survivors.now.catalog self.now.loss (contents_of self.now.survivors.now)) (drop range.0 (take range.1 (projection_kept self.now.survivors.now.catalog self.now.loss (contents_of self.now.survivors.now) p)))) columns.new.items) }
@@ -177,7 +177,7 @@ impl RowWalk<'_> {
         desk: &mut Desk,
         columns: &mut Vec<Cells>,
     ) -> Result<(), WalkFault>
-        requires room { length desk.old.sources.items ≡ length self.now.survivors.now.catalog.columns }
+        requires desk { IsReading self.now.fresh_only self.now.survivors.now.catalog desk.old.reading }
         requires columns { ColumnsFit self.now.survivors.now.catalog columns.old.items }
         requires order { range.0 ≤ range.1 }
         ensures fit { OnOk result (ColumnsFit self.now.survivors.now.catalog columns.new.items) }

@@ -1,14 +1,17 @@
-//! Where the columns of a found row are read.
-ghost use Rattle.std.specs.Prelude.{◌≡◌, ◌<◌, ◌&&◌, length, true, All, MatchOption, None};
+//! Where the columns of found rows are read, sought once for rows that were found through the same projections.
+ghost use Rattle.std.specs.Prelude.{◌≡◌, ◌<◌, ◌↔◌, ◌&&◌, Bool, ℕ, length, true, All, IfOk, OnOk, IsTrue, MatchOption, None};
 ghost use Rattle.std.specs.List.{find};
+ghost use Rattle.cs_schema.specs.CatalogData.{CatalogData};
 ghost use Rattle.cs_safety.specs.Paths.{holds_column};
 ghost use Rattle.cs_rows.specs.WalkByRows.{numbers_of};
-ghost use Rattle.cs_rows.specs.RowSteps.{IsSource, AreSources, have_all};
-ghost use Rattle.cs_rows.specs.OwnRows.{has_all, is_found_before};
+ghost use Rattle.cs_rows.specs.RowSteps.{IsSource, AreSources, IsReading, have_all};
+ghost use Rattle.cs_rows.specs.OwnRows.{is_found_before};
 
-use crate::catalog_of::{column_count, columns_of};
+use crate::catalog_of::{columns_of, key_column};
+use crate::own_rows::has_all_columns;
 use crate::range::place_in;
 use crate::survivors::Survivors;
+use std::alloc::{AllocError, Global};
 
 /// Where a column of a found row is read: at one of the rows reached, and the column's number there.
 #[derive(Clone, Copy)]
@@ -17,31 +20,21 @@ pub(crate) struct Source {
     pub(crate) place: usize,
 }
 
-/// Whether a projection has every column of the table.
-fn has_all_columns(survivors: &Survivors<'_>, p: u16) -> bool
-    requires { p < length survivors.now.catalog.projections }
-    ensures { result ≡ has_all survivors.now.catalog p }
-{
-    let columns = columns_of(survivors, p as usize);
-    for c in 0..column_count(survivors) {
-        if place_in(columns, c) >= columns.len() {
-            return false;
-        }
-    }
-    true
+/// Whether rows that were found through some projections are given, and where each column is read then.
+#[derive(Drop)]
+pub(crate) struct Reading {
+    projections: Vec<u16>,
+    pub(crate) sources: Vec<Source>,
+    pub(crate) given: bool,
 }
 
-/// Where a column is read, if one of the projections that were reached has it: the first.
-fn first_source(
-    survivors: &Survivors<'_>,
-    reached: &[(u16, (u16, u32))],
-    c: usize,
-) -> Option<Source>
-    requires { All (λ row. row.0 < length survivors.now.catalog.projections) reached.now }
-    ensures { MatchOption result (find (λ p. holds_column survivors.now.catalog p c) (numbers_of reached.now) ≡ None) (IsSource survivors.now.catalog (numbers_of reached.now) c) }
+/// Where a column is read, if one of the projections has it: the first.
+fn first_source(survivors: &Survivors<'_>, projections: &[u16], c: usize) -> Option<Source>
+    requires { All (λ p. p < length survivors.now.catalog.projections) projections.now }
+    ensures { MatchOption result (find (λ p. holds_column survivors.now.catalog p c) projections.now ≡ None) (IsSource survivors.now.catalog projections.now c) }
 {
-    for at in 0..reached.len() {
-        let columns = columns_of(survivors, reached[at].0 as usize);
+    for at in 0..projections.len() {
+        let columns = columns_of(survivors, projections[at] as usize);
         let place = place_in(columns, c);
         if place < columns.len() {
             return Some(Source { reached: at, place });
@@ -50,20 +43,16 @@ fn first_source(
     None
 }
 
-/// Finds where each column is read. Tells whether the projections that were reached have all.
-pub(crate) fn find_sources(
-    survivors: &Survivors<'_>,
-    reached: &[(u16, (u16, u32))],
-    sources: &mut Vec<Source>,
-) -> bool
-    requires there { All (λ row. row.0 < length survivors.now.catalog.projections) reached.now }
+/// Finds where each column is read. Tells whether the projections have all.
+fn find_sources(survivors: &Survivors<'_>, projections: &[u16], sources: &mut Vec<Source>) -> bool
+    requires there { All (λ p. p < length survivors.now.catalog.projections) projections.now }
     requires room { length sources.old.items ≡ length survivors.now.catalog.columns }
     ensures room { length sources.new.items ≡ length survivors.now.catalog.columns }
-    ensures full { result ≡ have_all survivors.now.catalog (numbers_of reached.now) }
-    ensures sources { result ≡ true → AreSources survivors.now.catalog (numbers_of reached.now) sources.new.items (length survivors.now.catalog.columns) }
+    ensures full { result ≡ have_all survivors.now.catalog projections.now }
+    ensures sources { result ≡ true → AreSources survivors.now.catalog projections.now sources.new.items (length survivors.now.catalog.columns) }
 {
     for c in 0..sources.len() {
-        match first_source(survivors, reached, c) {
+        match first_source(survivors, projections, c) {
             Some(source) => sources[c] = source,
             None => return false,
         }
@@ -71,26 +60,101 @@ pub(crate) fn find_sources(
     true
 }
 
-/// Whether the key is read, as this source says, in a projection that has all columns and comes before that of the first row.
-fn is_found_before(survivors: &Survivors<'_>, reached: &[(u16, (u16, u32))], key: Source) -> bool
-    requires there { All (λ row. row.0 < length survivors.now.catalog.projections) reached.now }
-    requires key { IsSource survivors.now.catalog (numbers_of reached.now) survivors.now.catalog.key key }
-    ensures { result ≡ is_found_before survivors.now.catalog (numbers_of reached.now) }
+/// Whether the key is read, as this source says, in a projection before the first that has all columns.
+fn is_found_before(survivors: &Survivors<'_>, projections: &[u16], key: Source) -> bool
+    requires there { All (λ p. p < length survivors.now.catalog.projections) projections.now }
+    requires key { IsSource survivors.now.catalog projections.now survivors.now.catalog.key key }
+    ensures { result ≡ is_found_before survivors.now.catalog projections.now }
 {
-    let q = reached[key.reached].0;
-    q < reached[0].0 && has_all_columns(survivors, q)
+    let q = projections[key.reached];
+    q < projections[0] && has_all_columns(survivors, q)
 }
 
-/// Whether what was found is left out: where fresh rows alone are asked for, if an earlier walk finds it.
-pub(crate) fn is_left_out(
+/// Whether rows of such projections are left out: those that are found before, where fresh ones alone are asked for.
+fn is_left_out(
     survivors: &Survivors<'_>,
-    reached: &[(u16, (u16, u32))],
+    projections: &[u16],
     key: Source,
     fresh_only: bool,
 ) -> bool
-    requires there { All (λ row. row.0 < length survivors.now.catalog.projections) reached.now }
-    requires key { IsSource survivors.now.catalog (numbers_of reached.now) survivors.now.catalog.key key }
-    ensures { result ≡ (fresh_only && is_found_before survivors.now.catalog (numbers_of reached.now)) }
+    requires there { All (λ p. p < length survivors.now.catalog.projections) projections.now }
+    requires key { IsSource survivors.now.catalog projections.now survivors.now.catalog.key key }
+    ensures { result ≡ (fresh_only && is_found_before survivors.now.catalog projections.now) }
 {
-    fresh_only && is_found_before(survivors, reached, key)
+    fresh_only && is_found_before(survivors, projections, key)
+}
+
+/// Whether rows were reached in these projections, one after the other.
+fn are_in(reached: &[(u16, (u16, u32))], projections: &[u16]) -> bool
+    ensures { IsTrue result ↔ (numbers_of reached.now ≡ projections.now) }
+{
+    if reached.len() != projections.len() {
+        return false;
+    }
+    for at in 0..reached.len() {
+        if reached[at].0 != projections[at] {
+            return false;
+        }
+    }
+    true
+}
+
+/// Lists the projections in which rows were reached.
+fn list_projections(
+    projections: &mut Vec<u16>,
+    reached: &[(u16, (u16, u32))],
+) -> Result<(), AllocError>
+    ensures { OnOk result (projections.new.items ≡ numbers_of reached.now) }
+{
+    projections.clear();
+    for row in reached {
+        projections.push(row.0)?;
+    }
+    Ok(())
+}
+
+impl Reading {
+    /// Room for so many projections and columns, and no projection yet.
+    pub(crate) fn new(alloc: Global, projections: usize, columns: usize) -> Result<Self, AllocError>
+        requires { 0 < columns }
+        ensures { IfOk result (λ reading. (fresh_only : Bool) (C : CatalogData) → length C.columns ≡ columns → IsReading fresh_only C reading) }
+    {
+        let mut sources = Vec::with_capacity(alloc, columns)?;
+        for _column in 0..columns {
+            sources.push(Source {
+                reached: 0,
+                place: 0,
+            })?;
+        }
+        Ok(Reading {
+            projections: Vec::with_capacity(alloc, projections)?,
+            sources,
+            given: false,
+        })
+    }
+
+    /// Goes over to rows that were reached, of which fresh ones alone are given if that is asked for. There is nothing to find where the last ones were in the same projections.
+    pub(crate) fn update(
+        &mut self,
+        survivors: &Survivors<'_>,
+        reached: &[(u16, (u16, u32))],
+        fresh_only: bool,
+    ) -> Result<(), AllocError>
+        requires there { All (λ row. row.0 < length survivors.now.catalog.projections) reached.now }
+        requires reading { IsReading fresh_only survivors.now.catalog self.old }
+        ensures reading { OnOk result (IsReading fresh_only survivors.now.catalog self.new) }
+        ensures projections { OnOk result (self.new.projections.items ≡ numbers_of reached.now) }
+    {
+        if are_in(reached, self.projections.as_slice()) {
+            return Ok(());
+        }
+        list_projections(&mut self.projections, reached)?;
+        let projections = self.projections.as_slice();
+        self.given = false;
+        if find_sources(survivors, projections, &mut self.sources) {
+            let key = self.sources[key_column(survivors)];
+            self.given = !is_left_out(survivors, projections, key, fresh_only);
+        }
+        Ok(())
+    }
 }

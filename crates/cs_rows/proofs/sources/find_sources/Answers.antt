@@ -3,7 +3,6 @@ use Rattle.std.proofs.lemmas.Bool.{cases_lt}
 use Rattle.cs_rows.specs.RowSteps.{IsSource}
 use Rattle.std.specs.List.{find}
 use Rattle.std.specs.Option.{is_some}
-use Rattle.cs_rows.specs.WalkByRows.{numbers_of}
 use Rattle.cs_rows.proofs.FirstLemmas.{all_below, fails_below}
 use Rattle.cs_rows.proofs.FoundRows.{holds}
 use Rattle.cs_rows.proofs.SourceLemmas.{has_source as has}
@@ -11,11 +10,11 @@ use Rattle.cs_rows.proofs.sources.find_sources.Goals as goal
 
 pub returns-in-None-clause-full : goal.returns-in-None-clause-full
 returns-in-None-clause-full c =
-    sym (fails_below (λ k. is_some (find (holds c.args.survivors.now.catalog k) (numbers_of c.args.reached.now))) (length c.args.survivors.now.catalog.columns) c.loop-c.c (omega arith) (ap is_some c.in-None.ensures))
+    sym (fails_below (λ k. is_some (find (holds c.args.survivors.now.catalog k) c.args.projections.now)) (length c.args.survivors.now.catalog.columns) c.loop-c.c (omega arith) (ap is_some c.in-None.ensures))
 
 pub returns-clause-full : goal.returns-clause-full
 returns-clause-full c =
-    sym (all_below (λ k. is_some (find (holds c.args.survivors.now.catalog k) (numbers_of c.args.reached.now))) (length c.args.survivors.now.catalog.columns) (λ k h. c.loop-c.invariant.2 k (omega arith)))
+    sym (all_below (λ k. is_some (find (holds c.args.survivors.now.catalog k) c.args.projections.now)) (length c.args.survivors.now.catalog.columns) (λ k h. c.loop-c.invariant.2 k (omega arith)))
 
 pub loop-c-preserved : goal.loop-c-preserved
 loop-c-preserved c =
@@ -27,17 +26,17 @@ loop-c-preserved c =
           ⊎_elim
           (λ (less : k < at).
           let ne : k ≢ at = λ e. omega arith in
-          subst (IsSource c.args.survivors.now.catalog (numbers_of c.args.reached.now) k) (sym (get_or-set_other sources at k c.in-Some.source d ne)) (c.loop-c.invariant.1 k d less))
+          subst (IsSource c.args.survivors.now.catalog c.args.projections.now k) (sym (get_or-set_other sources at k c.in-Some.source d ne)) (c.loop-c.invariant.1 k d less))
           (λ (ge : at ≤ k).
           let here : at ≡ k = omega arith in
-          subst (λ (n : ℕ). IsSource c.args.survivors.now.catalog (numbers_of c.args.reached.now) n (get_or (set sources at c.in-Some.source) n d)) here
-          (subst (IsSource c.args.survivors.now.catalog (numbers_of c.args.reached.now) at) (sym (get_or-set_same sources at c.in-Some.source d inside)) c.in-Some.ensures))
+          subst (λ (n : ℕ). IsSource c.args.survivors.now.catalog c.args.projections.now n (get_or (set sources at c.in-Some.source) n d)) here
+          (subst (IsSource c.args.survivors.now.catalog c.args.projections.now at) (sym (get_or-set_same sources at c.in-Some.source d inside)) c.in-Some.ensures))
           (cases_lt k at),
       λ k h.
           ⊎_elim
           (λ (less : k < at). c.loop-c.invariant.2 k less)
           (λ (ge : at ≤ k).
           let here : k ≡ at = omega arith in
-          has c.args.survivors.now.catalog (numbers_of c.args.reached.now) k c.in-Some.source (subst (λ (n : ℕ). IsSource c.args.survivors.now.catalog (numbers_of c.args.reached.now) n c.in-Some.source) (sym here) c.in-Some.ensures))
+          has c.args.survivors.now.catalog c.args.projections.now k c.in-Some.source (subst (λ (n : ℕ). IsSource c.args.survivors.now.catalog c.args.projections.now n c.in-Some.source) (sym here) c.in-Some.ensures))
           (cases_lt k at),
     )

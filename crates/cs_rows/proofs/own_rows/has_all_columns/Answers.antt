@@ -3,7 +3,7 @@ use Rattle.std.specs.List.{list_any, position_or_len}
 use Rattle.std.proofs.lemmas.Bool.{cases_lt}
 use Rattle.cs_safety.specs.Paths.{holds_column}
 use Rattle.cs_rows.proofs.FirstLemmas.{all_below, fails_below, found_in, missing_in}
-use Rattle.cs_rows.proofs.sources.has_all_columns.Goals as goal
+use Rattle.cs_rows.proofs.own_rows.has_all_columns.Goals as goal
 
 pub returns-then-place_in-columns : goal.returns-then-place_in-columns
 returns-then-place_in-columns c =

@@ -1,0 +1,141 @@
+//! The walk by rows from a projection that has every column of the table: each row is full by itself, so the walk only tells
+//! whether it is astray, and the cells of many rows are copied at once.
+ghost use Rattle.std.specs.Prelude.{◌≡◌, ◌<◌, ◌≤◌, ◌-◌, ◌++◌, ◌∷◌, [], ℕ, List, IfErr, OnOk, None, length, slice_index_or};
+ghost use Rattle.std.specs.List.{find, filter_map};
+ghost use Rattle.cs_schema.specs.CatalogData.{segments};
+ghost use Rattle.cs_schema.specs.Values.{values};
+ghost use Rattle.cs_schema.specs.declared.cells.Cells.{Cells as CellsData};
+ghost use Rattle.cs_rows.specs.Survivors.{contents_of};
+ghost use Rattle.cs_rows.specs.Columns.{ColumnsFit};
+ghost use Rattle.cs_rows.specs.OwnRows.{HasAll, has_all, own_cells};
+ghost use Rattle.cs_rows.specs.RangeByRows.{is_stray_row, given_row};
+ghost use Rattle.cs_rows.specs.RowSteps.{Stands, AreRows, reached_from, IsStrayFault};
+ghost use Rattle.cs_schema.specs.Rows.{Row};
+
+use crate::catalog_of::{column_count, columns_of, projection_count};
+use crate::desk::Desk;
+use crate::levels::{RowWalk, walk_from};
+use crate::range::{WalkFault, place_in};
+use crate::survivors::Survivors;
+use cs_schema::Cells;
+use std::alloc::AllocError;
+
+/// Whether a projection has every column of the table.
+pub(crate) fn has_all_columns(survivors: &Survivors<'_>, p: u16) -> bool
+    requires { p < length survivors.now.catalog.projections }
+    ensures { result ≡ has_all survivors.now.catalog p }
+{
+    let columns = columns_of(survivors, p as usize);
+    for c in 0..column_count(survivors) {
+        if place_in(columns, c) >= columns.len() {
+            return false;
+        }
+    }
+    true
+}
+
+/// Copies the cells of a segment's rows, from the first number up to the second, to the ends of the table's columns.
+pub(crate) fn copy_rows(
+    survivors: &Survivors<'_>,
+    segment: (u16, u16),
+    rows: (u32, u32),
+    columns: &mut Vec<Cells>,
+) -> Result<(), AllocError>
+    requires all { HasAll survivors.now.catalog segment.0 }
+    requires columns { ColumnsFit survivors.now.catalog columns.old.items }
+    requires projection { segment.0 < length survivors.now.catalog.projections }
+    requires segment { segment.1 < segments survivors.now.catalog segment.0 }
+    requires order { rows.0 ≤ rows.1 }
+    requires within { rows.1 ≤ length ((contents_of survivors.now).image segment.0 segment.1).pairs }
+    ensures fit { OnOk result (ColumnsFit survivors.now.catalog columns.new.items) }
+    ensures cells { OnOk result ((c : ℕ) (d : CellsData) → c < length survivors.now.catalog.columns → values (slice_index_or columns.new.items c d) ≡ values (slice_index_or columns.old.items c d) ++ own_cells survivors.now.catalog (contents_of survivors.now) (reached_from segment.0 segment.1 rows.0 (rows.1 - rows.0)) c) }
+{
+    if rows.0 == rows.1 {
+        return Ok(());
+    }
+    let own = columns_of(survivors, segment.0 as usize);
+    for c in 0..columns.len() {
+        match survivors.image(segment.0 as usize, segment.1 as usize) {
+            Some(image) => {
+                let column = image.column(place_in(own, c));
+                columns[c].extend(column, rows.0 as usize, rows.1 as usize)?;
+            }
+            None => unreachable!(),
+        }
+    }
+    Ok(())
+}
+
+impl RowWalk<'_> {
+    /// Walks from one row, whatever that finds.
+    fn follow_row(&self, row: (u16, (u16, u32)), desk: &mut Desk) -> Result<(), WalkFault>
+        requires { Stands self.now.survivors.now.catalog (contents_of self.now.survivors.now) row }
+        ensures reading { desk.new.reading ≡ desk.old.reading }
+        ensures sound { OnOk result (find (is_stray_row self.now.survivors.now.catalog self.now.loss (contents_of self.now.survivors.now)) (row ∷ []) ≡ None) }
+        ensures fault { IfErr result (IsStrayFault self.now.survivors.now.catalog self.now.loss (contents_of self.now.survivors.now) (row ∷ [])) }
+    {
+        if !walk_from(self, row, &mut desk.finding, &mut desk.landings)? {
+            return Err(WalkFault::Astray {
+                p: row.0,
+                s: row.1.0,
+                row: row.1.1,
+            });
+        }
+        Ok(())
+    }
+
+    /// The same from the rows of a segment, from the first number up to the second.
+    fn follow_segment(
+        &self,
+        segment: (u16, u16),
+        rows: (u32, u32),
+        desk: &mut Desk,
+    ) -> Result<(), WalkFault>
+        requires projection { segment.0 < length self.now.survivors.now.catalog.projections }
+        requires segment { segment.1 < segments self.now.survivors.now.catalog segment.0 }
+        requires order { rows.0 ≤ rows.1 }
+        requires within { rows.1 ≤ length ((contents_of self.now.survivors.now).image segment.0 segment.1).pairs }
+        ensures reading { desk.new.reading ≡ desk.old.reading }
+        ensures sound { OnOk result (find (is_stray_row self.now.survivors.now.catalog self.now.loss (contents_of self.now.survivors.now)) (reached_from segment.0 segment.1 rows.0 (rows.1 - rows.0)) ≡ None) }
+        ensures fault { IfErr result (IsStrayFault self.now.survivors.now.catalog self.now.loss (contents_of self.now.survivors.now) (reached_from segment.0 segment.1 rows.0 (rows.1 - rows.0))) }
+    {
+        for i in rows.0..rows.1 {
+            let row = (segment.0, (segment.1, i));
+            match self.follow_row(row, desk) {
+                Ok(()) => {}
+                Err(fault) => return Err(fault),
+            }
+        }
+        Ok(())
+    }
+
+    /// As `walk_segment`, of a projection that has every column of the table: each row is full by itself.
+    pub(crate) fn walk_own_rows(
+        &self,
+        segment: (u16, u16),
+        rows: (u32, u32),
+        desk: &mut Desk,
+        columns: &mut Vec<Cells>,
+    ) -> Result<(), WalkFault>
+        requires all { HasAll self.now.survivors.now.catalog segment.0 }
+        requires columns { ColumnsFit self.now.survivors.now.catalog columns.old.items }
+        requires projection { segment.0 < length self.now.survivors.now.catalog.projections }
+        requires segment { segment.1 < segments self.now.survivors.now.catalog segment.0 }
+        requires order { rows.0 ≤ rows.1 }
+        requires within { rows.1 ≤ length ((contents_of self.now.survivors.now).image segment.0 segment.1).pairs }
+        ensures reading { desk.new.reading ≡ desk.old.reading }
+        ensures fit { OnOk result (ColumnsFit self.now.survivors.now.catalog columns.new.items) }
+        ensures sound { OnOk result (find (is_stray_row self.now.survivors.now.catalog self.now.loss (contents_of self.now.survivors.now)) (reached_from segment.0 segment.1 rows.0 (rows.1 - rows.0)) ≡ None) }
+        ensures cells { OnOk result ((found : List Row) → AreRows self.now.survivors.now.catalog found columns.old.items → AreRows self.now.survivors.now.catalog (found ++ filter_map (given_row self.now.fresh_only self.now.survivors.now.catalog self.now.loss (contents_of self.now.survivors.now)) (reached_from segment.0 segment.1 rows.0 (rows.1 - rows.0))) columns.new.items) }
+        ensures fault { IfErr result (IsStrayFault self.now.survivors.now.catalog self.now.loss (contents_of self.now.survivors.now) (reached_from segment.0 segment.1 rows.0 (rows.1 - rows.0))) }
+    {
+        // tells that the key is a column
+        let _rules = projection_count(self.survivors);
+        match self.follow_segment(segment, rows, desk) {
+            Ok(()) => {}
+            Err(fault) => return Err(fault),
+        }
+        copy_rows(self.survivors, segment, rows, columns)?;
+        Ok(())
+    }
+}
