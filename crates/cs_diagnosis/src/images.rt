@@ -16,12 +16,12 @@ use std::marker::Sync;
 use std::thread::Threads;
 
 /// The conflicts of a segment's image: it contradicts the table by itself, or not at all.
-fn image_conflict(store: &OrderedStore<'_>, p: u16, s: u16) -> (u8, Loss)
+fn image_conflict<R: Threads>(rt: &R, store: &OrderedStore<'_>, p: u16, s: u16) -> (u8, Loss)
     requires { Survives store.now.catalog.now store.now.loss (NameData.Seg p s) }
     ensures { IsImageConflict store.now.catalog.now (held_on store.now) (table_on store.now) (p, s) result }
 {
     let site = site_of(store.catalog, p, s);
-    if is_placed(store, p, s) {
+    if is_placed(rt, store, p, s) {
         (site, Loss::none())
     } else {
         (site, site_alone(site))
@@ -30,14 +30,15 @@ fn image_conflict(store: &OrderedStore<'_>, p: u16, s: u16) -> (u8, Loss)
 
 /// The comparing of some images with the table's rows.
 #[derive(Drop)]
-struct ImagesWork<'a> {
+struct ImagesWork<'a, R> {
+    rt: &'a R,
     store: &'a OrderedStore<'a>,
     segments: &'a [(u16, u16)],
     ghost few: { length segments.now ≤ 128 },
     ghost survive: { (a : ℕ × ℕ) → IsIn a segments.now → Survives store.now.catalog.now store.now.loss (NameData.Seg a.0 a.1) },
 }
 
-impl Tasks for ImagesWork<'_> {
+impl<R: Threads> Tasks for ImagesWork<'_, R> {
     type Out = (u8, Loss);
 
     ghost tasks = { λ work. length work.segments.now };
@@ -52,7 +53,7 @@ impl Tasks for ImagesWork<'_> {
 
     fn task(&self, i: u32) -> Result<(u8, Loss), Fault> {
         let (p, s) = self.segments[i as usize];
-        Ok(image_conflict(self.store, p, s))
+        Ok(image_conflict(self.rt, self.store, p, s))
     }
 
     ghost one_fault = { λ work i f g below a b. a ∙ sym b };
@@ -69,7 +70,11 @@ pub fn images_conflicts<R: Threads + Sync, G: Gate + Sync>(
     ensures count { IfOk result (λ found. length found.items ≡ length segments.now) }
     ensures each { IfOk result (λ found. AnswersInOrder (ImageConflictAt store.now.catalog.now (held_on store.now) (table_on store.now) segments.now) found.items) }
 {
-    let work = ImagesWork { store, segments };
+    let work = ImagesWork {
+        rt: run.rt,
+        store,
+        segments,
+    };
     match run.round(Round::Images, &work) {
         Ok(found) => Ok(found),
         Err(_) => Err(AllocError),

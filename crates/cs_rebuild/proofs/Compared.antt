@@ -1,7 +1,8 @@
 -- An image beside rows of the table: from its cells to its rows, and back.
-use Rattle.std.proofs.Common.{◌≡◌, ℕ, ◌<◌, List, map, length, sym, ap, ◌∙◌, subst}
+use Rattle.std.proofs.Common.{◌≡◌, ℕ, ◌<◌, ◌≤◌, List, map, length, sym, ap, ◌∙◌, inl, inr, ◌⊎◌, subst}
 use Rattle.std.specs.Prelude.{slice_index, pos}
 use Rattle.std.specs.List.{slice_get}
+use Rattle.std.proofs.lemmas.Bool.{cases_lt}
 use Rattle.std.proofs.lemmas.List.{length-map}
 use Rattle.std.proofs.lemmas.Option.{slice_get-get_or}
 use Rattle.cs_schema.specs.declared.cells.Value.{Value}
@@ -15,12 +16,20 @@ use Rattle.cs_schema.proofs.Lists.{slice_get_map}
 use Rattle.cs_delta.specs.Image.{Pair, image_rows}
 use Rattle.cs_delta.specs.KindedImage.{KindedImage, image_column}
 use Rattle.cs_order.specs.Orders.{row_at}
-use Rattle.cs_rebuild.specs.Comparing.{AreComparable, IsCellThere}
+use Rattle.cs_rebuild.specs.Comparing.{AreAlike, AreComparable, IsCellThere}
 use Rattle.cs_rows.specs.WalkedView.{WalkedData}
 use Rattle.cs_rebuild.proofs.CellsAlike.{column_exists, column_of, same_rows, same_cells, image_cells}
 
 cell_alike : (ys : List Value) (ns : List ℕ) (k : ℕ) → k < length ns → slice_index ns k < length ys → slice_get (map (cell ys) ns) k ≡ slice_get ys (slice_index ns k)
 cell_alike ys ns k l below = slice_get_map (cell ys) ns k (slice_index ns k) (slice_get-get_or ns k 0 l) ∙ sym (slice_get-get_or ys (slice_index ns k) (Value.Int (pos 0)) below)
+
+-- the first cells, and a part after them
+pub one_more_part : (cells column : List Value) (ns : List ℕ) (start end : ℕ) → AreAlike cells column ns 0 start → AreAlike cells column ns start end → AreAlike cells column ns 0 end
+one_more_part cells column ns start end before here k z l = go (cases_lt k start)
+  where
+    go : (k < start) ⊎ (start ≤ k) → slice_get cells k ≡ slice_get column (slice_index ns k)
+    go (inl m) = before k z m
+    go (inr m) = here k m l
 
 -- an image of a projection, and rows of the table
 pub comparable : (C : CatalogData) (p : ℕ) (image : KindedImage) (walked : WalkedData) (ns : List ℕ) → IsCatalog C → p < length C.projections → image.kinds ≡ kinds_at C p → walked.kinds ≡ map (λ c. c.kind) C.columns

@@ -1,5 +1,5 @@
 -- An image beside rows of the table, cell by cell.
-use Rattle.std.specs.Prelude.{◌≡◌, ℕ, ◌<◌, List, length, map, slice_index}
+use Rattle.std.specs.Prelude.{◌≡◌, ℕ, ◌<◌, ◌≤◌, List, length, map, slice_index}
 use Rattle.std.specs.List.{slice_get}
 use Rattle.cs_schema.specs.Rows.{cell}
 use Rattle.cs_delta.specs.KindedImage.{KindedImage, image_column}
@@ -25,10 +25,6 @@ pub record AreBeside {X : Type 0} (cells column : List X) (numbers : List ℕ) :
   pub count : length cells ≡ length numbers
   pub below : (k : ℕ) → k < length numbers → slice_index numbers k < length column
 
--- cell k is that of the k-th number
-abbrev pub IsAlike : {X : Type 0} → List X → List X → List ℕ → ℕ → Type 0
-IsAlike cells column numbers k = slice_get cells k ≡ slice_get column (slice_index numbers k)
-
--- so are all cells up to an end
-abbrev pub AreAlike : {X : Type 0} → List X → List X → List ℕ → ℕ → Type 0
-AreAlike cells column numbers end = (k : ℕ) → k < end → IsAlike cells column numbers k
+-- from a start up to an end, cell k is that of the k-th number
+abbrev pub AreAlike : {X : Type 0} → List X → List X → List ℕ → ℕ → ℕ → Type 0
+AreAlike cells column numbers start end = (k : ℕ) → start ≤ k → k < end → slice_get cells k ≡ slice_get column (slice_index numbers k)

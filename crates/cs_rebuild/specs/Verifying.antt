@@ -1,5 +1,5 @@
 -- What comparing each surviving file with the table finds.
-use Rattle.std.specs.Prelude.{◌≡◌, ◌+◌, ◌<◌, ℕ, Bool, true, not, List, map, Option, slice_index_or}
+use Rattle.std.specs.Prelude.{◌≡◌, ◌+◌, ◌<◌, ◌≤◌, ℕ, Bool, true, not, List, map, Option, slice_index_or}
 use Rattle.std.specs.List.{slice_get}
 use Rattle.std.specs.Option.{option_and_then, unwrap_or}
 use lib.Pointwise.{pointwise}
@@ -49,12 +49,9 @@ raw_entry entries key = unwrap_or (entry_at entries key) no_place
 abbrev pub HasNoKeylessPlace : List Place → Type 0
 HasNoKeylessPlace entries = (e : Place) → IsIn e entries → e.1 ≡ 0 → e.0 ≡ 0
 
--- the entry at the key above a number agrees with the expected one
-abbrev pub is_led_at : Entries → List Place → ℕ → Bool
-is_led_at e entries m =
-    agrees e.store.now.catalog.now e.store.now.loss e.q (slice_index_or entries m no_place)
-    (entry_for e.store.now.catalog.now e.store.now.loss (held_on e.store.now) (table_on e.store.now) e.p e.s e.q (m + 1))
-
--- the entries at the first keys, so many, agree with the expected ones
-abbrev pub AreLed : Entries → List Place → ℕ → Type 0
-AreLed e entries count = (m : ℕ) → m < count → is_led_at e entries m ≡ true
+-- the entries at the keys above one number, up to another, agree with the expected ones
+abbrev pub AreLed : Entries → List Place → ℕ → ℕ → Type 0
+AreLed e entries from to =
+    (m : ℕ) → from ≤ m → m < to
+    → agrees e.store.now.catalog.now e.store.now.loss e.q (slice_index_or entries m no_place)
+    (entry_for e.store.now.catalog.now e.store.now.loss (held_on e.store.now) (table_on e.store.now) e.p e.s e.q (m + 1)) ≡ true

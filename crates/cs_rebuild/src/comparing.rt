@@ -1,5 +1,5 @@
-//! Comparing an image with rows of the table.
-ghost use Rattle.std.specs.Prelude.{◌≡◌, ◌<◌, ◌↔◌, ℕ, IsTrue, List, length, map, slice_index};
+//! Comparing an image with rows of the table: a large one in several threads.
+ghost use Rattle.std.specs.Prelude.{◌≡◌, ◌<◌, ◌≤◌, ◌↔◌, ℕ, IsTrue, List, length, map, slice_index};
 ghost use Rattle.cs_schema.specs.declared.cells.Value.{Value};
 ghost use Rattle.cs_schema.specs.CatalogData.{projection};
 ghost use Rattle.cs_schema.specs.Lists.{IsIn};
@@ -14,13 +14,18 @@ use crate::columns::columns_of;
 use cs_delta::Image;
 use cs_rows::Table;
 use cs_schema::{Catalog, Cells};
+use std::thread::{Threads, join};
 
-/// Whether cells are those of a column at the rows of these numbers.
-fn has_cells(cells: &Cells, column: &Cells, numbers: &[u32]) -> bool
-    requires { AreBeside (values cells.now) (values column.now) numbers.now }
-    ensures { IsTrue result ↔ AreAlike (values cells.now) (values column.now) numbers.now (length numbers.now) }
+/// How many cells or entries one thread compares.
+pub(crate) const PART: u32 = 131_072;
+
+/// Whether cells are, from a start up to an end, those of a column at the rows of these numbers.
+fn has_cells(cells: &Cells, column: &Cells, numbers: &[u32], start: usize, end: usize) -> bool
+    requires beside { AreBeside (values cells.now) (values column.now) numbers.now }
+    requires within { end ≤ length numbers.now }
+    ensures { IsTrue result ↔ AreAlike (values cells.now) (values column.now) numbers.now start end }
 {
-    for k in 0..numbers.len() {
+    for k in start..end {
         if !cells.same(k, column, numbers[k] as usize) {
             return false;
         }
@@ -28,18 +33,52 @@ fn has_cells(cells: &Cells, column: &Cells, numbers: &[u32]) -> bool
     true
 }
 
+/// Whether the first cells of a column are those of another one at the rows of these numbers, each `PART` of them compared by a
+/// thread of its own.
+fn has_first<R: Threads>(rt: &R, cells: &Cells, column: &Cells, numbers: &[u32], end: usize) -> bool
+    requires beside { AreBeside (values cells.now) (values column.now) numbers.now }
+    requires within { end ≤ length numbers.now }
+    ensures { IsTrue result ↔ AreAlike (values cells.now) (values column.now) numbers.now 0 end }
+{
+    let part = PART as usize;
+    if end <= part {
+        return has_cells(cells, column, numbers, 0, end);
+    }
+    let start = end - part;
+    let (here, before) = join(
+        rt,
+        || -> bool
+            requires { AreBeside (values cells.now) (values column.now) numbers.now × (end ≤ length numbers.now) }
+            ensures { IsTrue result ↔ AreAlike (values cells.entry.now) (values column.entry.now) numbers.entry.now start end }
+        { has_cells(cells, column, numbers, start, end) },
+        || -> bool
+            requires { AreBeside (values cells.now) (values column.now) numbers.now × (start ≤ length numbers.now) }
+            ensures { IsTrue result ↔ AreAlike (values cells.entry.now) (values column.entry.now) numbers.entry.now 0 start }
+        { has_first(rt, cells, column, numbers, start) },
+    );
+    here && before
+}
+
 /// Whether column `j` of the image has the cells of the rows of these numbers.
-fn has_column(image: &Image, walked: &Table<'_>, columns: &[u8], numbers: &[u32], j: usize) -> bool
+fn has_column<R: Threads>(
+    rt: &R,
+    image: &Image,
+    walked: &Table<'_>,
+    columns: &[u8],
+    numbers: &[u32],
+    j: usize,
+) -> bool
     requires comparable { AreComparable image.now walked.now columns.now numbers.now }
     requires column { j < length columns.now }
     ensures { IsTrue result ↔ IsColumnThere image.now walked.now columns.now numbers.now j }
 {
     let column = walked.column(columns[j] as usize);
-    has_cells(image.column(j), column, numbers)
+    has_first(rt, image.column(j), column, numbers, numbers.len())
 }
 
 /// Whether an image has the walked rows of these numbers, as a projection keeps them.
-pub fn has_rows(
+pub fn has_rows<R: Threads>(
+    rt: &R,
     catalog: &Catalog,
     p: u16,
     image: &Image,
@@ -60,7 +99,7 @@ pub fn has_rows(
     let width = catalog.width(p);
     let columns = columns_of(catalog, p);
     for j in 0..width {
-        if !has_column(image, walked, columns, numbers, j) {
+        if !has_column(rt, image, walked, columns, numbers, j) {
             return false;
         }
     }

@@ -1,5 +1,5 @@
-//! Comparing the surviving join indexes with the places of their rows.
-ghost use Rattle.std.specs.Prelude.{◌≡◌, ◌<◌, ◌≤◌, ◌↔◌, ℕ, true, Some, None, IsTrue, IfErr, OnOk, length, not};
+//! Comparing the surviving join indexes with the places of their rows: a large one in several threads.
+ghost use Rattle.std.specs.Prelude.{◌≡◌, ◌<◌, ◌≤◌, ◌↔◌, ℕ, Some, None, IsTrue, IfErr, OnOk, length, not};
 ghost use Rattle.std.specs.List.{slice_get};
 ghost use Rattle.std.specs.Option.{option_and_then};
 ghost use lib.Pointwise.{pointwise};
@@ -11,10 +11,11 @@ ghost use Rattle.cs_store.specs.Fault.{MemoryOr};
 ghost use Rattle.cs_recovery.specs.Holding.{agrees};
 ghost use Rattle.cs_recovery.specs.Places.{entries_for};
 ghost use Rattle.cs_recovery.specs.Verdicts.{surviving_joins, misled};
-ghost use Rattle.cs_rebuild.specs.Verifying.{JoinedFaultAt, AreLed, HasNoKeylessPlace, is_led_at, is_misled, misled_at, raw_entry};
+ghost use Rattle.cs_rebuild.specs.Verifying.{JoinedFaultAt, AreLed, HasNoKeylessPlace, is_misled, misled_at, raw_entry};
 ghost use Rattle.cs_rebuild.specs.WorkLaws.{one_value};
 ghost use Rattle.cs_rebuild.specs.OnStore.{held_on, table_on};
 
+use crate::comparing::PART;
 use crate::ordered_store::OrderedStore;
 use crate::places::Entries;
 use crate::rounds::Tasks;
@@ -24,7 +25,7 @@ use cs_jix::JoinIndex;
 use cs_schema::{Catalog, Loss};
 use cs_store::Fault;
 use std::marker::Sync;
-use std::thread::Threads;
+use std::thread::{Threads, join_mut};
 
 /// The entry at a key, `(0, 0)` where it has no place.
 pub fn raw_entry(join: &JoinIndex, key: u32) -> (u16, u32)
@@ -52,39 +53,62 @@ fn agrees(catalog: &Catalog, loss: Loss, q: u16, entry: (u16, u32), place: (u16,
     place.1 != 0 && entry.1 >= 1 && catalog.lost(q, place.0, loss)
 }
 
-/// Whether a join index has the expected entry at the key above a number.
-fn has_entry(entries: &Entries<'_>, index: &JoinIndex, i: u32) -> bool
-    requires within { (i < length index.now) × (i < 4294967295) }
+/// Whether a join index has the expected entries at the keys above one number, up to another.
+fn leads_between(entries: &Entries<'_>, index: &JoinIndex, from: u32, to: u32) -> bool
+    requires within { to ≤ length index.now }
     requires raw { HasNoKeylessPlace index.now }
-    ensures { IsTrue result ↔ (is_led_at entries.now index.now i ≡ true) }
+    ensures { IsTrue result ↔ AreLed entries.now index.now from to }
 {
     let store = entries.store;
-    let place = entries.at(i + 1);
-    agrees(
-        store.catalog,
-        store.loss,
-        entries.q,
-        raw_entry(index, i + 1),
-        place,
-    )
-}
-
-/// Whether a join index has the expected entries at its first keys, so many.
-fn has_entries(entries: &Entries<'_>, index: &JoinIndex, count: u32) -> bool
-    requires within { count ≤ length index.now }
-    requires raw { HasNoKeylessPlace index.now }
-    ensures { IsTrue result ↔ AreLed entries.now index.now count }
-{
-    for i in 0..count {
-        if !has_entry(entries, index, i) {
+    for i in from..to {
+        let place = entries.at(i + 1);
+        if !agrees(
+            store.catalog,
+            store.loss,
+            entries.q,
+            raw_entry(index, i + 1),
+            place,
+        ) {
             return false;
         }
     }
     true
 }
 
+/// Whether a join index has the expected entries at its first keys, so many, each `PART` of them looked at by a thread of its own.
+fn leads_first<R: Threads>(rt: &R, entries: &Entries<'_>, index: &JoinIndex, end: u32) -> bool
+    requires within { end ≤ length index.now }
+    requires raw { HasNoKeylessPlace index.now }
+    ensures { IsTrue result ↔ AreLed entries.now index.now 0 end }
+{
+    if end <= PART {
+        return leads_between(entries, index, 0, end);
+    }
+    let start = end - PART;
+    // of a closure over a struct of references `join` says nothing
+    let (here, before) = join_mut(
+        rt,
+        &mut || -> bool
+            requires { (end ≤ length index.now) × HasNoKeylessPlace index.now }
+            ensures { IsTrue result ↔ AreLed entries.entry.now index.entry.now start end }
+        { leads_between(entries, index, start, end) },
+        &mut || -> bool
+            requires { (start ≤ length index.now) × HasNoKeylessPlace index.now }
+            ensures { IsTrue result ↔ AreLed entries.entry.now index.entry.now 0 start }
+        { leads_first(rt, entries, index, start) },
+    );
+    here && before
+}
+
 /// Whether a join index of a segment has the expected entries.
-fn leads(store: &OrderedStore<'_>, p: u16, s: u16, q: u16, index: &JoinIndex) -> bool
+fn leads<R: Threads>(
+    rt: &R,
+    store: &OrderedStore<'_>,
+    p: u16,
+    s: u16,
+    q: u16,
+    index: &JoinIndex,
+) -> bool
     requires survives { Survives store.now.catalog.now store.now.loss (NameData.Jix p s q) }
     requires target { q < length store.now.catalog.now.projections }
     requires raw { HasNoKeylessPlace index.now }
@@ -95,31 +119,32 @@ fn leads(store: &OrderedStore<'_>, p: u16, s: u16, q: u16, index: &JoinIndex) ->
     if index.top() != top {
         return false;
     }
-    has_entries(&entries, index, top)
+    leads_first(rt, &entries, index, top)
 }
 
 /// Whether a surviving join index leads to the places of its rows.
-fn is_led(store: &OrderedStore<'_>, p: u16, s: u16, q: u16) -> bool
+fn is_led<R: Threads>(rt: &R, store: &OrderedStore<'_>, p: u16, s: u16, q: u16) -> bool
     requires { Survives store.now.catalog.now store.now.loss (NameData.Jix p s q) }
     ensures { result ≡ not (is_misled store.now.catalog.now store.now.loss (held_on store.now) (table_on store.now) (p, s, q)) }
 {
     let _rules = store.catalog.projection_count();
     match store.survivors.join(p as usize, s as usize, q as usize) {
-        Some(index) => leads(store, p, s, q, index),
+        Some(index) => leads(rt, store, p, s, q, index),
         None => unreachable!(),
     }
 }
 
 /// The comparing of some join indexes with the places of their rows.
 #[derive(Drop)]
-struct JoinedWork<'a> {
+struct JoinedWork<'a, R> {
+    rt: &'a R,
     store: &'a OrderedStore<'a>,
     joins: &'a [(u16, u16, u16)],
     ghost few: { length joins.now ≤ 1024 },
     ghost survive: { (a : ℕ × ℕ × ℕ) → IsIn a joins.now → Survives store.now.catalog.now store.now.loss (NameData.Jix a.0 a.1 a.2) },
 }
 
-impl Tasks for JoinedWork<'_> {
+impl<R: Threads> Tasks for JoinedWork<'_, R> {
     type Out = ();
 
     ghost tasks = { λ work. length work.joins.now };
@@ -134,7 +159,7 @@ impl Tasks for JoinedWork<'_> {
 
     fn task(&self, i: u32) -> Result<(), Fault> {
         let (p, s, q) = self.joins[i as usize];
-        if is_led(self.store, p, s, q) {
+        if is_led(self.rt, self.store, p, s, q) {
             Ok(())
         } else {
             Err(Fault::Misled { p, s, q })
@@ -155,7 +180,11 @@ pub fn verify_joins<R: Threads + Sync, G: Gate + Sync>(
     ensures ok { OnOk result (misled store.now.catalog.now store.now.loss (held_on store.now) (table_on store.now) ≡ None) }
     ensures err { IfErr result (λ fault. MemoryOr fault (misled store.now.catalog.now store.now.loss (held_on store.now) (table_on store.now) ≡ Some fault)) }
 {
-    let work = JoinedWork { store, joins };
+    let work = JoinedWork {
+        rt: run.rt,
+        store,
+        joins,
+    };
     match run.round(Round::Joins, &work) {
         Ok(_done) => Ok(()),
         Err(fault) => Err(fault),

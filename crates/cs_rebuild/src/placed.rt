@@ -21,27 +21,28 @@ use std::marker::Sync;
 use std::thread::Threads;
 
 /// Whether the image of a surviving segment has the table's rows in its range, in their order.
-pub fn is_placed(store: &OrderedStore<'_>, p: u16, s: u16) -> bool
+pub fn is_placed<R: Threads>(rt: &R, store: &OrderedStore<'_>, p: u16, s: u16) -> bool
     requires { Survives store.now.catalog.now store.now.loss (NameData.Seg p s) }
     ensures { result ≡ not (is_misplaced store.now.catalog.now (held_on store.now) (table_on store.now) (p, s)) }
 {
     let numbers = store.orders.segment(p, s);
     match store.survivors.image(p as usize, s as usize) {
-        Some(image) => has_rows(store.catalog, p, image, &store.walked, numbers),
+        Some(image) => has_rows(rt, store.catalog, p, image, &store.walked, numbers),
         None => unreachable!(),
     }
 }
 
 /// The comparing of some images with the table's rows.
 #[derive(Drop)]
-struct PlacedWork<'a> {
+struct PlacedWork<'a, R> {
+    rt: &'a R,
     store: &'a OrderedStore<'a>,
     segments: &'a [(u16, u16)],
     ghost few: { length segments.now ≤ 128 },
     ghost survive: { (a : ℕ × ℕ) → IsIn a segments.now → Survives store.now.catalog.now store.now.loss (NameData.Seg a.0 a.1) },
 }
 
-impl Tasks for PlacedWork<'_> {
+impl<R: Threads> Tasks for PlacedWork<'_, R> {
     type Out = ();
 
     ghost tasks = { λ work. length work.segments.now };
@@ -56,7 +57,7 @@ impl Tasks for PlacedWork<'_> {
 
     fn task(&self, i: u32) -> Result<(), Fault> {
         let (p, s) = self.segments[i as usize];
-        if is_placed(self.store, p, s) {
+        if is_placed(self.rt, self.store, p, s) {
             Ok(())
         } else {
             Err(Fault::Misplaced { p, s })
@@ -77,7 +78,11 @@ pub fn verify_images<R: Threads + Sync, G: Gate + Sync>(
     ensures ok { OnOk result (misplaced store.now.catalog.now store.now.loss (held_on store.now) (table_on store.now) ≡ None) }
     ensures err { IfErr result (λ fault. MemoryOr fault (misplaced store.now.catalog.now store.now.loss (held_on store.now) (table_on store.now) ≡ Some fault)) }
 {
-    let work = PlacedWork { store, segments };
+    let work = PlacedWork {
+        rt: run.rt,
+        store,
+        segments,
+    };
     match run.round(Round::Images, &work) {
         Ok(_done) => Ok(()),
         Err(fault) => Err(fault),

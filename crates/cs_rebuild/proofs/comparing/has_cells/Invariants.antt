@@ -4,4 +4,4 @@ use Rattle.cs_rebuild.proofs.comparing.has_cells.Given as goal
 
 -- the cells so far are the same
 abbrev pub invariant-loop-k : goal.invariant-loop-k
-invariant-loop-k l = AreAlike (values l.cells) (values l.column) l.numbers l.k
+invariant-loop-k l = AreAlike (values l.cells) (values l.column) l.numbers l.start l.k

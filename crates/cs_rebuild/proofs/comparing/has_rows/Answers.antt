@@ -6,12 +6,12 @@ use Rattle.cs_rebuild.proofs.Compared.{comparable, rows_there, cells_there}
 use Rattle.cs_rebuild.proofs.comparing.has_rows.Goals as goal
 
 pub has_column-requires-clause-comparable : goal.has_column-requires-clause-comparable
-has_column-requires-clause-comparable c =
+has_column-requires-clause-comparable g c =
     subst (λ cs. AreComparable c.args.image.now c.args.walked.now cs c.args.numbers.now) (sym c.columns_of-columns.ensures.columns)
     (comparable c.args.catalog.now c.args.p c.args.image.now c.args.walked.now c.args.numbers.now c.columns_of-columns.ensures.rules c.requires.exists c.requires.kinds c.requires.walked_kinds (sym c.rows.ensures ∙ c.if-rows.false) c.requires.below)
 
 pub returns-then-not-has_column : goal.returns-then-not-has_column
-returns-then-not-has_column c =
+returns-then-not-has_column g c =
     let image = c.args.image.now in
     let walked = c.args.walked.now in
     let ns = c.args.numbers.now in
@@ -23,7 +23,7 @@ returns-then-not-has_column c =
     )
 
 pub returns : goal.returns
-returns c =
+returns g c =
     let image = c.args.image.now in
     let walked = c.args.walked.now in
     let ns = c.args.numbers.now in

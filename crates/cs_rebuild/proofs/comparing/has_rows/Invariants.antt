@@ -4,4 +4,4 @@ use Rattle.cs_rebuild.proofs.comparing.has_rows.Given as goal
 
 -- the columns so far are the same
 abbrev pub invariant-loop-j : goal.invariant-loop-j
-invariant-loop-j l = (i k : ℕ) → i < l.j → k < length l.numbers → IsCellThere l.image l.walked l.columns l.numbers i k
+invariant-loop-j g l = (i k : ℕ) → i < l.j → k < length l.numbers → IsCellThere l.image l.walked l.columns l.numbers i k

@@ -4,16 +4,16 @@ use Rattle.cs_schema.specs.Lists.{IsIn}
 use Rattle.cs_rebuild.proofs.joined.is_led.Goals as goal
 
 pub join-requires-clause-projection : goal.join-requires-clause-projection
-join-requires-clause-projection c =
+join-requires-clause-projection g c =
     let target = ((c.projection_count-rules.ensures.rules.projections c.args.p c.requires.0.0.0).joins c.args.q c.requires.0.1).0 in
     (c.args.store.now.join_room c.args.p c.args.s c.args.q c.requires.0.0 target).0
 
 pub join-requires-clause-segment : goal.join-requires-clause-segment
-join-requires-clause-segment c =
+join-requires-clause-segment g c =
     let target = ((c.projection_count-rules.ensures.rules.projections c.args.p c.requires.0.0.0).joins c.args.q c.requires.0.1).0 in
     (c.args.store.now.join_room c.args.p c.args.s c.args.q c.requires.0.0 target).1
 
 pub leads-requires-clause-raw : goal.leads-requires-clause-raw
-leads-requires-clause-raw c e i none =
+leads-requires-clause-raw g c e i none =
     let held = ap (λ o. unwrap_or o []) c.in-Some.ensures in
     c.args.store.now.entries c.args.p c.args.s c.args.q e c.requires (subst (IsIn e) (sym held) i) none

@@ -15,10 +15,10 @@ use Rattle.cs_rebuild.proofs.Numbers.{decided}
 use Rattle.cs_rebuild.proofs.placed.is_placed.Goals as goal
 
 pub has_rows-requires-clause-kinds : goal.has_rows-requires-clause-kinds
-has_rows-requires-clause-kinds c = c.in-Some.ensures.kinds ∙ ap (λ (D : CatalogData). kinds_at D c.args.p) c.args.store.now.same
+has_rows-requires-clause-kinds g c = c.in-Some.ensures.kinds ∙ ap (λ (D : CatalogData). kinds_at D c.args.p) c.args.store.now.same
 
 pub returns : goal.returns
-returns c =
+returns g c =
     let C = c.args.store.now.catalog.now in
     let p = c.args.p in
     let rows = c.args.store.now.walked.rows in
