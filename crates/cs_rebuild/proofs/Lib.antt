@@ -1,5 +1,4 @@
 pub mod AnchoredRows
-pub mod AnchorImages
 pub mod AppendedColumns
 pub mod CellsAlike
 pub mod Compared

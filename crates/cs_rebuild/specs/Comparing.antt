@@ -1,10 +1,8 @@
 -- An image beside rows of the table, cell by cell.
 use Rattle.std.specs.Prelude.{◌≡◌, ℕ, ◌<◌, ◌≤◌, List, length, map, slice_index}
 use Rattle.std.specs.List.{slice_get}
-use Rattle.cs_schema.specs.CatalogData.{CatalogData}
-use Rattle.cs_schema.specs.Rows.{Row, cell}
+use Rattle.cs_schema.specs.Rows.{cell}
 use Rattle.cs_delta.specs.KindedImage.{KindedImage, image_column}
-use Rattle.cs_rows.specs.Walk.{Contents, image_cell, projection_rows}
 use Rattle.cs_rows.specs.WalkedView.{WalkedData}
 
 -- the image has as many rows as there are numbers, and as many columns; the table has these rows and columns
@@ -30,7 +28,3 @@ pub record AreBeside {X : Type 0} (cells column : List X) (numbers : List ℕ) :
 -- from a start up to an end, cell k is that of the k-th number
 abbrev pub AreAlike : {X : Type 0} → List X → List X → List ℕ → ℕ → ℕ → Type 0
 AreAlike cells column numbers start end = (k : ℕ) → start ≤ k → k < end → slice_get cells k ≡ slice_get column (slice_index numbers k)
-
--- the rows of a table are those of a projection's images, one after the other: so its cells in each column are
-pub record AreRowsOfImages (C : CatalogData) (S : Contents) (p : ℕ) (rows : List Row) : Type 0 where
-  pub cells : (c : ℕ) → c < length C.columns → map (λ row. cell row c) rows ≡ map (image_cell C S p c) (projection_rows C S p)

@@ -16,6 +16,8 @@ use Rattle.cs_recovery.specs.Tables.{when}
 use Rattle.cs_recovery.specs.Holding.{agrees}
 use Rattle.cs_schema.specs.Lists.{IsIn}
 use Rattle.cs_recovery.specs.Places.{entries_for, entry_for}
+use Rattle.cs_rebuild.specs.OnStore.{held_on, table_on}
+use Rattle.cs_rebuild.specs.declared.places.Entries.{Entries}
 
 -- the image of a segment is not of the table's rows
 abbrev pub is_misplaced : CatalogData → Contents → List Row → ℕ × ℕ → Bool
@@ -48,5 +50,8 @@ abbrev pub HasNoKeylessPlace : List Place → Type 0
 HasNoKeylessPlace entries = (e : Place) → IsIn e entries → e.1 ≡ 0 → e.0 ≡ 0
 
 -- the entries at the keys above one number, up to another, agree with the expected ones
-abbrev pub AreLed : CatalogData → Sites → Contents → List Row → ℕ → ℕ → ℕ → List Place → ℕ → ℕ → Type 0
-AreLed C L S T p s q entries from to = (m : ℕ) → from ≤ m → m < to → agrees C L q (slice_index_or entries m no_place) (entry_for C L S T p s q (m + 1)) ≡ true
+abbrev pub AreLed : Entries → List Place → ℕ → ℕ → Type 0
+AreLed e entries from to =
+    (m : ℕ) → from ≤ m → m < to
+    → agrees e.store.now.catalog.now e.store.now.loss e.q (slice_index_or entries m no_place)
+    (entry_for e.store.now.catalog.now e.store.now.loss (held_on e.store.now) (table_on e.store.now) e.p e.s e.q (m + 1)) ≡ true

@@ -11,28 +11,16 @@ ghost use Rattle.cs_order.specs.Orders.{row_at};
 ghost use Rattle.cs_rebuild.specs.Comparing.{AreAlike, AreBeside, AreComparable, IsColumnThere};
 
 use crate::columns::columns_of;
-use crate::shares::Shares;
 use cs_delta::Image;
 use cs_rows::Table;
 use cs_schema::{Catalog, Cells};
 use std::thread::{Threads, join};
 
-/// Whether ints are, from a start up to an end, those of a column at the rows of these numbers.
-fn has_ints(ints: &[i64], column: &[i64], numbers: &[u32], start: usize, end: usize) -> bool
-    requires beside { AreBeside ints.now column.now numbers.now }
-    requires within { end ≤ length numbers.now }
-    ensures { IsTrue result ↔ AreAlike ints.now column.now numbers.now start end }
-{
-    for k in start..end {
-        if ints[k] != column[numbers[k] as usize] {
-            return false;
-        }
-    }
-    true
-}
+/// How many cells or entries one thread compares.
+pub(crate) const PART: u32 = 131_072;
 
 /// Whether cells are, from a start up to an end, those of a column at the rows of these numbers.
-fn has_each(cells: &Cells, column: &Cells, numbers: &[u32], start: usize, end: usize) -> bool
+fn has_cells(cells: &Cells, column: &Cells, numbers: &[u32], start: usize, end: usize) -> bool
     requires beside { AreBeside (values cells.now) (values column.now) numbers.now }
     requires within { end ≤ length numbers.now }
     ensures { IsTrue result ↔ AreAlike (values cells.now) (values column.now) numbers.now start end }
@@ -45,34 +33,14 @@ fn has_each(cells: &Cells, column: &Cells, numbers: &[u32], start: usize, end: u
     true
 }
 
-/// Whether a column has, from a start up to an end, the cells of another one at the rows of these numbers. Of which kind they are
-/// is asked once, and not at each row.
-fn has_cells(cells: &Cells, column: &Cells, numbers: &[u32], start: usize, end: usize) -> bool
-    requires beside { AreBeside (values cells.now) (values column.now) numbers.now }
-    requires within { end ≤ length numbers.now }
-    ensures { IsTrue result ↔ AreAlike (values cells.now) (values column.now) numbers.now start end }
-{
-    match (cells, column) {
-        (Cells::Ints(ints), Cells::Ints(column)) => has_ints(ints, column, numbers, start, end),
-        _ => has_each(cells, column, numbers, start, end),
-    }
-}
-
-/// Whether the first cells of a column are those of another one at the rows of these numbers, each `part` of them compared
-/// by a thread of its own.
-fn has_first<R: Threads>(
-    rt: &R,
-    cells: &Cells,
-    column: &Cells,
-    numbers: &[u32],
-    end: usize,
-    part: usize,
-) -> bool
-    requires some { 0 < part }
+/// Whether the first cells of a column are those of another one at the rows of these numbers, each `PART` of them compared by a
+/// thread of its own.
+fn has_first<R: Threads>(rt: &R, cells: &Cells, column: &Cells, numbers: &[u32], end: usize) -> bool
     requires beside { AreBeside (values cells.now) (values column.now) numbers.now }
     requires within { end ≤ length numbers.now }
     ensures { IsTrue result ↔ AreAlike (values cells.now) (values column.now) numbers.now 0 end }
 {
+    let part = PART as usize;
     if end <= part {
         return has_cells(cells, column, numbers, 0, end);
     }
@@ -84,16 +52,16 @@ fn has_first<R: Threads>(
             ensures { IsTrue result ↔ AreAlike (values cells.entry.now) (values column.entry.now) numbers.entry.now start end }
         { has_cells(cells, column, numbers, start, end) },
         || -> bool
-            requires { (0 < part) × AreBeside (values cells.now) (values column.now) numbers.now × (start ≤ length numbers.now) }
+            requires { AreBeside (values cells.now) (values column.now) numbers.now × (start ≤ length numbers.now) }
             ensures { IsTrue result ↔ AreAlike (values cells.entry.now) (values column.entry.now) numbers.entry.now 0 start }
-        { has_first(rt, cells, column, numbers, start, part) },
+        { has_first(rt, cells, column, numbers, start) },
     );
     here && before
 }
 
 /// Whether column `j` of the image has the cells of the rows of these numbers.
 fn has_column<R: Threads>(
-    shares: &Shares<'_, R>,
+    rt: &R,
     image: &Image,
     walked: &Table<'_>,
     columns: &[u8],
@@ -105,20 +73,12 @@ fn has_column<R: Threads>(
     ensures { IsTrue result ↔ IsColumnThere image.now walked.now columns.now numbers.now j }
 {
     let column = walked.column(columns[j] as usize);
-    let rows = numbers.len();
-    has_first(
-        shares.rt,
-        image.column(j),
-        column,
-        numbers,
-        rows,
-        shares.part_of(rows),
-    )
+    has_first(rt, image.column(j), column, numbers, numbers.len())
 }
 
 /// Whether an image has the walked rows of these numbers, as a projection keeps them.
 pub fn has_rows<R: Threads>(
-    shares: &Shares<'_, R>,
+    rt: &R,
     catalog: &Catalog,
     p: u16,
     image: &Image,
@@ -139,7 +99,7 @@ pub fn has_rows<R: Threads>(
     let width = catalog.width(p);
     let columns = columns_of(catalog, p);
     for j in 0..width {
-        if !has_column(shares, image, walked, columns, numbers, j) {
+        if !has_column(rt, image, walked, columns, numbers, j) {
             return false;
         }
     }

@@ -40,7 +40,7 @@ fn count_read<R: Threads + Sync, G: Gate + Sync>(
     }
 }
 
-/// The same, of files that are read without a look at their digests, and then let go of.
+/// The number of rows of the table, of files that are read without a look at their digests, and then let go of.
 fn count_texts<R: Threads + Sync, G: Gate + Sync>(
     run: &Run<'_, R, G>,
     catalog: &Catalog,
@@ -56,7 +56,8 @@ fn count_texts<R: Threads + Sync, G: Gate + Sync>(
     count_read(run, catalog, loss, read)
 }
 
-/// The same, and beside it whether the digests are right: taking them is most of the reading, and a file's is a chain.
+/// Whether the digests of the files are right, and beside it the number of rows: hashing one file is sequential, and takes longer
+/// than reading it.
 fn count_beside<R: Threads + Sync, G: Gate + Sync>(
     run: &Run<'_, R, G>,
     catalog: &Catalog,
@@ -85,9 +86,9 @@ fn count_beside<R: Threads + Sync, G: Gate + Sync>(
     )
 }
 
-/// The number of rows of the table that survives a safe loss of a store, or why it has none. Its files are held by two, and let
-/// go of once they are read and their digests found right. Where a digest is wrong they are read once more, with a look at each:
-/// the least bad one is refused.
+/// The number of rows of the table that survives a safe loss of a store, or why it has none. Its files are shared by two readers,
+/// and let go of once they are read and their digests found right. If a digest is wrong they are read once more, with a look at
+/// each: the least bad file is refused.
 pub fn count_rows<R: Threads + Sync, G: Gate + Sync>(
     run: &Run<'_, R, G>,
     catalog: &Catalog,

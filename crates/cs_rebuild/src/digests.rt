@@ -58,8 +58,7 @@ fn surviving_files<'a>(
     Ok(longest_first(there))
 }
 
-/// By how many threads so many workers have digests taken. No round waits for them: so they leave processors to the rounds, and
-/// take what these leave free.
+/// The number of hashing threads for so many workers. No round waits for them, so they leave processors to the rounds.
 fn digests_at_once(workers: u32) -> usize
     ensures { 0 < result }
 {
@@ -85,7 +84,7 @@ fn are_sealed<R: Threads + Sync, G>(
     }
 }
 
-/// The same, of files that are let go of where it is so.
+/// Whether each surviving file that is there has the digest of its text. The files are let go of if so.
 pub fn release_sealed<R: Threads + Sync, G>(
     run: &Run<'_, R, G>,
     catalog: &Catalog,

@@ -68,7 +68,7 @@ impl LostSegment<'_> {
         file.push_pieces(run.rt, code, kind, text)
     }
 
-    /// The same, where the text waits behind the file, and isn't looked at.
+    /// Puts the text of a column behind the file, where it waits for `finish`, and isn't looked at.
     fn put(&self, file: &mut GrowingFile, j: usize, text: Vec<Vec<u8>>) -> Result<(), AllocError>
         requires column { j < length (projection self.now.store.now.catalog.now self.now.p).columns }
         requires base { IsBase self.now.store.now.catalog.now self.now.p (base_at self.now.store.now.catalog.now self.now.p self.now.store.now.walked.rows self.now.numbers.now) }

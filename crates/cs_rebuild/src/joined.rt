@@ -15,11 +15,11 @@ ghost use Rattle.cs_rebuild.specs.Verifying.{JoinedFaultAt, AreLed, HasNoKeyless
 ghost use Rattle.cs_rebuild.specs.WorkLaws.{one_value};
 ghost use Rattle.cs_rebuild.specs.OnStore.{held_on, table_on};
 
+use crate::comparing::PART;
 use crate::ordered_store::OrderedStore;
 use crate::places::Entries;
 use crate::rounds::Tasks;
 use crate::run::Run;
-use crate::shares::Shares;
 use cs_board::{Gate, Round};
 use cs_jix::JoinIndex;
 use cs_schema::{Catalog, Loss};
@@ -57,7 +57,7 @@ fn agrees(catalog: &Catalog, loss: Loss, q: u16, entry: (u16, u32), place: (u16,
 fn leads_between(entries: &Entries<'_>, index: &JoinIndex, from: u32, to: u32) -> bool
     requires within { to ≤ length index.now }
     requires raw { HasNoKeylessPlace index.now }
-    ensures { IsTrue result ↔ AreLed entries.now.store.now.catalog.now entries.now.store.now.loss (held_on entries.now.store.now) (table_on entries.now.store.now) entries.now.p entries.now.s entries.now.q index.now from to }
+    ensures { IsTrue result ↔ AreLed entries.now index.now from to }
 {
     let store = entries.store;
     for i in from..to {
@@ -75,41 +75,34 @@ fn leads_between(entries: &Entries<'_>, index: &JoinIndex, from: u32, to: u32) -
     true
 }
 
-/// Whether it has them at its first keys, so many, each `part` of which is looked at by a thread of its own.
-fn leads_first<R: Threads>(
-    rt: &R,
-    entries: &Entries<'_>,
-    index: &JoinIndex,
-    end: u32,
-    part: u32,
-) -> bool
-    requires some { 0 < part }
+/// Whether a join index has the expected entries at its first keys, so many, each `PART` of them looked at by a thread of its own.
+fn leads_first<R: Threads>(rt: &R, entries: &Entries<'_>, index: &JoinIndex, end: u32) -> bool
     requires within { end ≤ length index.now }
     requires raw { HasNoKeylessPlace index.now }
-    ensures { IsTrue result ↔ AreLed entries.now.store.now.catalog.now entries.now.store.now.loss (held_on entries.now.store.now) (table_on entries.now.store.now) entries.now.p entries.now.s entries.now.q index.now 0 end }
+    ensures { IsTrue result ↔ AreLed entries.now index.now 0 end }
 {
-    if end <= part {
+    if end <= PART {
         return leads_between(entries, index, 0, end);
     }
-    let start = end - part;
+    let start = end - PART;
     // of a closure over a struct of references `join` says nothing
     let (here, before) = join_mut(
         rt,
         &mut || -> bool
             requires { (end ≤ length index.now) × HasNoKeylessPlace index.now }
-            ensures { IsTrue result ↔ AreLed entries.entry.now.store.now.catalog.now entries.entry.now.store.now.loss (held_on entries.entry.now.store.now) (table_on entries.entry.now.store.now) entries.entry.now.p entries.entry.now.s entries.entry.now.q index.entry.now start end }
+            ensures { IsTrue result ↔ AreLed entries.entry.now index.entry.now start end }
         { leads_between(entries, index, start, end) },
         &mut || -> bool
-            requires { (0 < part) × (start ≤ length index.now) × HasNoKeylessPlace index.now }
-            ensures { IsTrue result ↔ AreLed entries.entry.now.store.now.catalog.now entries.entry.now.store.now.loss (held_on entries.entry.now.store.now) (table_on entries.entry.now.store.now) entries.entry.now.p entries.entry.now.s entries.entry.now.q index.entry.now 0 start }
-        { leads_first(rt, entries, index, start, part) },
+            requires { (start ≤ length index.now) × HasNoKeylessPlace index.now }
+            ensures { IsTrue result ↔ AreLed entries.entry.now index.entry.now 0 start }
+        { leads_first(rt, entries, index, start) },
     );
     here && before
 }
 
 /// Whether a join index of a segment has the expected entries.
 fn leads<R: Threads>(
-    shares: &Shares<'_, R>,
+    rt: &R,
     store: &OrderedStore<'_>,
     p: u16,
     s: u16,
@@ -126,24 +119,17 @@ fn leads<R: Threads>(
     if index.top() != top {
         return false;
     }
-    let part = shares.part_of(top as usize).min(u32::MAX as usize);
-    leads_first(shares.rt, &entries, index, top, part as u32)
+    leads_first(rt, &entries, index, top)
 }
 
 /// Whether a surviving join index leads to the places of its rows.
-fn is_led<R: Threads>(
-    shares: &Shares<'_, R>,
-    store: &OrderedStore<'_>,
-    p: u16,
-    s: u16,
-    q: u16,
-) -> bool
+fn is_led<R: Threads>(rt: &R, store: &OrderedStore<'_>, p: u16, s: u16, q: u16) -> bool
     requires { Survives store.now.catalog.now store.now.loss (NameData.Jix p s q) }
     ensures { result ≡ not (is_misled store.now.catalog.now store.now.loss (held_on store.now) (table_on store.now) (p, s, q)) }
 {
     let _rules = store.catalog.projection_count();
     match store.survivors.join(p as usize, s as usize, q as usize) {
-        Some(index) => leads(shares, store, p, s, q, index),
+        Some(index) => leads(rt, store, p, s, q, index),
         None => unreachable!(),
     }
 }
@@ -152,7 +138,6 @@ fn is_led<R: Threads>(
 #[derive(Drop)]
 struct JoinedWork<'a, R> {
     rt: &'a R,
-    workers: u32,
     store: &'a OrderedStore<'a>,
     joins: &'a [(u16, u16, u16)],
     ghost few: { length joins.now ≤ 1024 },
@@ -174,9 +159,7 @@ impl<R: Threads> Tasks for JoinedWork<'_, R> {
 
     fn task(&self, i: u32) -> Result<(), Fault> {
         let (p, s, q) = self.joins[i as usize];
-        let left = self.joins.len() - i as usize;
-        let shares = Shares::new(self.rt, left, self.workers);
-        if is_led(&shares, self.store, p, s, q) {
+        if is_led(self.rt, self.store, p, s, q) {
             Ok(())
         } else {
             Err(Fault::Misled { p, s, q })
@@ -199,7 +182,6 @@ pub fn verify_joins<R: Threads + Sync, G: Gate + Sync>(
 {
     let work = JoinedWork {
         rt: run.rt,
-        workers: run.workers,
         store,
         joins,
     };

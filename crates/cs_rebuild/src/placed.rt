@@ -1,25 +1,20 @@
 //! Comparing the surviving images with the table.
-ghost use Rattle.std.specs.Prelude.{◌≡◌, ◌≤◌, ℕ, Some, None, IfErr, IfSome, OnOk, length, not};
+ghost use Rattle.std.specs.Prelude.{◌≡◌, ◌≤◌, ℕ, Some, None, IfErr, OnOk, length, not};
 ghost use Rattle.std.specs.List.{slice_get};
-ghost use Rattle.std.proofs.Props.{props};
 ghost use Rattle.std.specs.Option.{option_and_then};
 ghost use Rattle.cs_schema.specs.declared.file_name.FileName.{FileName as NameData};
 ghost use Rattle.cs_schema.specs.FileNames.{Survives};
 ghost use Rattle.cs_schema.specs.Lists.{IsIn};
 ghost use Rattle.cs_store.specs.Fault.{MemoryOr};
 ghost use Rattle.cs_recovery.specs.Verdicts.{surviving_segments, misplaced};
-ghost use Rattle.cs_rebuild.specs.Comparing.{AreRowsOfImages};
-ghost use Rattle.cs_rebuild.specs.Steps.{AreOrdered};
 ghost use Rattle.cs_rebuild.specs.Verifying.{PlacedFaultAt, is_misplaced, misplaced_at};
 ghost use Rattle.cs_rebuild.specs.WorkLaws.{one_value};
 ghost use Rattle.cs_rebuild.specs.OnStore.{held_on, table_on};
 
 use crate::comparing::has_rows;
-use crate::in_turn::{projection_in_turn, stands_in_turn};
 use crate::ordered_store::OrderedStore;
 use crate::rounds::Tasks;
 use crate::run::Run;
-use crate::shares::Shares;
 use cs_board::{Gate, Round};
 use cs_store::Fault;
 use std::marker::Sync;
@@ -30,57 +25,19 @@ pub fn is_placed<R: Threads>(rt: &R, store: &OrderedStore<'_>, p: u16, s: u16) -
     requires { Survives store.now.catalog.now store.now.loss (NameData.Seg p s) }
     ensures { result ≡ not (is_misplaced store.now.catalog.now (held_on store.now) (table_on store.now) (p, s)) }
 {
-    is_placed_by(&Shares::new(rt, 1, 1), store, p, s)
-}
-
-/// The same, where the comparison is cut into parts like this.
-fn is_placed_by<R: Threads>(
-    shares: &Shares<'_, R>,
-    store: &OrderedStore<'_>,
-    p: u16,
-    s: u16,
-) -> bool
-    requires { Survives store.now.catalog.now store.now.loss (NameData.Seg p s) }
-    ensures { result ≡ not (is_misplaced store.now.catalog.now (held_on store.now) (table_on store.now) (p, s)) }
-{
     let numbers = store.orders.segment(p, s);
     match store.survivors.image(p as usize, s as usize) {
-        Some(image) => has_rows(shares, store.catalog, p, image, &store.walked, numbers),
+        Some(image) => has_rows(rt, store.catalog, p, image, &store.walked, numbers),
         None => unreachable!(),
     }
-}
-
-/// The same, where the rows of the table may be those of one projection's images: of these no cell is looked at that stands in its
-/// order.
-fn is_placed_among<R: Threads>(
-    shares: &Shares<'_, R>,
-    store: &OrderedStore<'_>,
-    in_turn: Option<u16>,
-    p: u16,
-    s: u16,
-) -> bool
-    requires survives { Survives store.now.catalog.now store.now.loss (NameData.Seg p s) }
-    requires images { IfSome in_turn (λ q. AreRowsOfImages store.now.catalog.now (held_on store.now) q store.now.walked.rows) }
-    ensures { result ≡ not (is_misplaced store.now.catalog.now (held_on store.now) (table_on store.now) (p, s)) }
-{
-    if let Some(q) = in_turn {
-        if q == p && stands_in_turn(store, p, s) {
-            return true;
-        }
-    }
-    is_placed_by(shares, store, p, s)
 }
 
 /// The comparing of some images with the table's rows.
 #[derive(Drop)]
 struct PlacedWork<'a, R> {
     rt: &'a R,
-    workers: u32,
     store: &'a OrderedStore<'a>,
     segments: &'a [(u16, u16)],
-    /// The projection whose images have the rows of the table, one after the other, where there is one.
-    in_turn: Option<u16>,
-    ghost images: { IfSome in_turn (λ q. AreRowsOfImages store.now.catalog.now (held_on store.now) q store.now.walked.rows) } by { Prim.hlevel props },
     ghost few: { length segments.now ≤ 128 },
     ghost survive: { (a : ℕ × ℕ) → IsIn a segments.now → Survives store.now.catalog.now store.now.loss (NameData.Seg a.0 a.1) },
 }
@@ -100,9 +57,7 @@ impl<R: Threads> Tasks for PlacedWork<'_, R> {
 
     fn task(&self, i: u32) -> Result<(), Fault> {
         let (p, s) = self.segments[i as usize];
-        let left = self.segments.len() - i as usize;
-        let shares = Shares::new(self.rt, left, self.workers);
-        if is_placed_among(&shares, self.store, self.in_turn, p, s) {
+        if is_placed(self.rt, self.store, p, s) {
             Ok(())
         } else {
             Err(Fault::Misplaced { p, s })
@@ -118,7 +73,6 @@ pub fn verify_images<R: Threads + Sync, G: Gate + Sync>(
     store: &OrderedStore<'_>,
     segments: &[(u16, u16)],
 ) -> Result<(), Fault>
-    requires ordered { AreOrdered store.now.catalog.now store.now.loss store.now.survivors.now store.now.walked store.now.orders }
     requires few { length segments.now ≤ 128 }
     requires segments { segments.now ≡ surviving_segments store.now.catalog.now store.now.loss }
     ensures ok { OnOk result (misplaced store.now.catalog.now store.now.loss (held_on store.now) (table_on store.now) ≡ None) }
@@ -126,10 +80,8 @@ pub fn verify_images<R: Threads + Sync, G: Gate + Sync>(
 {
     let work = PlacedWork {
         rt: run.rt,
-        workers: run.workers,
         store,
         segments,
-        in_turn: projection_in_turn(run.alloc, store),
     };
     match run.round(Round::Images, &work) {
         Ok(_done) => Ok(()),

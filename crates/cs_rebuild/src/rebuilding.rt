@@ -9,26 +9,16 @@ ghost use Rattle.cs_rebuild.specs.Reading.{AreSealed, as_read};
 
 use crate::digests::release_sealed;
 use crate::held::Held;
-use crate::ordered_store::OrderedStore;
 use crate::reading::{read_again, read_texts};
 use crate::recovering::recover;
 use crate::run::Run;
 use crate::verifying::order_store;
 use cs_board::Gate;
-use cs_order::Orders;
 use cs_rows::Survivors;
-use cs_schema::{Catalog, Cells, Loss};
+use cs_schema::{Catalog, Loss};
 use cs_store::{Fault, FileSet};
 use std::marker::Sync;
-use std::mem::drop;
-use std::thread::{Threads, join, join_mut};
-
-/// What a store has of its own: the columns that were made, and the orders.
-fn rows_of(store: OrderedStore<'_>) -> (Vec<Cells>, Orders) {
-    let OrderedStore { walked, orders, .. } = store;
-    let (made, _lent) = walked.into_columns();
-    (made, orders)
-}
+use std::thread::{Threads, join_mut};
 
 /// The files that recover what a safe loss takes from a store, of what was read of its survivors.
 fn rebuild_read<R: Threads + Sync, G: Gate + Sync>(
@@ -49,18 +39,10 @@ fn rebuild_read<R: Threads + Sync, G: Gate + Sync>(
         Ok(store) => store,
         Err(fault) => return Err(fault),
     };
-    let answer = recover(run, &store);
-    let (made, orders) = rows_of(store);
-    // the machine takes memory back page by page
-    join(
-        run.rt,
-        move || drop((made, orders)),
-        || survivors.release(run.rt),
-    );
-    answer
+    recover(run, &store)
 }
 
-/// The same, of files that are read without a look at their digests, and then let go of.
+/// The files that recover a safe loss, of files that are read without a look at their digests, and then let go of.
 fn rebuild_texts<R: Threads + Sync, G: Gate + Sync>(
     run: &Run<'_, R, G>,
     catalog: &Catalog,
@@ -76,7 +58,8 @@ fn rebuild_texts<R: Threads + Sync, G: Gate + Sync>(
     rebuild_read(run, catalog, loss, read)
 }
 
-/// The same, and beside it whether the digests are right: taking them is most of the reading, and a file's is a chain.
+/// Whether the digests of the files are right, and beside it the files that recover a safe loss: hashing one file is sequential,
+/// and takes longer than reading it.
 fn rebuild_beside<R: Threads + Sync, G: Gate + Sync>(
     run: &Run<'_, R, G>,
     catalog: &Catalog,
@@ -105,9 +88,9 @@ fn rebuild_beside<R: Threads + Sync, G: Gate + Sync>(
     )
 }
 
-/// The files that recover what a safe loss takes from a store, or why it has none. Its files are held by two, and let go of once
-/// they are read and their digests found right. Where a digest is wrong they are read once more, with a look at each: the least
-/// bad one is refused.
+/// The files that recover what a safe loss takes from a store, or why it has none. Its files are shared by two readers, and let go
+/// of once they are read and their digests found right. If a digest is wrong they are read once more, with a look at each: the
+/// least bad file is refused.
 pub fn rebuild_files<R: Threads + Sync, G: Gate + Sync>(
     run: &Run<'_, R, G>,
     catalog: &Catalog,

@@ -86,7 +86,7 @@ pub fn rebuild_owned<R: Threads + Sync, G: Gate + Sync>(
     }
 }
 
-/// The same, of files that two hold.
+/// `rebuild`, of the files of a store as two readers share them.
 fn rebuild_held<R: Threads + Sync, G: Gate + Sync>(
     run: &Run<'_, R, G>,
     catalog: &Catalog,
@@ -173,7 +173,7 @@ pub fn check_owned<R: Threads + Sync, G: Gate + Sync>(
     }
 }
 
-/// The same, of files that two hold.
+/// `check`, of the files of a store as two readers share them.
 fn check_held<R: Threads + Sync, G: Gate + Sync>(
     run: &Run<'_, R, G>,
     catalog: &Catalog,

@@ -43,7 +43,7 @@ impl<'a> SoundStore<'a> {
         &self.ordered
     }
 
-    /// The same, without what is known of it.
+    /// The store itself, without what is known of it.
     pub fn into_ordered(self) -> OrderedStore<'a>
         ensures { result ≡ self.entry }
     {

@@ -52,7 +52,6 @@ pub fn verify_files<R: Threads + Sync, G: Gate + Sync>(
     run: &Run<'_, R, G>,
     store: &OrderedStore<'_>,
 ) -> Result<(), Fault>
-    requires ordered { AreOrdered store.now.catalog.now store.now.loss store.now.survivors.now store.now.walked store.now.orders }
     ensures ok { OnOk result (contradiction_on store.now ≡ None) }
     ensures err { IfErr result (λ fault. MemoryOr fault (contradiction_on store.now ≡ Some fault)) }
 {

@@ -11,8 +11,7 @@ use cs_delta::image::Image;
 use cs_jix::JoinIndex;
 use cs_schema::Catalog;
 use std::alloc::{AllocError, Global};
-use std::marker::{Model, Sync};
-use std::thread::{Threads, for_each_mut, join_mut};
+use std::marker::Model;
 
 /// The images of a projection's segments.
 #[derive(Drop)]
@@ -154,20 +153,6 @@ impl ProjectionJoins {
     }
 }
 
-/// Lets go of the images of each projection in a thread.
-fn release_images<R: Threads + Sync>(rt: &R, images: &mut [ProjectionImages]) {
-    let projections = images.len().max(1);
-    let release = |_p: usize, images: &mut ProjectionImages| { images.segments.clear() };
-    for_each_mut(rt, images, projections, &release);
-}
-
-/// Lets go of the join indexes of each projection in a thread.
-fn release_joins<R: Threads + Sync>(rt: &R, joins: &mut [ProjectionJoins]) {
-    let projections = joins.len().max(1);
-    let release = |_p: usize, joins: &mut ProjectionJoins| { joins.segments.clear() };
-    for_each_mut(rt, joins, projections, &release);
-}
-
 impl<'a> Survivors<'a> {
     /// Room for each segment of a catalog, and nothing there.
     pub fn new(alloc: Global, catalog: &'a Catalog) -> Result<Self, AllocError>
@@ -258,16 +243,5 @@ impl<'a> Survivors<'a> {
         ensures { MatchOption result (join_at self.now p s q ≡ None) (λ j. join_at self.now p s q ≡ Some j.now) }
     {
         self.joins[p].at(s)[q].as_ref()
-    }
-
-    /// Lets go of all, in several threads: the machine takes memory back page by page.
-    pub fn release<R: Threads + Sync>(self, rt: &R) {
-        let Survivors { images, joins, .. } = self;
-        let (mut images, mut joins) = (images, joins);
-        join_mut(
-            rt,
-            &mut || { release_images(rt, &mut images) },
-            &mut || { release_joins(rt, &mut joins) },
-        );
     }
 }

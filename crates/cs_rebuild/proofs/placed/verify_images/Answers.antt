@@ -12,7 +12,7 @@ use Rattle.cs_rebuild.proofs.Firsts.{none_passes, first_passes}
 use Rattle.cs_rebuild.proofs.placed.verify_images.Goals as goal
 
 pub invariant_of-work : goal.invariant_of-work
-invariant_of-work g c = record { images = c.projection_in_turn.ensures; few = c.requires.few; survive = λ a i. survivors_survive c.args.store.now.catalog.now c.args.store.now.loss a (subst (IsIn a) c.requires.segments i) }
+invariant_of-work g c = record { few = c.requires.few; survive = λ a i. survivors_survive c.args.store.now.catalog.now c.args.store.now.loss a (subst (IsIn a) c.requires.segments i) }
 
 pub returns-in-Ok-clause-ok : goal.returns-in-Ok-clause-ok
 returns-in-Ok-clause-ok g c =

@@ -9,11 +9,11 @@ returns-in-Err g c F read = rw c.in-Err.is at read.1
 pub order_store-requires-clause-read : goal.order_store-requires-clause-read
 order_store-requires-clause-read g c κs within = (c.requires.read.0, rw c.in-Ok.is at c.requires.read.1.0)
 
-pub recover-answer-requires-clause-read : goal.recover-answer-requires-clause-read
-recover-answer-requires-clause-read g c κs within = (c.requires.read.0, read_on c.in-Ok-order_store.store c.in-Ok-order_store.ensures.of c.in-Ok-order_store.ensures.ok c.requires.read.0 (rw c.in-Ok.is at c.requires.read.1.0))
+pub recover-requires-clause-read : goal.recover-requires-clause-read
+recover-requires-clause-read g c κs within = (c.requires.read.0, read_on c.in-Ok-order_store.store c.in-Ok-order_store.ensures.of c.in-Ok-order_store.ensures.ok c.requires.read.0 (rw c.in-Ok.is at c.requires.read.1.0))
 
-pub recover-answer-requires-clause-ordered : goal.recover-answer-requires-clause-ordered
-recover-answer-requires-clause-ordered g c κs within = ordered_on c.in-Ok-order_store.store c.in-Ok-order_store.ensures.of c.in-Ok-order_store.ensures.ok
+pub recover-requires-clause-ordered : goal.recover-requires-clause-ordered
+recover-requires-clause-ordered g c κs within = ordered_on c.in-Ok-order_store.store c.in-Ok-order_store.ensures.of c.in-Ok-order_store.ensures.ok
 
 pub returns-in-Err-order_store : goal.returns-in-Err-order_store
 returns-in-Err-order_store g c F read =
@@ -23,4 +23,4 @@ returns-in-Err-order_store g c F read =
 pub returns : goal.returns
 returns g c F read =
     let ordered = c.in-Ok-order_store in
-    recovered ordered.store ordered.ensures.of ordered.ensures.ok F (rw c.in-Ok.is at read.0) c.recover-answer.result c.recover-answer.ensures.ok c.recover-answer.ensures.sound c.recover-answer.ensures.err
+    recovered ordered.store ordered.ensures.of ordered.ensures.ok F (rw c.in-Ok.is at read.0) c.recover.result c.recover.ensures.ok c.recover.ensures.sound c.recover.ensures.err

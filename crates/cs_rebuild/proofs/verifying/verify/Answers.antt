@@ -4,15 +4,12 @@ use Rattle.cs_rebuild.specs.OnStore.{IsStoreOf}
 use Rattle.cs_rebuild.specs.Steps.{AreSound}
 use Rattle.cs_rebuild.specs.declared.ordered_store.OrderedStore.{OrderedStore}
 use Rattle.cs_rebuild.proofs.Verdicts.{memory_or, unordered_rows}
-use Rattle.cs_rebuild.proofs.VerifiedStores.{sound, is_sound, contradiction_is, ordered_on}
+use Rattle.cs_rebuild.proofs.VerifiedStores.{sound, is_sound, contradiction_is}
 use Rattle.cs_rebuild.proofs.verifying.verify.Goals as goal
 
 pub returns-in-Err-clause-err : goal.returns-in-Err-clause-err
 returns-in-Err-clause-err g c F read =
     memory_or _ c.in-Err.ensures.err (unordered_rows c.args.catalog.now F c.args.loss (held_by c.args.survivors.now) read.reads _)
-
-pub verify_files-requires-clause-ordered : goal.verify_files-requires-clause-ordered
-verify_files-requires-clause-ordered g c κs within = ordered_on c.in-Ok.store c.in-Ok.ensures.of c.in-Ok.ensures.ok
 
 pub returns-clause-err : goal.returns-clause-err
 returns-clause-err g c F read =

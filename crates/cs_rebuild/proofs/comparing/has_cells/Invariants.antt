@@ -1,6 +1,6 @@
 use Rattle.cs_schema.specs.Values.{values}
 use Rattle.cs_rebuild.specs.Comparing.{AreAlike}
-use Rattle.cs_rebuild.proofs.comparing.has_each.Given as goal
+use Rattle.cs_rebuild.proofs.comparing.has_cells.Given as goal
 
 -- the cells so far are the same
 abbrev pub invariant-loop-k : goal.invariant-loop-k

@@ -12,7 +12,7 @@ use Rattle.cs_order.specs.Orders.{row_at}
 use Rattle.cs_order.specs.Tables.{table_of}
 use Rattle.cs_recovery.proofs.Exact.{rows_decide}
 use Rattle.cs_rebuild.proofs.Numbers.{decided}
-use Rattle.cs_rebuild.proofs.placed.is_placed_by.Goals as goal
+use Rattle.cs_rebuild.proofs.placed.is_placed.Goals as goal
 
 pub has_rows-requires-clause-kinds : goal.has_rows-requires-clause-kinds
 has_rows-requires-clause-kinds g c = c.in-Some.ensures.kinds ∙ ap (λ (D : CatalogData). kinds_at D c.args.p) c.args.store.now.same
