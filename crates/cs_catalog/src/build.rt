@@ -153,21 +153,23 @@ fn projection_of(
     ensures memory { IfErr result (λ e. e ≡ CatalogFault.Memory) }
 {
     let table = document.columns.as_slice();
-    let cuts = cut_cells(alloc, is_int_column(table, leading(entry)), entry.cuts)?;
     let columns = column_places(alloc, table, &entry.columns)?;
     let codes = codes_of(alloc, &entry.code_numbers)?;
     let sort = column_places(alloc, table, &entry.sort)?;
     let sites = bytes_of(alloc, &entry.site_numbers)?;
     let joins = join_places(alloc, &document.projections, &entry.joins)?;
-    Ok(Projection {
-        name: name_of(entry.name),
-        columns,
-        codes,
-        sort,
-        cuts,
-        sites,
-        joins,
-    })
+    match cut_cells(alloc, is_int_column(table, leading(entry)), entry.cuts) {
+        Ok(cuts) => Ok(Projection {
+            name: name_of(entry.name),
+            columns,
+            codes,
+            sort,
+            cuts,
+            sites,
+            joins,
+        }),
+        Err(fault) => Err(fault),
+    }
 }
 
 fn projections_of(alloc: Global, document: &Document) -> Result<Vec<Projection>, CatalogFault>

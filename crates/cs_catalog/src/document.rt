@@ -198,10 +198,10 @@ fn projection(alloc: Global, value: &Value) -> Result<ProjectionEntry<'_>, Catal
         return Err(CatalogFault::Rule(2));
     };
     let name = text_at(table, "name")?;
+    let cuts = array_at(table, "cuts")?;
     let columns = texts_at(alloc, table, "columns")?;
     let code_numbers = integers_at(alloc, table, "codes")?;
     let sort = texts_at(alloc, table, "sort")?;
-    let cuts = array_at(table, "cuts")?;
     let site_numbers = integers_at(alloc, table, "sites")?;
     let joins = texts_at(alloc, table, "joins")?;
     Ok(ProjectionEntry {

@@ -1,7 +1,7 @@
 //! Which key of a catalog is missing or of another type.
 use crate::document::is_version;
+use crate::problem::{NONE, Part, Problem};
 use std::alloc::{AllocError, Global};
-use std::fmt;
 use toml::{Table, Value};
 
 /// What the value of a key has to be.
@@ -34,27 +34,6 @@ const OF_PROJECTION: [(&str, Wanted); 7] = [
     ("sites", Wanted::Integers),
     ("joins", Wanted::Texts),
 ];
-
-/// What of a tree is missing or of another type. Its text says so.
-#[derive(Clone, Copy)]
-enum Problem {
-    /// A key at the top, and what of it.
-    Key(&'static str, &'static str),
-    /// The item at a place of an array of tables.
-    NoTable(&'static str, usize),
-    /// A key of that item.
-    KeyOf(&'static str, usize, &'static str, &'static str),
-}
-
-impl fmt::Display for Problem {
-    fn fmt<W: fmt::Write>(&self, f: &mut fmt::Formatter<W>) -> fmt::Result {
-        match self {
-            Problem::Key(key, what) => write!(f, "{key} {what}"),
-            Problem::NoTable(list, at) => write!(f, "{list} {at} is no table"),
-            Problem::KeyOf(list, at, key, what) => write!(f, "{list} {at}: {key} {what}"),
-        }
-    }
-}
 
 fn are_texts(value: &Value) -> bool {
     match value.as_array() {
@@ -109,19 +88,30 @@ fn of_item(
     keys: &[(&'static str, Wanted)],
     at: usize,
     value: &Value,
-) -> Option<Problem> {
+) -> Option<Problem<'static>> {
     let Some(table) = value.as_table() else {
-        return Some(Problem::NoTable(list, at));
+        let parts = [Part::Text(list), Part::Count(at), NONE, NONE];
+        return Some(Problem::new("{} {} is no table", parts));
     };
     for (key, wanted) in keys {
         if let Some(what) = of_value(table, key, *wanted) {
-            return Some(Problem::KeyOf(list, at, key, what));
+            let parts = [
+                Part::Text(list),
+                Part::Count(at),
+                Part::Text(key),
+                Part::Text(what),
+            ];
+            return Some(Problem::new("{} {}: {} {}", parts));
         }
     }
     None
 }
 
-fn of_items(table: &Table, list: &'static str, keys: &[(&'static str, Wanted)]) -> Option<Problem> {
+fn of_items(
+    table: &Table,
+    list: &'static str,
+    keys: &[(&'static str, Wanted)],
+) -> Option<Problem<'static>> {
     let items = table.get(list)?.as_array()?;
     for (at, item) in items.as_slice().iter().enumerate() {
         let problem = of_item(list, keys, at, item);
@@ -133,10 +123,11 @@ fn of_items(table: &Table, list: &'static str, keys: &[(&'static str, Wanted)]) 
 }
 
 /// What is wrong with a key at the top or with the tables of its array, if anything is.
-fn of_key(table: &Table, key: &'static str, wanted: Wanted) -> Option<Problem> {
+fn of_key(table: &Table, key: &'static str, wanted: Wanted) -> Option<Problem<'static>> {
     if key != "safety" || is_version(2, table) {
         if let Some(what) = of_value(table, key, wanted) {
-            return Some(Problem::Key(key, what));
+            let parts = [Part::Text(key), Part::Text(what), NONE, NONE];
+            return Some(Problem::new("{} {}", parts));
         }
     }
     match key {
@@ -147,7 +138,7 @@ fn of_key(table: &Table, key: &'static str, wanted: Wanted) -> Option<Problem> {
 }
 
 /// The first key that is missing or has another type, with those of the tables of each array.
-fn first_problem(table: &Table) -> Option<Problem> {
+fn first_problem(table: &Table) -> Option<Problem<'static>> {
     for (key, wanted) in AT_TOP.iter() {
         let problem = of_key(table, key, *wanted);
         if problem.is_some() {
@@ -157,15 +148,24 @@ fn first_problem(table: &Table) -> Option<Problem> {
     None
 }
 
+/// What is wrong with the version of a catalog.
+fn version_problem(table: &Table) -> Problem<'static> {
+    let Some(value) = table.get("version") else {
+        return Problem::said("version is missing");
+    };
+    match value.as_integer() {
+        Some(version) => {
+            let version = Part::Number(version);
+            Problem::of("version is {}, 1 or 2 is wanted", version)
+        }
+        None => Problem::said("version is no integer"),
+    }
+}
+
 /// Which version a catalog lacks.
 pub fn version_words(alloc: Global, table: &Table) -> Result<String, AllocError> {
-    match table.get("version") {
-        None => format!(in alloc; "version is missing"),
-        Some(value) => match value.as_integer() {
-            Some(version) => format!(in alloc; "version is {version}, 1 or 2 is wanted"),
-            None => format!(in alloc; "version is no integer"),
-        },
-    }
+    let problem = version_problem(table);
+    format!(in alloc; "{problem}")
 }
 
 /// The first key that is missing or has another type.

@@ -14,6 +14,7 @@ mod head;
 mod key_problems;
 mod lookups;
 mod names;
+mod problem;
 mod projection_problems;
 mod read;
 mod rules;

@@ -2,60 +2,37 @@
 use crate::cuts::{has_cuts, integer_cut, text_cut};
 use crate::document::{ColumnEntry, Document, ProjectionEntry, is_from_to};
 use crate::lookups::{is_among, is_column, is_int_column, is_projection, leading};
+use crate::problem::{NONE, Part, Problem};
 use crate::rules::may_have_code;
 use std::alloc::{AllocError, Global};
-use std::fmt;
 use toml::Value;
 
-/// What of a projection breaks a rule. Its text says so, without the projection's name.
-#[derive(Clone, Copy)]
-pub enum Problem<'a> {
-    /// A whole list.
-    List(&'static str),
-    /// The length of a list that is too short or too long, or the place of an item, between words.
-    Count(&'static str, usize, &'static str),
-    /// A list that is as long as none that it has to be as long as.
-    Length(&'static str, usize, usize),
-    /// The number at a place of a list, and the greatest that is wanted.
-    Number(&'static str, usize, i64, u8),
-    /// A name that a list has twice.
-    Twice(&'static str, &'a str),
-}
-
-impl fmt::Display for Problem<'_> {
-    fn fmt<W: fmt::Write>(&self, f: &mut fmt::Formatter<W>) -> fmt::Result {
-        match self {
-            Problem::List(words) => f.write_str(words),
-            Problem::Count(before, count, after) => write!(f, "{before}{count}{after}"),
-            Problem::Length(list, found, wanted) => {
-                write!(f, "{list} has {found} numbers, {wanted} are wanted")
-            }
-            Problem::Number(list, at, number, most) => {
-                write!(f, "{list}[{at}] is {number}, 1 to {most} is wanted")
-            }
-            Problem::Twice(list, name) => write!(f, "{list} has {name} twice"),
-        }
-    }
-}
-
-/// The first name that stands before already. The names are some of a few, so this ends early in a list of any length.
-fn repeated<'a>(list: &'static str, names: &[&'a str]) -> Option<Problem<'a>> {
+/// The first name that stands before already, which the text names. The names are some of a few, so this ends early in
+/// a list of any length.
+fn repeated<'a>(text: &'static str, names: &[&'a str]) -> Option<Problem<'a>> {
     for (at, name) in names.iter().enumerate() {
         if is_among(name, &names[..at]) {
-            return Some(Problem::Twice(list, name));
+            return Some(Problem::of(text, Part::Text(name)));
         }
     }
     None
 }
 
-/// A number of a list that is out of its range.
-fn out_of_range(list: &'static str, numbers: &[i64], most: u8) -> Option<Problem<'static>> {
+/// The first number of a list that is out of its range: the text names its place, the number and the greatest wanted.
+fn out_of_range(text: &'static str, numbers: &[i64], most: u8) -> Option<Problem<'static>> {
     for (at, number) in numbers.iter().enumerate() {
         if !is_from_to(1, most, *number) {
-            return Some(Problem::Number(list, at, *number, most));
+            let most = Part::Number(i64::from(most));
+            let parts = [Part::Count(at), Part::Number(*number), most, NONE];
+            return Some(Problem::new(text, parts));
         }
     }
     None
+}
+
+/// A list of another length than is wanted: the text names both.
+fn lengths(text: &'static str, found: usize, wanted: usize) -> Problem<'static> {
+    Problem::new(text, [Part::Count(found), Part::Count(wanted), NONE, NONE])
 }
 
 fn columns_problem<'a>(
@@ -63,35 +40,39 @@ fn columns_problem<'a>(
     projection: &ProjectionEntry<'a>,
 ) -> Option<Problem<'a>> {
     if projection.columns.is_empty() {
-        return Some(Problem::List("columns is empty"));
+        return Some(Problem::said("columns is empty"));
     }
     for (at, name) in projection.columns.iter().enumerate() {
         if !is_column(columns, name) {
-            return Some(Problem::Count("columns[", at, "] is no column of the table"));
+            return Some(Problem::of("columns[{}] is no column of the table", Part::Count(at)));
         }
     }
-    repeated("columns", &projection.columns)
+    repeated("columns has {} twice", &projection.columns)
 }
 
 fn codes_problem(projection: &ProjectionEntry) -> Option<Problem<'static>> {
     let (found, wanted) = (projection.code_numbers.len(), projection.columns.len());
     if found != wanted {
-        return Some(Problem::Length("codes", found, wanted));
+        return Some(lengths("codes has {} numbers, {} are wanted", found, wanted));
     }
-    out_of_range("codes", &projection.code_numbers, 4)
+    out_of_range(
+        "codes[{}] is {}, 1 to {} is wanted",
+        &projection.code_numbers,
+        4,
+    )
 }
 
 fn sort_problem<'a>(projection: &ProjectionEntry<'a>) -> Option<Problem<'a>> {
     let found = projection.sort.len();
     if found < 1 || 4 < found {
-        return Some(Problem::Count("sort has ", found, " names, 1 to 4 are wanted"));
+        return Some(Problem::of("sort has {} names, 1 to 4 are wanted", Part::Count(found)));
     }
     for (at, name) in projection.sort.iter().enumerate() {
         if !is_among(name, &projection.columns) {
-            return Some(Problem::Count("sort[", at, "] is no column of the projection"));
+            return Some(Problem::of("sort[{}] is no column of the projection", Part::Count(at)));
         }
     }
-    repeated("sort", &projection.sort)
+    repeated("sort has {} twice", &projection.sort)
 }
 
 fn differences_problem(
@@ -105,8 +86,8 @@ fn differences_problem(
     );
     for at in 0..names.len().min(codes.len()) {
         if !may_have_code(columns, first, names[at], codes[at]) {
-            let is = "] is 3, which only a first sort column of ints may have";
-            return Some(Problem::Count("codes[", at, is));
+            let text = "codes[{}] is 3, which only a first sort column of ints may have";
+            return Some(Problem::of(text, Part::Count(at)));
         }
     }
     None
@@ -116,19 +97,25 @@ fn differences_problem(
 fn item_of_cuts(of_ints: bool, cuts: &[Value]) -> Problem<'static> {
     for (at, cut) in cuts.iter().enumerate() {
         if of_ints && integer_cut(cut).is_none() {
-            return Problem::Count("cuts[", at, "] is no integer");
+            return Problem::of("cuts[{}] is no integer", Part::Count(at));
         }
         if !of_ints && text_cut(cut).is_none() {
-            return Problem::Count("cuts[", at, "] is no string of at most 255 bytes");
+            return Problem::of(
+                "cuts[{}] is no string of at most 255 bytes",
+                Part::Count(at),
+            );
         }
     }
-    Problem::List("cuts do not ascend")
+    Problem::said("cuts do not ascend")
 }
 
 fn cuts_problem(columns: &[ColumnEntry], projection: &ProjectionEntry) -> Problem<'static> {
     let found = projection.cuts.len();
     if found > 15 {
-        return Problem::Count("cuts has ", found, " items, at most 15 are wanted");
+        return Problem::of(
+            "cuts has {} items, at most 15 are wanted",
+            Part::Count(found),
+        );
     }
     item_of_cuts(is_int_column(columns, leading(projection)), projection.cuts)
 }
@@ -136,10 +123,14 @@ fn cuts_problem(columns: &[ColumnEntry], projection: &ProjectionEntry) -> Proble
 fn sites_problem(sites: i64, projection: &ProjectionEntry) -> Option<Problem<'static>> {
     let (found, cuts) = (projection.site_numbers.len(), projection.cuts.len());
     if found != cuts + 1 {
-        return Some(Problem::Length("sites", found, cuts + 1));
+        return Some(lengths("sites has {} numbers, {} are wanted", found, cuts + 1));
     }
     match u8::try_from(sites) {
-        Ok(most) => out_of_range("sites", &projection.site_numbers, most),
+        Ok(most) => out_of_range(
+            "sites[{}] is {}, 1 to {} is wanted",
+            &projection.site_numbers,
+            most,
+        ),
         Err(_) => None,
     }
 }
@@ -150,13 +141,13 @@ fn joins_problem<'a>(
 ) -> Option<Problem<'a>> {
     for (at, name) in projection.joins.iter().enumerate() {
         if !is_projection(projections, name) {
-            return Some(Problem::Count("joins[", at, "] is no projection"));
+            return Some(Problem::of("joins[{}] is no projection", Part::Count(at)));
         }
     }
     if is_among(projection.name, &projection.joins) {
-        return Some(Problem::List("joins names the projection itself"));
+        return Some(Problem::said("joins names the projection itself"));
     }
-    repeated("joins", &projection.joins)
+    repeated("joins has {} twice", &projection.joins)
 }
 
 /// What of a projection breaks a rule from 7 to 13, if anything does. The document keeps the rules before it.
