@@ -5,7 +5,7 @@ ghost use Rattle.cs_commands.specs.declared.program.Answer.{Answer};
 ghost use Rattle.cs_parallel_io.specs.Standing.{standing};
 
 use crate::places::Places;
-use crate::request::{Recovery, Request, WordsFault, parse};
+use crate::request::{DEFAULT_CUT, ONE_WORKER, Recovery, Request, WordsFault, parse};
 use crate::sample;
 use crate::stop::{DEVICE, DONE, Stop, report};
 use cs_catalog::read_catalog;
@@ -18,12 +18,6 @@ use std::fmt;
 use std::io::Write;
 use std::marker::Sync;
 use std::thread::Threads;
-
-/// The workers of a command that is given no number of them.
-const ONE_WORKER: u32 = 1;
-
-/// The rows of a piece of work, for a command that is given no number of them.
-const DEFAULT_CUT: u32 = 65_536;
 
 /// What a command did. Its text is what standard output gets.
 #[derive(Drop)]

@@ -1,10 +1,17 @@
 //! What the words of the command line ask for.
 ghost use Rattle.std.specs.Prelude.{◌≤◌};
 
+use clap::builder::ValueParser;
 use clap::error::ErrorKind;
-use clap::{Arg, ArgAction, ArgMatches, Command, value_parser};
+use clap::{Arg, ArgMatches, Command};
 use cs_schema::Loss;
 use std::alloc::Global;
+
+/// The workers of a command that is given no number of them.
+pub const ONE_WORKER: u32 = 1;
+
+/// The rows of a piece of work, for a command that is given no number of them.
+pub const DEFAULT_CUT: u32 = 65_536;
 
 /// A command, with its arguments.
 #[derive(Drop)]
@@ -71,65 +78,69 @@ fn words_fault(e: &clap::Error) -> WordsFault {
     }
 }
 
+/// What an argument of a command takes.
+#[derive(Clone, Copy)]
+enum ValueKind {
+    Folder,
+    /// A number from the first to the second.
+    Number(i64, i64),
+    /// The same, of an option.
+    Setting(i64, i64),
+    /// One or more sites, each a word.
+    Sites,
+}
+
+/// `check K STORE`.
+const CHECK: &[(&str, ValueKind)] = &[
+    ("k", ValueKind::Number(0, 255)),
+    ("store", ValueKind::Folder),
+];
+
+/// `recover [--workers N] [--cut R] STORE OUT SITE...`.
+const RECOVER: &[(&str, ValueKind)] = &[
+    ("workers", ValueKind::Setting(1, 64)),
+    ("cut", ValueKind::Setting(1, 1_048_576)),
+    ("store", ValueKind::Folder),
+    ("output", ValueKind::Folder),
+    ("sites", ValueKind::Sites),
+];
+
+fn with_kind<'a>(arg: Arg<'a>, id: &'a str, kind: ValueKind) -> Arg<'a> {
+    match kind {
+        ValueKind::Folder => arg.required(true),
+        ValueKind::Number(least, most) => arg
+            .required(true)
+            .value_parser(ValueParser::Signed(least, most)),
+        ValueKind::Setting(least, most) => {
+            arg.long(id).value_parser(ValueParser::Signed(least, most))
+        }
+        ValueKind::Sites => arg
+            .required(true)
+            .num_args(1..)
+            .value_parser(ValueParser::Signed(1, 16)),
+    }
+}
+
 /// The two commands.
 fn commands<'a>(alloc: Global) -> Result<Command<'a>, clap::Error> {
     let command = Command::new(alloc, "cs_cli")
         .no_binary_name(true)
         .subcommand_required(true)
-        .subcommand(check_command(alloc)?)?
-        .subcommand(recover_command(alloc)?)?;
+        .subcommand(command_of(alloc, "check", CHECK)?)?
+        .subcommand(command_of(alloc, "recover", RECOVER)?)?;
     Ok(command)
 }
 
-/// `check K STORE`.
-fn check_command<'a>(alloc: Global) -> Result<Command<'a>, clap::Error> {
-    let command = Command::new(alloc, "check")
-        .arg(k_argument(alloc))?
-        .arg(folder_argument(alloc, "store"))?;
+fn command_of<'a>(
+    alloc: Global,
+    name: &'a str,
+    arguments: &[(&'a str, ValueKind)],
+) -> Result<Command<'a>, clap::Error> {
+    let mut command = Command::new(alloc, name);
+    for (id, kind) in arguments {
+        command = command.arg(with_kind(Arg::new(alloc, *id), *id, *kind))?;
+    }
     Ok(command)
-}
-
-/// `recover [--workers N] [--cut R] STORE OUT SITE...`.
-fn recover_command<'a>(alloc: Global) -> Result<Command<'a>, clap::Error> {
-    let command = Command::new(alloc, "recover")
-        .arg(workers_argument(alloc))?
-        .arg(cut_argument(alloc))?
-        .arg(folder_argument(alloc, "store"))?
-        .arg(folder_argument(alloc, "output"))?
-        .arg(site_argument(alloc))?;
-    Ok(command)
-}
-
-fn k_argument<'a>(alloc: Global) -> Arg<'a> {
-    Arg::new(alloc, "k")
-        .required(true)
-        .value_parser(value_parser!(u8))
-}
-
-fn folder_argument<'a>(alloc: Global, name: &'a str) -> Arg<'a> {
-    Arg::new(alloc, name).required(true)
-}
-
-fn workers_argument<'a>(alloc: Global) -> Arg<'a> {
-    Arg::new(alloc, "workers")
-        .long("workers")
-        .value_parser(value_parser!(u32).range(1..=64))
-        .default_value("1")
-}
-
-fn cut_argument<'a>(alloc: Global) -> Arg<'a> {
-    Arg::new(alloc, "cut")
-        .long("cut")
-        .value_parser(value_parser!(u32).range(1..=1_048_576))
-        .default_value("65536")
-}
-
-fn site_argument<'a>(alloc: Global) -> Arg<'a> {
-    Arg::new(alloc, "site")
-        .required(true)
-        .action(ArgAction::Append)
-        .num_args(1..)
-        .value_parser(value_parser!(u8).range(1..=16))
 }
 
 /// The arguments of `check`, if all are there.
@@ -141,8 +152,8 @@ fn check_of<'a>(found: &ArgMatches<'a>) -> Option<Request<'a>> {
 
 /// The arguments of `recover`, if all are there and within their limits.
 fn recover_of<'a>(found: &ArgMatches<'a>) -> Option<Request<'a>> {
-    let workers = found.get_one::<u32>("workers")?;
-    let cut = found.get_one::<u32>("cut")?;
+    let workers = found.get_one::<u32>("workers").unwrap_or(ONE_WORKER);
+    let cut = found.get_one::<u32>("cut").unwrap_or(DEFAULT_CUT);
     let store = found.get_str("store")?;
     let output = found.get_str("output")?;
     let loss = loss_of(found)?;
@@ -161,7 +172,7 @@ fn recover_of<'a>(found: &ArgMatches<'a>) -> Option<Request<'a>> {
 /// The sites, if each is a site's number. One may stand more than once.
 fn loss_of(found: &ArgMatches<'_>) -> Option<Loss> {
     let mut loss = Loss::none();
-    for site in found.get_many::<u8>("site")? {
+    for site in found.get_many::<u8>("sites")? {
         match site {
             Ok(site) if (1..=16).contains(&site) => loss = loss.with(site),
             _ => return None,
