@@ -1,7 +1,7 @@
 //! Faults of a store in words: the file and its site, what is wrong, and what to do next.
 use crate::columns::LostColumns;
-use crate::placed::{SitedFile, site_of};
-use cs_schema::{Catalog, FileName, Loss, Safety};
+use crate::placed::site_of;
+use cs_schema::{Catalog, Loss, Safety};
 use cs_store::Fault;
 use std::fmt;
 
@@ -12,90 +12,102 @@ pub struct FaultWords<'a> {
     pub fault: &'a Fault,
 }
 
-/// Why a loss is not safe.
+/// What the text of a fault names beside the fault.
 #[derive(Clone, Copy)]
-struct UnsafeWords<'a> {
-    catalog: &'a Catalog,
-    loss: Loss,
+enum Part<'a> {
+    Lost(LostColumns<'a>),
+    SiteCount(u8),
+    Site(Option<u8>),
 }
 
-impl fmt::Display for UnsafeWords<'_> {
+impl fmt::Display for Part<'_> {
     fn fmt<W: fmt::Write>(&self, f: &mut fmt::Formatter<W>) -> fmt::Result {
-        let (catalog, loss) = (self.catalog, self.loss);
-        let lost = LostColumns { catalog, loss };
-        match catalog.safety {
-            Safety::Whole if lost.is_empty() => {
-                f.write_str("no surviving projection reaches every column by joins")
-            }
-            Safety::Whole => write!(f, "no surviving projection has {lost}"),
-            Safety::Rows if lost.is_empty() => {
-                f.write_str("from some rows no surviving projection reaches every column by joins")
-            }
-            Safety::Rows => write!(f, "some rows have {lost} on lost sites alone"),
+        match self {
+            Part::Lost(lost) => write!(f, "{lost}"),
+            Part::SiteCount(count) => write!(f, "{count}"),
+            Part::Site(Some(site)) => write!(f, "site {site}"),
+            Part::Site(None) => f.write_str("no site"),
         }
     }
 }
 
-/// A segment's site, in words.
-#[derive(Clone, Copy)]
-struct AtSite<'a> {
-    catalog: &'a Catalog,
-    p: u16,
-    s: u16,
+/// Writes a text with a part in place of its first `{}`.
+fn fill<W: fmt::Write, T: fmt::Display>(
+    f: &mut fmt::Formatter<W>,
+    text: &str,
+    part: &T,
+) -> fmt::Result {
+    match text.split_once("{}") {
+        Some((before, after)) => write!(f, "{before}{part}{after}"),
+        None => f.write_str(text),
+    }
 }
 
-impl fmt::Display for AtSite<'_> {
-    fn fmt<W: fmt::Write>(&self, f: &mut fmt::Formatter<W>) -> fmt::Result {
-        match site_of(self.catalog, self.p, self.s) {
-            Some(site) => write!(f, "site {site}"),
-            None => f.write_str("no site"),
+/// Why a loss is not safe that takes some columns, or none.
+fn unsafe_text(safety: Safety, takes_columns: bool) -> &'static str {
+    match (safety, takes_columns) {
+        (Safety::Whole, true) => ": no surviving projection has {}",
+        (Safety::Whole, false) => ": no surviving projection reaches every column by joins",
+        (Safety::Rows, true) => ": some rows have {} on lost sites alone",
+        (Safety::Rows, false) => {
+            ": from some rows no surviving projection reaches every column by joins"
         }
     }
 }
 
-impl FaultWords<'_> {
-    /// What is wrong with the rows or entries of a segment, which another segment's file may be to blame for.
-    fn write_segment<W: fmt::Write>(
-        &self,
-        f: &mut fmt::Formatter<W>,
-        p: u16,
-        s: u16,
-        wrong: &str,
-    ) -> fmt::Result {
-        let fault = self.fault;
-        let at = AtSite {
-            catalog: self.catalog,
-            p,
-            s,
-        };
-        write!(
-            f,
-            "{fault} ({at}): {wrong}; the culprit may stand elsewhere"
-        )
+/// What follows the words of a fault, if it is not that a loss is unsafe.
+fn fault_text(fault: &Fault) -> &'static str {
+    match fault {
+        Fault::Site => ", which has {}",
+        Fault::Missing(_) | Fault::Damaged(_) | Fault::Read(_) => " ({})",
+        Fault::Twice => ": a key twice, two rows have one; the culprit may stand on any site",
+        Fault::Astray { .. } => {
+            " ({}): a dangling entry, a join index leads from this row to no row; the culprit may stand elsewhere"
+        }
+        Fault::Full { .. } => {
+            " ({}): a range too full for one segment; the culprit may stand elsewhere"
+        }
+        Fault::Misplaced { .. } => {
+            " ({}): rows out of place, it has not the rows of its range in their order; the culprit may stand elsewhere"
+        }
+        Fault::Misled { .. } => {
+            " ({}): a join index that leads elsewhere; the culprit may stand elsewhere"
+        }
+        _ => "",
     }
+}
 
-    /// What is wrong between files.
-    fn write_between<W: fmt::Write>(&self, f: &mut fmt::Formatter<W>) -> fmt::Result {
+/// The segment that a fault is about.
+fn segment_of(fault: &Fault) -> Option<(u16, u16)> {
+    match fault {
+        Fault::Missing(name) | Fault::Damaged(name) | Fault::Read(name) => {
+            Some((name.projection(), name.segment()))
+        }
+        Fault::Astray { p, s, .. } | Fault::Misled { p, s, .. } => Some((*p, *s)),
+        Fault::Full { p, s } | Fault::Misplaced { p, s } => Some((*p, *s)),
+        _ => None,
+    }
+}
+
+/// The site of the segment that a fault is about.
+fn fault_site(catalog: &Catalog, fault: &Fault) -> Option<u8> {
+    let (p, s) = segment_of(fault)?;
+    site_of(catalog, p, s)
+}
+
+impl<'a> FaultWords<'a> {
+    /// What follows the words of the fault, and what it names.
+    fn end(&self) -> (&'static str, Part<'a>) {
+        let catalog = self.catalog;
         match self.fault {
-            Fault::Astray { p, s, .. } => self.write_segment(
-                f,
-                *p,
-                *s,
-                "a dangling entry, a join index leads from this row to no row",
-            ),
-            Fault::Full { p, s } => {
-                self.write_segment(f, *p, *s, "a range too full for one segment")
+            Fault::Unsafe(loss) => {
+                let loss = *loss;
+                let lost = LostColumns { catalog, loss };
+                let text = unsafe_text(catalog.safety, !lost.is_empty());
+                (text, Part::Lost(lost))
             }
-            Fault::Misplaced { p, s } => self.write_segment(
-                f,
-                *p,
-                *s,
-                "rows out of place, it has not the rows of its range in their order",
-            ),
-            Fault::Misled { p, s, .. } => {
-                self.write_segment(f, *p, *s, "a join index that leads elsewhere")
-            }
-            fault => write!(f, "{fault}"),
+            Fault::Site => (fault_text(self.fault), Part::SiteCount(catalog.sites)),
+            fault => (fault_text(fault), Part::Site(fault_site(catalog, fault))),
         }
     }
 }
@@ -103,41 +115,9 @@ impl FaultWords<'_> {
 impl fmt::Display for FaultWords<'_> {
     fn fmt<W: fmt::Write>(&self, f: &mut fmt::Formatter<W>) -> fmt::Result {
         let fault = self.fault;
-        let catalog = self.catalog;
-        match fault {
-            Fault::Site => {
-                let sites = catalog.sites;
-                write!(f, "{fault}, which has {sites}")
-            }
-            Fault::Unsafe(loss) => {
-                let words = UnsafeWords {
-                    catalog,
-                    loss: *loss,
-                };
-                write!(f, "{fault}: {words}")
-            }
-            Fault::Missing(name) => {
-                let at = AtSite {
-                    catalog,
-                    p: name.projection(),
-                    s: name.segment(),
-                };
-                write!(f, "{fault} ({at})")
-            }
-            Fault::Damaged(name) | Fault::Read(name) => {
-                let at = AtSite {
-                    catalog,
-                    p: name.projection(),
-                    s: name.segment(),
-                };
-                write!(f, "{fault} ({at})")
-            }
-            Fault::Twice => write!(
-                f,
-                "{fault}: a key twice, two rows have one; the culprit may stand on any site"
-            ),
-            _ => self.write_between(f),
-        }
+        let (text, part) = self.end();
+        write!(f, "{fault}")?;
+        fill(f, text, &part)
     }
 }
 
@@ -164,19 +144,6 @@ impl fmt::Display for SiteWords {
     }
 }
 
-impl Next<'_> {
-    /// The recovery that is wanted where a file is bad.
-    fn write_recovery<W: fmt::Write>(
-        &self,
-        f: &mut fmt::Formatter<W>,
-        name: FileName,
-    ) -> fmt::Result {
-        let site = site_of(self.catalog, name.projection(), name.segment());
-        let sites = SiteWords(with_site(self.lost, site));
-        write!(f, "pinepolo recover STORE OUT{sites}")
-    }
-}
-
 /// A loss, with one more site where there is one.
 pub fn with_site(loss: Loss, site: Option<u8>) -> Loss {
     match site {
@@ -185,21 +152,26 @@ pub fn with_site(loss: Loss, site: Option<u8>) -> Loss {
     }
 }
 
+/// What to do next after a fault, with the sites to recover in place of `{}`.
+fn next_text(fault: &Fault) -> &'static str {
+    match fault {
+        Fault::Memory => "run it with fewer workers, or with more memory",
+        Fault::Site | Fault::Unsafe(_) | Fault::BadK => {
+            "pinepolo design STORE prints the sites, and which must not be lost"
+        }
+        Fault::Missing(_) | Fault::Damaged(_) => "pinepolo recover STORE OUT{}",
+        Fault::Read(_) => {
+            "see that it is a regular file, that may be read, and no longer than its catalog allows"
+        }
+        Fault::Write(_) => "see that the disk has room, remove OUT, and run it again",
+        _ => "pinepolo diagnose STORE",
+    }
+}
+
 impl fmt::Display for Next<'_> {
     fn fmt<W: fmt::Write>(&self, f: &mut fmt::Formatter<W>) -> fmt::Result {
-        match self.fault {
-            Fault::Memory => f.write_str("run it with fewer workers, or with more memory"),
-            Fault::Site | Fault::Unsafe(_) | Fault::BadK => {
-                f.write_str("pinepolo design STORE prints the sites, and which must not be lost")
-            }
-            Fault::Missing(name) | Fault::Damaged(name) => self.write_recovery(f, *name),
-            Fault::Read(_) => f.write_str(
-                "see that it is a regular file, that may be read, and no longer than its catalog allows",
-            ),
-            Fault::Write(_) => {
-                f.write_str("see that the disk has room, remove OUT, and run it again")
-            }
-            _ => f.write_str("pinepolo diagnose STORE"),
-        }
+        let site = fault_site(self.catalog, self.fault);
+        let sites = SiteWords(with_site(self.lost, site));
+        fill(f, next_text(self.fault), &sites)
     }
 }
