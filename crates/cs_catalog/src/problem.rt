@@ -50,7 +50,7 @@ impl<'a> Problem<'a> {
         Problem::new(text, [part, NONE, NONE, NONE])
     }
 
-    /// The same, said of the projection with this name.
+    /// The problem, said of the projection with this name.
     pub fn in_projection(mut self, name: &'a str) -> Problem<'a> {
         self.projection = Some(name);
         self
