@@ -84,7 +84,7 @@ enum ValueKind {
     Folder,
     /// A number from the first to the second.
     Number(i64, i64),
-    /// The same, of an option.
+    /// An option with a number from the first to the second.
     Setting(i64, i64),
     /// One or more sites, each a word.
     Sites,
