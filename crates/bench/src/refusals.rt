@@ -18,7 +18,7 @@ use recoveries::{CITIES_STORE, JOINED_STORE, ONE_LOST, THREE_STORE};
 use std::thread::Threads;
 
 /// Each call, with numbers of workers that it is tried with.
-const CALLS: [(&str, u32); 19] = [
+const CALLS: [(&str, u32); 20] = [
     ("read-catalog", 1),
     ("rebuild-one-lost", 1),
     ("rebuild-one-lost", 2),
@@ -38,6 +38,7 @@ const CALLS: [(&str, u32); 19] = [
     ("walk-rows", 1),
     ("append", 1),
     ("once", 1),
+    ("join-once", 1),
 ];
 
 /// Makes the inputs of a call, then so many allocations, then the call.
@@ -61,7 +62,8 @@ fn make_call(
         "squares-refused" => Ok(squares::refused(rt, workers, before)),
         "walk-rows" => walks::walk(rt.alloc(), before),
         "append" => walks::append(rt.alloc(), before),
-        "once" => walks::once(rt, before),
+        "once" => walks::once(rt.alloc(), before),
+        "join-once" => walks::join(rt, before),
         _ => Err(anyhow!("no such call")),
     }
 }

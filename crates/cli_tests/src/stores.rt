@@ -41,7 +41,7 @@ pub fn three_projections(alloc: Global) -> Result<Stored, Fail> {
     whole(alloc, THREE_PROJECTIONS, &ORDER_PARTS)
 }
 
-/// The same store, safe by rows.
+/// The store of `three_projections`, safe by rows.
 pub fn three_projections_by_rows(alloc: Global) -> Result<Stored, Fail> {
     let mut stored = three_projections(alloc)?;
     stored.catalog = catalog_of(alloc, THREE_PROJECTIONS, BY_ROWS)?;

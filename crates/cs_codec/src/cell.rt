@@ -35,7 +35,7 @@ pub trait Cell: Ord + Drop {
         ensures found { IfSome result (λ found. StandsAt bytes is_cell text.now at found.0 found.1) }
         ensures none { IfNone result (NoneStandsAt bytes is_cell text.now at) };
 
-    /// The same cell once more.
+    /// A copy of the cell.
     fn copy(&self) -> Self
         ensures { result ≡ self.now };
 

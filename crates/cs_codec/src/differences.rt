@@ -68,7 +68,7 @@ impl DifferencesPart {
             .reserve((self.count as usize).saturating_mul(parts as usize))
     }
 
-    /// The same, apart, so that a part of one integer stays small.
+    /// The part of these cells, in a function of its own so that a part of one integer stays small.
     #[inline(never)]
     fn of_many(alloc: Global, cells: &[i64]) -> Result<DifferencesPart, AllocError>
         requires { NeverFallsShort cells.now }
@@ -173,7 +173,7 @@ fn add_gaps(gaps: &mut Vec<u64>, others: &[u64]) -> Result<(), AllocError>
     add_some_gaps(gaps, others)
 }
 
-/// The same, apart, so that adding none stays small.
+/// Appends gaps, in a function of its own so that adding none stays small.
 #[inline(never)]
 fn add_some_gaps(gaps: &mut Vec<u64>, others: &[u64]) -> Result<(), AllocError>
     ensures { OnOk result (gaps.new.items ≡ gaps.old.items ++ others.now) }

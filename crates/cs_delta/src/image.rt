@@ -140,7 +140,7 @@ fn say_nothing(layers: &[Layer]) -> bool
     true
 }
 
-/// The same segment once more.
+/// A copy of a segment.
 fn copy_of(alloc: Global, segment: &Segment) -> Result<Segment, AllocError>
     ensures { IfOk result (λ copy. copy ≡ segment.now) }
 {

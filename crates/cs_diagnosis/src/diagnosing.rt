@@ -153,7 +153,7 @@ pub fn diagnose<R: Threads + Sync, G: Progress + Sync>(
     }
 }
 
-/// The same, of a store of which some file is damaged: each file is looked at by itself.
+/// Diagnoses a store with a damaged file: each file is looked at by itself.
 fn diagnose_damaged<R: Threads + Sync, G: Progress + Sync>(
     run: &Run<'_, R, G>,
     catalog: &Catalog,

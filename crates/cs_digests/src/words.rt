@@ -5,7 +5,7 @@ ghost use Rattle.sha2.specs.Sha256.{add32, big_sigma0, big_sigma1, ch, maj, smal
 
 use std::simd::u32x4;
 
-/// The same word for each message.
+/// One word for all messages.
 #[inline(always)]
 pub fn all(word: u32) -> u32x4
     ensures { (j : ℕ) → j < 4 → slice_index result j ≡ word }

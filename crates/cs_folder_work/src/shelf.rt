@@ -52,7 +52,7 @@ impl<R: Files + Copy + Drop> FolderShelf<R> {
         })
     }
 
-    /// The same store, whose folder was taken so. What is known to change may have been given new bytes already. Of these
+    /// This store with its folder taken. What is known to change may have been given new bytes already. Of these
     /// names, which ascend, the digests of what is read are kept for the journal.
     pub fn taken_by(self, taken: Taken, noted: Vec<FileName>) -> Self {
         let has_kept = taken.record.keeps_any();

@@ -57,7 +57,7 @@ pub struct RowWidth {
 /// How many bytes each file of a store may have.
 #[derive(Clone, Copy, Debug, PartialEq, Eq)]
 pub enum FileLimits {
-    /// The same number under each name.
+    /// One number for all names.
     Fixed,
     /// What the greatest file has that a catalog of such rows allows.
     Catalog([RowWidth; PROJECTIONS]),

@@ -22,7 +22,7 @@ pub fn read_bounded<F: Read>(alloc: Global, file: &mut F, limit: u64) -> Result<
     read_into(Vec::new(alloc), file, limit)
 }
 
-/// The same, into a list of no bytes that may have room for them.
+/// Reads a file of at most so many bytes into an empty list, which may have room for them.
 fn read_into<F: Read>(room: Vec<u8>, file: &mut F, limit: u64) -> Result<Vec<u8>, StoreFault>
     requires limit { limit < 2 ^ 63 }
     requires empty { room.items ≡ [] }

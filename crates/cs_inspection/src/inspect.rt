@@ -51,7 +51,7 @@ pub fn bad_files<R: Threads>(
     bad_survivors(rt, alloc, catalog, files, unreadable, Loss::none())
 }
 
-/// As `bad_files`, of the files that survive a loss alone. No file of a lost site is looked at.
+/// The bad files among those that survive a loss. No file of a lost site is looked at.
 pub fn bad_survivors<R: Threads>(
     rt: &R,
     alloc: Global,

@@ -17,8 +17,7 @@ use std::alloc::{AllocError, Global};
 use std::marker::Sync;
 use std::thread::Threads;
 
-/// As `load`, from a source that is read side by side: the files that survive the loss, without those that the source doesn't
-/// have.
+/// Loads the files that survive the loss from a source that is read side by side, without those that the source doesn't have.
 ///
 /// `Read` names the first file, in the order of names, at which the device failed.
 pub fn load_side_by_side<R: Threads + Sync, S: SharedSource>(
@@ -39,8 +38,8 @@ pub fn load_side_by_side<R: Threads + Sync, S: SharedSource>(
     }
 }
 
-/// As `load_readable`, from a source that is read side by side: the files that survive the loss and can be read, without
-/// those that the source doesn't have.
+/// Loads the files that survive the loss and can be read from a source that is read side by side, without those that the
+/// source doesn't have.
 ///
 /// No unreadable name stands in the files.
 pub fn load_readable_side_by_side<R: Threads + Sync, S: SharedSource>(

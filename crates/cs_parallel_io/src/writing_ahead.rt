@@ -86,7 +86,7 @@ impl<K: BatchSink> Sink for Ahead<K> {
     }
 }
 
-/// As `save`, where the files are written side by side: after a refusal, more than one may stand in part, and more than those
+/// Saves files side by side: after a refusal, more than one may stand in part, and more than those
 /// before the one that is named.
 pub fn save_batch<R: Threads + Sync, K: BatchSink + Drop>(
     rt: &R,

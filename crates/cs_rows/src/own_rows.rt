@@ -84,7 +84,7 @@ impl RowWalk<'_> {
         Ok(())
     }
 
-    /// The same from the rows of a segment, from the first number up to the second.
+    /// Follows the rows of a segment, from the first number up to the second.
     fn follow_segment(
         &self,
         segment: (u16, u16),
@@ -109,7 +109,7 @@ impl RowWalk<'_> {
         Ok(())
     }
 
-    /// As `walk_segment`, of a projection that has every column of the table: each row is full by itself.
+    /// Walks a segment of a projection that has every column of the table: each row is full by itself.
     pub(crate) fn walk_own_rows(
         &self,
         segment: (u16, u16),

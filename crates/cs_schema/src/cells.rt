@@ -30,7 +30,7 @@ impl Value {
         }
     }
 
-    /// The same cell once more.
+    /// A copy of the cell.
     pub fn copy(&self) -> Value
         ensures { result ≡ self.now }
     {

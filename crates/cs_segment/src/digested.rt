@@ -81,7 +81,7 @@ impl DigestedText {
         self.text.extend_from_slice(bytes)
     }
 
-    /// The same, while the digest takes them.
+    /// Appends bytes while the digest takes them.
     pub fn extend_beside<R: Threads>(&mut self, rt: &R, bytes: &[u8]) -> Result<(), AllocError>
         ensures { OnOk result (self.new ≡ self.old ++ bytes.now) }
     {

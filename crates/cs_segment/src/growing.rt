@@ -169,8 +169,8 @@ impl GrowingFile {
         self.front.extend(text)
     }
 
-    /// As `push`, of a text that stands in pieces, one after the other, while the digest takes each. Each is let go of once it
-    /// is put.
+    /// Pushes a column whose text stands in pieces, one after the other, while the digest takes each. Each is let go of once
+    /// it is put.
     pub fn push_pieces<R: Threads>(
         &mut self,
         rt: &R,
@@ -188,7 +188,7 @@ impl GrowingFile {
         put_pieces_beside(rt, &mut self.front, text)
     }
 
-    /// As `push`, of a text that stands in pieces, one after the other. They wait, and no byte of them is looked at until the
+    /// Pushes a column whose text stands in pieces, one after the other. They wait, and no byte of them is looked at until the
     /// next push or the end.
     pub fn put_pieces(
         &mut self,

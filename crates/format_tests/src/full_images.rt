@@ -31,11 +31,11 @@ const FULL: &[u8] = b"CSSEG001\0\0\0\0\0\x10\0\0\0\x01\
 const ONE_MORE: &[u8] = b"CSDEL001\0\0\0\0\0\x10\0\0\0\x10\0\x01\0\0\0\x01\
 \x01\0\0\0\0\0\x10\0\x01\0\0\0\0\0\0\0\x07";
 
-/// The same row in the place of what was the first, without the digest.
+/// The row of `ONE_MORE` in the place of what was the first, without the digest.
 const ANOTHER: &[u8] = b"CSDEL001\0\0\0\0\0\x10\0\0\0\x10\0\x01\0\0\0\x02\
 \x01\0\0\0\0\0\x10\0\x01\0\0\0\0\0\0\0\x07\x02\0\0\0\0";
 
-/// The same in a first layer of two, of which the second adds a row with key 1,048,578, without the digest.
+/// The row of `ANOTHER` in a first layer of two, of which the second adds a row with key 1,048,578, without the digest.
 const ONE_MORE_AGAIN: &[u8] = b"CSDEL002\0\0\0\0\0\x10\0\0\0\x10\0\x02\x02\0\0\0\x02\
 \x01\0\0\0\0\0\x10\0\x01\0\0\0\0\0\0\0\x07\x02\0\0\0\0\0\0\0\x01\
 \x01\0\0\0\0\0\x10\0\x02\0\0\0\0\0\0\0\x07";

@@ -10,10 +10,10 @@ use std::alloc::{AllocError, Global};
 /// The texts a, a, b, plain.
 const PLAIN: &[u8] = &[1, 97, 1, 97, 1, 98];
 
-/// The same in runs.
+/// The cells of `PLAIN` in runs.
 const RUNS: &[u8] = &[1, 97, 0, 0, 0, 1, 0, 0, 0, 2, 1, 98, 0, 0, 0, 3, 0, 0, 0, 1];
 
-/// The same in bitmaps.
+/// The cells of `PLAIN` in bitmaps.
 const BITMAPS: &[u8] = &[
     1, 97, 0, 0, 0, 2, 0, 0, 0, 0, 0, 0, 0, 2, 1, 98, 0, 0, 0, 2, 0, 0, 0, 2, 0, 0, 0, 1,
 ];

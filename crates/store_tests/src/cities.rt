@@ -48,7 +48,7 @@ const LOST: [Written; 4] = [
     ),
 ];
 
-/// The same where a row of the first projection is deleted: its key leads nowhere, the keys after it stay.
+/// What the loss costs if a row of the first projection is deleted: its key leads nowhere, the keys after it stay.
 const LOST_WITH_A_DEAD_KEY: [Written; 4] = [
     (
         JOIN,

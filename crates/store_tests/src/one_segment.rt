@@ -72,7 +72,7 @@ const FIRST_DELETED: Delta = Delta {
     items: b"\0\0\0\x01\x02\0\0\0\0",
 };
 
-/// The same in a first layer; a second one gives the row that is now the first the cell 15.
+/// The first row is deleted in a first layer; a second one gives the row that is now the first the cell 15.
 const THEN_CHANGED: Delta = Delta {
     version: 2,
     rows: 4,

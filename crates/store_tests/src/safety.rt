@@ -12,7 +12,7 @@ fn whole(rt: &(impl Abort + AllocGlobal), text: &str) -> Catalog {
     read_catalog(rt.alloc(), text.as_bytes()).expect(rt, "a catalog")
 }
 
-/// The same catalog, which is safe where rows are.
+/// The catalog, safe by rows.
 fn by_rows(rt: &(impl Abort + AllocGlobal), text: &str) -> Catalog {
     let text = edited(rt.alloc(), text, BY_ROWS).expect(rt, "memory");
     whole(rt, text.as_str())

@@ -12,7 +12,7 @@ pub fn put_all(alloc: Global, files: &mut FileSet, others: &FileSet) -> Result<(
     Ok(())
 }
 
-/// The same files.
+/// A copy of the files.
 pub fn copy_of(alloc: Global, files: &FileSet) -> Result<FileSet, AllocError> {
     let mut copy = FileSet::new(alloc)?;
     put_all(alloc, &mut copy, files)?;

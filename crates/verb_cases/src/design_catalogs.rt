@@ -37,7 +37,7 @@ pub fn catalog_text(alloc: Global, name: &str) -> Result<String> {
     }
 }
 
-/// The same catalog, safe by rows.
+/// The catalog, safe by rows.
 fn by_rows(alloc: Global, text: &str) -> Result<String> {
     let rest = text
         .strip_prefix("version = 1\n")

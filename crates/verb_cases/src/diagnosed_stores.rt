@@ -16,7 +16,7 @@ fn tell_stale<R: Threads + Sync + AllocGlobal + Print>(rt: &R, by_rows: bool) ->
     Ok(())
 }
 
-/// The same damage by one rule of safety or the other.
+/// Damage by one rule of safety or the other.
 fn tell_damage<R: Threads + Sync + AllocGlobal + Print>(rt: &R, by_rows: bool) -> Result<()> {
     let lost_and_stale = [Change::Lost(5), Change::Stale(1)];
     let case = three("a lost site beside a stale one", by_rows, &lost_and_stale);

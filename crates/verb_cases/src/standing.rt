@@ -23,7 +23,7 @@ pub struct Standing {
     pub undoable: Vec<Undoable>,
 }
 
-/// The same files once more.
+/// A copy of the files.
 pub fn copy_files(alloc: Global, files: &FileSet) -> Result<FileSet, AllocError>
     ensures { IfOk result (λ copy. copy ≡ files.now) }
 {

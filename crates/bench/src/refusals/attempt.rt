@@ -44,7 +44,7 @@ impl Report {
         Report::Made(answer, allocate(alloc, LIMIT))
     }
 
-    /// The same answer, or `Changed` where an input was.
+    /// This report, or `Changed` if an input was changed.
     pub fn unless_changed(self, same: bool) -> Report {
         match self {
             Report::Made(_, after) => {

@@ -37,7 +37,7 @@ const WALKED: [[i64; 2]; 7] = [
 /// More rows than there are.
 const ALL: usize = 8;
 
-/// The same without a key's later rows.
+/// The rows of `WALKED` without the later rows of a key.
 const ONCE: [[i64; 2]; 4] = [[3, 20], [4, 10], [1, 30], [2, 10]];
 
 /// What survives of a store.
@@ -170,7 +170,7 @@ pub fn walk(alloc: Global, before: u64) -> Result<Report> {
 }
 
 /// Joins the rows of two parts of the walk without the later rows of each key. The parts are then as they were.
-pub fn once(rt: &(impl AllocGlobal + Threads + Sync), before: u64) -> Result<Report> {
+pub fn join(rt: &(impl AllocGlobal + Threads + Sync), before: u64) -> Result<Report> {
     let alloc = rt.alloc();
     let catalog = three_projections(alloc)?;
     let rows = Rows::of(alloc, &catalog)?;
@@ -190,6 +190,24 @@ pub fn once(rt: &(impl AllocGlobal + Threads + Sync), before: u64) -> Result<Rep
     let same = shows(&pieces[0], rows.catalog(), &WALKED[..3])
         && shows(&pieces[1], rows.catalog(), &WALKED[3..]);
     Ok(report.unless_changed(same))
+}
+
+/// Leaves out the later rows of each key of a walk.
+pub fn once(alloc: Global, before: u64) -> Result<Report> {
+    let catalog = three_projections(alloc)?;
+    let rows = Rows::of(alloc, &catalog)?;
+    let Ok(mut walked) = rows.walk(alloc, 0, ALL) else {
+        return Err(anyhow!("the rows are not walked"));
+    };
+    let granted = allocate(alloc, before);
+    if granted < before {
+        return Ok(Report::Before(granted));
+    }
+    let (answer, left): (Answer, &[[i64; 2]]) = match walked.once(rows.catalog()) {
+        Ok(()) => (Answer::Complete, &ONCE),
+        Err(_) => (Answer::Memory, &WALKED),
+    };
+    Ok(Report::made(alloc, answer).unless_changed(shows(&walked, rows.catalog(), left)))
 }
 
 /// Joins the rows of two parts of the walk.

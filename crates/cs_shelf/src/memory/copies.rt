@@ -10,7 +10,7 @@ use cs_store::memory::{MemorySink, save_to_memory};
 use cs_store::{FileSet, StoreFault};
 use std::alloc::Global;
 
-/// The same files once more.
+/// A copy of the files.
 fn copy(alloc: Global, files: &FileSet) -> Result<FileSet, StoreFault>
     ensures same { IfOk result (λ copy. copy ≡ files.now) }
     ensures memory { IsErrOf result StoreFault.Device → ⊥ }
