@@ -13,8 +13,6 @@ pub const CUT: u32 = 65_536;
 pub struct Host<'a, R, G> {
     pub rt: &'a R,
     pub alloc: Global,
-    /// How many processors there are.
-    pub processors: u32,
     /// What is told how far a verb has come.
     pub gate: &'a G,
 }
