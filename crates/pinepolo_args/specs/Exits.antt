@@ -1,4 +1,4 @@
--- How words end that ask no verb for anything.
+-- Why words give no request.
 use Rattle.std.specs.Prelude.{◌≡◌, ◌⊎◌}
 use Rattle.clap.specs.declared.error.kind.ErrorKind.{ErrorKind}
 use Rattle.clap.specs.declared.error.kind.ErrorKind.TheVariants.{DisplayHelp, DisplayVersion}

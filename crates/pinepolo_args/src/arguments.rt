@@ -20,33 +20,30 @@ pub enum Form {
     Flag,
     /// `--ID VALUE`: what the help calls the value, and what it is.
     Named(&'static str, Value),
-    /// A word by its place, or several that are sites: what the help calls it, and what it is.
+    /// A word by its place, or several if they are sites: what the help calls it, and what it is.
     Positional(&'static str, Value),
 }
 
-/// When an argument is given.
+/// Whether an argument must be given.
 #[derive(Clone, Copy)]
 pub enum Presence {
-    /// Always.
+    /// It must be given.
     Required,
-    /// If the argument of this id is not given.
+    /// It must be given unless the argument with this id is.
     RequiredUnless(&'static str),
-    /// At will.
+    /// It may be left out.
     Optional,
-    /// At will, but not beside the arguments of these ids.
+    /// It may be left out, and must not be given together with the arguments with these ids.
     Excludes(&'static [&'static str]),
 }
 
 /// An argument of some verbs.
 #[derive(Clone, Copy)]
 pub struct Argument {
-    /// By what it is found; the name of one that is not positional.
+    /// Identifies its value; also the name of a flag or an option.
     pub id: &'static str,
-    /// How it is given.
     pub form: Form,
-    /// When it is given.
     pub presence: Presence,
-    /// What the help says of it.
     pub help: &'static str,
     /// The verbs that take it.
     pub verbs: &'static [&'static str],
@@ -92,9 +89,9 @@ impl Argument {
 }
 
 /// The greatest number of 32 bits.
-const MOST: i64 = 4_294_967_295;
+const U32_MAX: i64 = 4_294_967_295;
 
-/// All arguments, those of each verb in the order of its help and of its words.
+/// All arguments. Those of a verb are in the order of its help.
 pub const ARGUMENTS: &[Argument] = &[
     Argument {
         id: "dry-run",
@@ -147,7 +144,7 @@ pub const ARGUMENTS: &[Argument] = &[
     },
     Argument {
         id: "disputes",
-        form: Form::Named("N", Value::Number(0, MOST)),
+        form: Form::Named("N", Value::Number(0, U32_MAX)),
         presence: Presence::Optional,
         help: "Print at most N of the rows in which two tables differ [default: 10]",
         verbs: &["diagnose"],
@@ -255,7 +252,7 @@ pub const ARGUMENTS: &[Argument] = &[
     },
     Argument {
         id: "kept",
-        form: Form::Positional("N", Value::Number(1, MOST)),
+        form: Form::Positional("N", Value::Number(1, U32_MAX)),
         presence: Presence::Optional,
         help: "Put back what is kept in STORE/replaced/N [default: the last]",
         verbs: &["undo"],

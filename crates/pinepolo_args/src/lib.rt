@@ -1,7 +1,7 @@
 //! The words of pinepolo's command line: its verbs, their arguments, and the help of each.
 //!
-//! `parse` answers what is asked for, with numbers within their limits, or how the words end: by the help that they ask
-//! for, or as a usage error with the usage of their verb.
+//! `parse` answers a request, whose numbers are within their limits, or why there is none: the help that was asked for, or
+//! a usage error with the usage of the verb.
 #![tactic(auto)]
 
 mod arguments;

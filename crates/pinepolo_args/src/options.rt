@@ -1,4 +1,4 @@
-//! What the arguments of a verb were given.
+//! The values of a verb's arguments.
 ghost use Rattle.std.specs.Prelude.{◌≡◌, ◌≤◌, IfSome};
 ghost use Rattle.std.proofs.Props.{props};
 
@@ -15,7 +15,7 @@ const WORKER_LIMIT: u32 = 64;
 /// The greatest number of a site.
 const SITE_LIMIT: u8 = 16;
 
-/// What each argument was given; of one that the verb does not take what stands for none.
+/// The values of all arguments. One that was not given, or that the verb does not take, is absent, false or empty.
 #[derive(Clone, Copy)]
 pub struct Options<'a> {
     pub accepts_loss: bool,
@@ -64,8 +64,8 @@ fn at_most_of(found: &ArgMatches<'_>) -> Option<u8>
 }
 
 impl<'a> Options<'a> {
-    /// What was found among the words; none if a site is not from 1 to 16. As many workers as there are processors, within
-    /// the limit, if no number is given.
+    /// Reads the arguments of a verb; none if a site is out of range. Without a number of workers there are as many as
+    /// processors, within the limit.
     pub fn read(found: &ArgMatches<'a>, processors: u32) -> Option<Options<'a>> {
         let lost = sites_of(found, "lost")?;
         Some(Options {

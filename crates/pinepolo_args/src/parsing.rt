@@ -1,7 +1,5 @@
-//! From words to what they ask for.
-ghost use Rattle.std.specs.Prelude.{◌≡◌, false, IfErr, map, string_bytes};
-ghost use Rattle.clap.specs.Simple.{app_of};
-ghost use Rattle.clap.specs.Takes.{takes};
+//! From words to a request.
+ghost use Rattle.std.specs.Prelude.{IfErr, IsErrAnd};
 ghost use Rattle.clap.specs.Values.{kind_of};
 ghost use Rattle.pinepolo_args.specs.Exits.{AsksForHelp, IsHelp};
 
@@ -10,49 +8,51 @@ use crate::options::Options;
 use crate::request::Request;
 use crate::verbs::verb_of;
 use clap::error::ErrorKind;
-use clap::{ArgMatches, Command, Error};
+use clap::{ArgMatches, Error};
 use std::alloc::Global;
 
-/// How words end that ask no verb for anything. The texts end with a line break.
+/// Why words give no request. The texts end with a line break.
 #[derive(Drop)]
 pub enum ParseExit {
     /// Out of memory.
     OutOfMemory,
-    /// They ask for the help or the version, which is this.
+    /// The help or the version, which the words ask for.
     Help(String),
-    /// They are wrong: why, and the usage of their verb.
+    /// What is wrong with the words, and the usage of their verb.
     Usage(String),
 }
 
-/// What the words ask for, without the program's name. As many workers as there are `processors`, at most 64, if the
-/// words give no number.
+/// What the words ask for, which do not begin with the program's name. If they give no number of workers, there are as
+/// many as `processors`, at most 64.
 pub fn parse<'a>(
     alloc: Global,
     words: &'a [String],
     processors: u32,
 ) -> Result<Request<'a>, ParseExit> {
-    match commands::program(alloc) {
-        Ok(program) => parse_by(alloc, program, words, processors),
-        Err(error) => Err(exit_of(alloc, &error)),
-    }
+    parse_found(alloc, words, find(alloc, words), processors)
 }
 
-/// What the words ask a program for. Words that it takes are not answered with its help.
-fn parse_by<'a>(
+/// What clap finds in the words.
+fn find<'a>(alloc: Global, words: &'a [String]) -> Result<ArgMatches<'a>, Error> {
+    commands::program(alloc)?.try_get_matches_from(words)
+}
+
+/// The request of what clap found in the words, or why there is none.
+fn parse_found<'a>(
     alloc: Global,
-    program: Command<'a>,
-    words: &'a [String],
+    words: &[String],
+    found: Result<ArgMatches<'a>, Error>,
     processors: u32,
 ) -> Result<Request<'a>, ParseExit>
-    ensures { IfErr result (λ exit. IsHelp exit → takes (app_of program.entry) (map string_bytes words.now) ≡ false) }
+    ensures { IfErr result (λ exit. IsHelp exit → IsErrAnd found.entry (λ error. AsksForHelp (kind_of error))) }
 {
-    match program.try_get_matches_from(words) {
+    match found {
         Ok(matches) => request_of(alloc, &matches, processors),
         Err(error) => Err(with_usage(alloc, words, exit_of(alloc, &error))),
     }
 }
 
-/// What the matches of the words ask for.
+/// The request of the matches, or why there is none.
 fn request_of<'a>(
     alloc: Global,
     matches: &ArgMatches<'a>,
@@ -66,7 +66,7 @@ fn request_of<'a>(
     }
 }
 
-/// What the matches of the words ask for, if they are those of a verb with its arguments.
+/// The request of the matches, if they are those of a verb with its arguments.
 fn requested<'a>(matches: &ArgMatches<'a>, processors: u32) -> Option<Request<'a>> {
     let (name, found) = matches.subcommand()?;
     let Some(options) = Options::read(found, processors) else {
@@ -83,7 +83,7 @@ fn requested<'a>(matches: &ArgMatches<'a>, processors: u32) -> Option<Request<'a
     })
 }
 
-/// How an error of clap ends words.
+/// An error of clap as why there is no request.
 fn exit_of(alloc: Global, error: &Error) -> ParseExit
     ensures { IsHelp result → AsksForHelp (kind_of error.now) }
 {
@@ -102,7 +102,7 @@ fn exit_of(alloc: Global, error: &Error) -> ParseExit
     }
 }
 
-/// That the words ask for nothing, where clap finds nothing wrong with them.
+/// The error for words that clap accepts, but that are no verb with its arguments.
 fn nothing_asked(alloc: Global) -> ParseExit
     ensures { ¬ IsHelp result }
 {
@@ -115,7 +115,7 @@ fn nothing_asked(alloc: Global) -> ParseExit
 /// How clap's texts end.
 const TEXT_END: &str = "\nFor more information, try '--help'.\n";
 
-/// An error of usage with the usage of its verb, if clap's text lacks it.
+/// A usage error with the usage of its verb, which clap's text may lack.
 fn with_usage(alloc: Global, words: &[String], exit: ParseExit) -> ParseExit
     ensures { IsHelp result → IsHelp exit }
 {

@@ -21,18 +21,18 @@ use Rattle.pinepolo_run.specs.Showing.{Shows}
 use Rattle.pinepolo_run.specs.TablePromises.{DumpsStore, LoadsStore, RelaysStore}
 use Rattle.pinepolo_run.specs.World.{WorldSays}
 
--- What has this status was printed: the status is given, or 3 if memory ran out in that, or 4 if the stream failed.
+-- A text of this status was to be printed: the status that is given is the same, or 3 if memory ran out, or 4 if the stream failed.
 abbrev pub IsSaid : ℕ → ℕ → Type 0
 IsSaid status given = (given ≡ status) ⊎ ((given ≡ 3) ⊎ (given ≡ 4))
 
--- 0 where the help was asked for, 2 for an error of usage, 3 where memory ran out
+-- 0 for the help, 2 for a usage error, 3 if memory ran out
 abbrev pub exit_status : ParseExit → ℕ
 exit_status (exit.Help _) = 0
 exit_status (exit.Usage _) = 2
 exit_status exit.OutOfMemory = 3
 
 module _ {P S K I N B : Type 0} (w : WorldSays P S K I N B) where
-  -- What a verb with its arguments did for an answer. A verb has no other answers than these.
+  -- What a verb with these arguments did, if this is its answer. No verb answers anything else.
   abbrev pub Performs : P → Verb → Answer → P → Type 0
   Performs s (verb.Check args) (answer.Checked checked) t = ChecksStore w.reads w.opens w.gives w.refuses w.leaves s args.store.now args.k checked t
   Performs s (verb.Show args) shown t = Shows w.reads w.opens w.gives w.refuses w.lists w.leaves s args.store.now (option_map (λ file. file.now) args.file) shown t
@@ -48,26 +48,26 @@ module _ {P S K I N B : Type 0} (w : WorldSays P S K I N B) where
   Performs s (verb.Relayout args) (answer.Relaid store) t = RelaysStore w.reads w.opens w.gives w.begins w.takes_new w.marks_new s args.store.now args.lost args.catalog.now args.new.now store t
   Performs s _ _ t = ⊥
 
-  -- what a verb may have done that gives no answer
+  -- what a verb may have done that stopped early
   abbrev pub StopsEarly : P → Verb → P → Type 0
   StopsEarly s (verb.Check args) t = LooksUp w.reads w.misses s args.store.now t
   StopsEarly s (verb.Diagnose args) t = args.manifest ≡ None → LooksUp w.reads w.misses s args.store.now t
   StopsEarly s (verb.Recover args) t = StopsRecovery w.reads w.opens w.gives w.makes w.misses w.denies s args.store.now args.lost args.output.now t
   StopsEarly s _ t = Unit {0}
 
-  -- a verb gave an answer or none
+  -- the verb was performed, or stopped early
   abbrev pub Does : P → Verb → Result Answer Stop → P → Type 0
   Does s asked result t = IfOk result (λ given. Performs s asked given t) × OnErr result (StopsEarly s asked t)
 
-  -- the verb was performed, and its answer printed
+  -- the verb was performed, and the status tells its answer
   abbrev pub AnswersRequest : P → Verb → ℕ → P → Type 0
   AnswersRequest s asked status t = (given : Answer) × Performs s asked given t × IsSaid (answer_status given) status
 
-  -- the verb stopped early, and it was printed why
+  -- the verb stopped early, and the status tells why
   abbrev pub RefusesRequest : P → Verb → ℕ → P → Type 0
   RefusesRequest s asked status t = StopsEarly s asked t × ((stop : Stop) × IsSaid (status_of stop) status)
 
-  -- A request is answered or refused; words that ask no verb for anything leave the places as they were.
+  -- A request is answered or refused. Without one the places stay as they were.
   abbrev pub Runs : Result Request ParseExit → P → ℕ → P → Type 0
   Runs (Ok request) s status t = AnswersRequest s request.verb status t ⊎ RefusesRequest s request.verb status t
   Runs (Err parsed) s status t = (t ≡ s) × IsSaid (exit_status parsed) status

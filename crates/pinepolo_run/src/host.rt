@@ -18,7 +18,7 @@ pub struct Host<'a, R, G> {
 }
 
 impl<'a, R, G> Host<'a, R, G> {
-    /// By what and how so many workers do the rounds of a verb.
+    /// What a verb runs on, with this many workers.
     pub fn run_by(&self, workers: u32) -> Run<'a, R, G>
         requires { (1 ≤ workers) × (workers ≤ 64) }
     {

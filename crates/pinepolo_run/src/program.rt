@@ -26,9 +26,8 @@ use std::io::Write;
 use std::marker::Sync;
 use std::thread::Threads;
 
-/// Does what the words asked for, prints its answer, and gives its status: 0 done or sound, 1 refused, 2 an error of
-/// usage, 3 out of memory, 4 a file, a folder or a stream failed, 5 ambiguous, 6 not recoverable. If they asked no verb
-/// for anything, it prints why.
+/// Does what was asked for, prints its answer, and gives its status: 0 done or sound, 1 refused, 2 a usage error, 3 out
+/// of memory, 4 a file, a folder or a stream failed, 5 ambiguous, 6 not recoverable. If there is no request, it prints why.
 pub fn run<R: Threads + Sync, G: Progress + Sync, P: World, W: Write, E: Write>(
     host: &Host<'_, R, G>,
     parsed: &Result<Request<'_>, ParseExit>,
@@ -80,7 +79,7 @@ pub fn run<R: Threads + Sync, G: Progress + Sync, P: World, W: Write, E: Write>(
     }
 }
 
-/// Prints how words end that ask no verb for anything, and gives the status.
+/// Prints why there is no request, and gives the status.
 fn say_exit<W: Write, E: Write>(exit: &ParseExit, out: &mut W, err: &mut E) -> u8
     ensures { IsSaid (exit_status exit.now) result }
 {
@@ -109,7 +108,7 @@ fn say_stop<W: Write, E: Write>(
     }
 }
 
-/// Does what a verb is asked for.
+/// Performs a verb.
 fn perform<R: Threads + Sync, G: Progress + Sync, P: World>(
     run: &Run<'_, R, G>,
     places: &mut P,
