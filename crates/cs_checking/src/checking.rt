@@ -8,7 +8,7 @@ use crate::judging::judge;
 use cs_parallel_io::load_readable_side_by_side;
 use cs_rebuild::Run;
 use cs_schema::Loss;
-use pinepolo_args::Checking;
+use pinepolo_args::CheckArgs;
 use pinepolo_places::{Listings, Stop, find_store};
 use pinepolo_progress::Progress;
 use pinepolo_text::Checked;
@@ -19,7 +19,7 @@ use std::thread::Threads;
 pub fn check<R: Threads + Sync, G: Progress + Sync, P: Listings>(
     run: &Run<'_, R, G>,
     places: &mut P,
-    request: &Checking<'_>,
+    request: &CheckArgs<'_>,
 ) -> Result<Checked, Stop>
     ensures ok { IfOk result (λ checked. ChecksStore P.reads P.opens (standing P.Store.answers) (standing P.Store.fails) P.leaves
         places.old request.now.store.now request.now.k checked places.new) }

@@ -7,7 +7,7 @@ use crate::planning::{plan, planned};
 use crate::reading::{doubt_of, doubted, read_files};
 use cs_rebuild::Run;
 use cs_schema::Catalog;
-use pinepolo_args::Restoring;
+use pinepolo_args::RestoreArgs;
 use pinepolo_places::{Shelves, Stop, WorkKind};
 use pinepolo_progress::Progress;
 use pinepolo_text::Restoration;
@@ -19,11 +19,11 @@ pub fn look_ahead<R: Threads + Sync, G: Progress + Sync, P: Shelves>(
     run: &Run<'_, R, G>,
     places: &P,
     catalog: Catalog,
-    request: &Restoring<'_>,
+    request: &RestoreArgs<'_>,
 ) -> Result<Restoration, Stop>
-    ensures { IfOk result (Foresees P.looks_at P.Shelf.holds request.now.accepts_loss request.now.resumes places.now request.now.store.now catalog request.now.loss) }
+    ensures { IfOk result (Foresees P.looks_at P.Shelf.holds request.now.accepts_loss request.now.resumes places.now request.now.store.now catalog request.now.lost) }
 {
-    let lost = request.loss;
+    let lost = request.lost;
     let mut shelf = match places.look(request.store, &catalog) {
         Ok(shelf) => shelf,
         Err(fault) => return Err(stop_unseen(run.alloc, fault, request.store)),

@@ -13,7 +13,7 @@ use cs_rebuild::Run;
 use cs_schema::{Catalog, Loss};
 use cs_shelf::{Shelf, load_readable_held};
 use cs_store::Readable;
-use pinepolo_args::Restoring;
+use pinepolo_args::RestoreArgs;
 use pinepolo_places::Stop;
 use pinepolo_progress::Progress;
 use pinepolo_text::{Diagnosed, Doubted};
@@ -44,7 +44,7 @@ pub fn doubt_of<R: Threads + Sync, G: Progress + Sync>(
     run: &Run<'_, R, G>,
     catalog: &Catalog,
     read: &Readable,
-    request: &Restoring<'_>,
+    request: &RestoreArgs<'_>,
     lost: Loss,
 ) -> Result<Option<Doubt>, Stop>
     requires { AreAbsent (contents_of read.now.files) read.now.unreadable.items }

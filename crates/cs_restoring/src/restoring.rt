@@ -12,7 +12,7 @@ use cs_design::greatest_k;
 use cs_rebuild::Run;
 use cs_schema::{Catalog, Loss};
 use cs_store::Readable;
-use pinepolo_args::Restoring;
+use pinepolo_args::RestoreArgs;
 use pinepolo_places::{GivenBack, Shelves, Stop, WorkKind, find_store};
 use pinepolo_progress::Progress;
 use pinepolo_text::{Doubted, Restoration, Restored};
@@ -25,17 +25,17 @@ fn take<P: Shelves>(
     alloc: Global,
     places: &mut P,
     catalog: &Catalog,
-    request: &Restoring<'_>,
+    request: &RestoreArgs<'_>,
 ) -> Result<(P::Shelf, Loss), Stop>
     ensures taken { IfOk result (λ taken. P.takes_store places.old request.now.store.now catalog.now taken.1 taken.0 places.new) }
-    ensures lost { IfOk result (λ taken. request.now.resumes ≡ false → taken.1 ≡ request.now.loss) }
+    ensures lost { IfOk result (λ taken. request.now.resumes ≡ false → taken.1 ≡ request.now.lost) }
 {
     let path = request.store;
     let taken = if request.resumes {
         places.resume(path, catalog)
     } else {
-        match places.take(path, catalog, request.loss) {
-            Ok(shelf) => Ok((shelf, request.loss)),
+        match places.take(path, catalog, request.lost) {
+            Ok(shelf) => Ok((shelf, request.lost)),
             Err(untaken) => Err(untaken),
         }
     };
@@ -122,7 +122,7 @@ fn restore_taken<R: Threads + Sync, G: Progress + Sync, P: Shelves>(
     places: &mut P,
     taken: (P::Shelf, Loss),
     catalog: Catalog,
-    request: &Restoring<'_>,
+    request: &RestoreArgs<'_>,
 ) -> Result<Restoration, Stop>
     ensures { IfOk result (EndsRestore P.gives_back P.Shelf.holds P.Shelf.may_leave request.now.accepts_loss request.now.resumes places.old catalog taken.1 taken.0 places.new) }
 {
@@ -148,10 +148,10 @@ fn restore_taken<R: Threads + Sync, G: Progress + Sync, P: Shelves>(
 pub fn restore<R: Threads + Sync, G: Progress + Sync, P: Shelves>(
     run: &Run<'_, R, G>,
     places: &mut P,
-    request: &Restoring<'_>,
+    request: &RestoreArgs<'_>,
 ) -> Result<Restoration, Stop>
     ensures { IfOk result (λ restoration. DoesRestore P.reads P.opens P.takes_store P.looks_at P.gives_back P.Shelf.holds P.Shelf.may_leave
-        request.now.is_dry_run request.now.accepts_loss request.now.resumes request.now.loss places.old request.now.store.now restoration places.new) }
+        request.now.is_dry_run request.now.accepts_loss request.now.resumes request.now.lost places.old request.now.store.now restoration places.new) }
 {
     let (catalog, _source) = match find_store(run.alloc, places, request.store) {
         Ok(found) => found,

@@ -6,13 +6,13 @@ use crate::ending::{LostStore, stop_unended, stop_untaken};
 use crate::working::leave;
 use cs_restore::put_back;
 use cs_schema::{Catalog, Loss};
-use pinepolo_args::Undoing;
+use pinepolo_args::UndoArgs;
 use pinepolo_places::{Shelves, Stop, UndoOf, Undoable, WorkKind, find_store};
 use pinepolo_text::Undone;
 use std::alloc::Global;
 
 /// Which work a request asks to undo.
-fn undo_of(request: &Undoing<'_>) -> UndoOf
+fn undo_of(request: &UndoArgs<'_>) -> UndoOf
     ensures { result ≡ undo_asked request.now.resumes request.now.kept }
 {
     match (request.resumes, request.kept) {
@@ -61,7 +61,7 @@ fn undo_taken<P: Shelves>(
 pub fn undo<P: Shelves>(
     alloc: Global,
     places: &mut P,
-    request: &Undoing<'_>,
+    request: &UndoArgs<'_>,
 ) -> Result<Undone, Stop>
     ensures { IfOk result (DoesUndo P.reads P.opens P.takes_undo P.gives_back P.Shelf.holds P.Shelf.may_leave
         places.old request.now.store.now (undo_asked request.now.resumes request.now.kept) places.new) }

@@ -1,5 +1,6 @@
 //! Verbs, with what they print.
 use anyhow::Result;
+use pinepolo_args::parse;
 use pinepolo_progress::OpenGate;
 use pinepolo_run::{Host, World, run};
 use std::io;
@@ -46,10 +47,10 @@ where
     let host = Host {
         rt,
         alloc,
-        processors: PROCESSORS,
         gate: &OpenGate,
     };
-    Ok(run(&host, owned.as_slice(), places, out, err))
+    let parsed = parse(alloc, owned.as_slice(), PROCESSORS);
+    Ok(run(&host, &parsed, places, out, err))
 }
 
 /// Runs a verb over the places, and prints its lines and its status. Words that begin with `full` are those of a verb

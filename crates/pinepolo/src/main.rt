@@ -3,6 +3,7 @@
 //! The verbs are pinepolo_run's; here they meet the system's words, folders and streams.
 #![tactic(auto)]
 
+use pinepolo_args::parse;
 use pinepolo_folders::Folders;
 use pinepolo_progress::ProgressLine;
 use pinepolo_run::{CUT, Host, Stop, report, run};
@@ -25,13 +26,15 @@ fn main(rt: HostRuntime) -> ExitCode {
     let host = Host {
         rt: &rt,
         alloc,
-        processors,
         gate: &gate,
     };
     let mut places = Folders::new(alloc, rt);
     let status = match env::args(&rt) {
         Ok(args) => match args.skip(1).collect::<Vec<String>>(alloc) {
-            Ok(words) => run(&host, words.as_slice(), &mut places, &mut out, &mut err),
+            Ok(words) => {
+                let parsed = parse(alloc, words.as_slice(), processors);
+                run(&host, &parsed, &mut places, &mut out, &mut err)
+            }
             Err(_) => report(&Stop::Memory, &mut err),
         },
         Err(e) if e.kind() == io::ErrorKind::OutOfMemory => report(&Stop::Memory, &mut err),

@@ -1,199 +1,98 @@
-//! The verbs, as the command line knows them.
-use crate::arguments::Argument;
-use crate::{argument_table as table, help, manifests, restores, tables};
+//! The program and its verbs as clap knows them.
+use crate::arguments::{ARGUMENTS, Argument};
+use crate::help;
 use clap::{Command, Error};
 use std::alloc::Global;
 
-/// A command, or why there is none.
-pub(crate) type Made<'a> = Result<Command<'a>, Error>;
+/// All verbs, and what each does.
+const VERBS: &[(&str, &str)] = &[
+    ("check", help::CHECK),
+    ("show", help::SHOW),
+    ("diagnose", help::DIAGNOSE),
+    ("recover", help::RECOVER),
+    ("restore", help::RESTORE),
+    ("undo", help::UNDO),
+    ("manifest", help::MANIFEST),
+    ("verify", help::VERIFY),
+    ("design", help::DESIGN),
+    ("load", help::LOAD),
+    ("dump", help::DUMP),
+    ("relayout", help::RELAYOUT),
+];
 
-/// The program with its verbs.
-pub fn program<'a>(alloc: Global) -> Made<'a> {
-    let program = named(Command::new(alloc, "pinepolo"), "pinepolo");
-    let whole = with_verb(described(program), check(alloc));
-    let whole = with_verb(whole, show(alloc));
-    let whole = with_verb(whole, diagnose(alloc));
-    let whole = with_verb(with_verb(whole, recover(alloc)), restores::restore(alloc));
-    let whole = with_verb(whole, restores::undo(alloc));
-    with_more_verbs(alloc, whole)
-}
-
-/// The program with the verbs on manifests, catalogs and tables.
-fn with_more_verbs<'a>(alloc: Global, whole: Made<'a>) -> Made<'a> {
-    let whole = with_verb(whole, manifests::manifest(alloc));
-    let whole = with_verb(whole, manifests::verify(alloc));
-    let whole = with_verb(whole, design(alloc));
-    let whole = with_verb(whole, tables::load(alloc));
-    let whole = with_verb(whole, tables::dump(alloc));
-    with_verb(whole, tables::relayout(alloc))
-}
-
-/// The program's settings and texts.
-fn described<'a>(program: Made<'a>) -> Made<'a> {
-    match program {
-        Ok(program) => Ok(
-            program
-                .no_binary_name(true)
-                .subcommand_required(true)
-                .arg_required_else_help(true)
-                .about(help::PROGRAM)
-                .version(help::VERSION)
-                .after_help(help::PROGRAM_END),
-        ),
-        Err(error) => Err(error),
+/// A command with an argument, if its verb takes it.
+fn with_argument<'a>(
+    alloc: Global,
+    command: Command<'a>,
+    verb: &'static str,
+    argument: &Argument,
+) -> Result<Command<'a>, Error> {
+    if !argument.verbs.contains(&verb) {
+        return Ok(command);
     }
+    Ok(command.arg(argument.to_arg(alloc)?)?)
 }
 
-/// A verb alone, if there is one of this name.
-pub fn verb<'a>(alloc: Global, name: &str) -> Option<Made<'a>> {
-    match name {
-        "check" => Some(check(alloc)),
-        "show" => Some(show(alloc)),
-        "diagnose" => Some(diagnose(alloc)),
-        "recover" => Some(recover(alloc)),
-        "restore" => Some(restores::restore(alloc)),
-        "undo" => Some(restores::undo(alloc)),
-        "manifest" => Some(manifests::manifest(alloc)),
-        "verify" => Some(manifests::verify(alloc)),
-        "design" => Some(design(alloc)),
-        "load" => Some(tables::load(alloc)),
-        "dump" => Some(tables::dump(alloc)),
-        "relayout" => Some(tables::relayout(alloc)),
-        _ => None,
-    }
-}
-
-/// The program with one more verb.
-fn with_verb<'a>(program: Made<'a>, verb: Made<'a>) -> Made<'a> {
-    let program = program?;
-    Ok(program.subcommand(verb?)?)
-}
-
-/// A command that its usage calls by this name.
-fn named<'a>(command: Command<'a>, name: &str) -> Made<'a> {
-    Ok(command.bin_name(name)?)
-}
-
-/// What a verb is called, and its texts of the help.
-#[derive(Clone, Copy)]
-pub(crate) struct VerbTexts {
-    pub name: &'static str,
-    /// How its usage calls it.
-    pub usage: &'static str,
-    pub about: &'static str,
-    /// What stands below its help.
-    pub end: &'static str,
-}
-
-/// A command with more arguments.
-fn with_all<'a>(alloc: Global, command: Made<'a>, arguments: &[Argument]) -> Made<'a> {
-    let mut command = command?;
+/// A command with those of the arguments that its verb takes.
+fn with_arguments<'a>(
+    alloc: Global,
+    command: Command<'a>,
+    verb: &'static str,
+    arguments: &[Argument],
+) -> Result<Command<'a>, Error> {
+    let mut command = command;
     for argument in arguments {
-        command = command.arg(argument.made(alloc)?)?;
+        command = with_argument(alloc, command, verb, argument)?;
     }
     Ok(command)
 }
 
-/// The command of a verb with its arguments.
-pub(crate) fn command_of<'a>(alloc: Global, verb: &VerbTexts, arguments: &[Argument]) -> Made<'a> {
-    let command = Command::new(alloc, verb.name)
-        .about(verb.about)
-        .after_help(verb.end);
-    with_all(alloc, named(command, verb.usage), arguments)
+/// The command of a verb, and what that does.
+fn command_of<'a>(
+    alloc: Global,
+    verb: &'static str,
+    about: &'static str,
+) -> Result<Command<'a>, Error> {
+    let command = Command::new(alloc, verb)
+        .about(about)
+        .after_help(help::end_of(verb));
+    with_arguments(alloc, command, verb, ARGUMENTS)
 }
 
-const CHECK: VerbTexts = VerbTexts {
-    name: "check",
-    usage: "pinepolo check",
-    about: help::CHECK,
-    end: help::CHECK_END,
-};
-
-const CHECK_ARGUMENTS: [Argument; 5] = [
-    table::K,
-    table::WORKERS,
-    table::QUIET,
-    table::JSON,
-    table::STORE,
-];
-
-/// `check [--k K] [--workers N] [--quiet] [--json] STORE`.
-fn check<'a>(alloc: Global) -> Made<'a> {
-    command_of(alloc, &CHECK, &CHECK_ARGUMENTS)
+/// The program with these verbs.
+fn with_verbs<'a>(
+    alloc: Global,
+    program: Command<'a>,
+    verbs: &[(&'static str, &'static str)],
+) -> Result<Command<'a>, Error> {
+    let mut program = program;
+    for (verb, about) in verbs {
+        program = program.subcommand(command_of(alloc, verb, about)?)?;
+    }
+    Ok(program)
 }
 
-const SHOW: VerbTexts = VerbTexts {
-    name: "show",
-    usage: "pinepolo show",
-    about: help::SHOW,
-    end: help::SHOW_END,
-};
-
-const SHOW_ARGUMENTS: [Argument; 4] = [table::QUIET, table::JSON, table::STORE, table::FILE];
-
-/// `show [--quiet] [--json] STORE [FILE]`.
-fn show<'a>(alloc: Global) -> Made<'a> {
-    command_of(alloc, &SHOW, &SHOW_ARGUMENTS)
+/// The program with all verbs.
+pub fn program<'a>(alloc: Global) -> Result<Command<'a>, Error> {
+    let program = Command::new(alloc, "pinepolo")
+        .no_binary_name(true)
+        .subcommand_required(true)
+        .arg_required_else_help(true)
+        .about(help::PROGRAM)
+        .version(help::VERSION)
+        .after_help(help::PROGRAM_END)
+        .bin_name("pinepolo")?;
+    with_verbs(alloc, program, VERBS)
 }
 
-const DIAGNOSE: VerbTexts = VerbTexts {
-    name: "diagnose",
-    usage: "pinepolo diagnose",
-    about: help::DIAGNOSE,
-    end: help::DIAGNOSE_END,
-};
-
-const DIAGNOSE_ARGUMENTS: [Argument; 7] = [
-    table::AT_MOST,
-    table::DISPUTES,
-    table::MANIFEST,
-    table::WORKERS,
-    table::QUIET,
-    table::JSON,
-    table::STORE,
-];
-
-/// `diagnose [--at-most N] [--disputes N] [--manifest FILE] [--workers N] [--quiet] [--json] STORE`.
-fn diagnose<'a>(alloc: Global) -> Made<'a> {
-    command_of(alloc, &DIAGNOSE, &DIAGNOSE_ARGUMENTS)
-}
-
-const RECOVER: VerbTexts = VerbTexts {
-    name: "recover",
-    usage: "pinepolo recover",
-    about: help::RECOVER,
-    end: help::RECOVER_END,
-};
-
-const RECOVER_ARGUMENTS: [Argument; 6] = [
-    table::WORKERS,
-    table::QUIET,
-    table::JSON,
-    table::STORE,
-    table::OUTPUT,
-    table::LOST_SITES,
-];
-
-/// `recover [--workers N] [--quiet] [--json] STORE OUT SITE..`.
-fn recover<'a>(alloc: Global) -> Made<'a> {
-    command_of(alloc, &RECOVER, &RECOVER_ARGUMENTS)
-}
-
-const DESIGN: VerbTexts = VerbTexts {
-    name: "design",
-    usage: "pinepolo design",
-    about: help::DESIGN,
-    end: help::DESIGN_END,
-};
-
-const DESIGN_ARGUMENTS: [Argument; 4] = [
-    table::LOST_ALREADY,
-    table::JSON,
-    table::SVG,
-    table::CATALOG,
-];
-
-/// `design [--lost SITE,..] [--json] [--svg FILE] CATALOG`.
-fn design<'a>(alloc: Global) -> Made<'a> {
-    command_of(alloc, &DESIGN, &DESIGN_ARGUMENTS)
+/// The verb of this name alone, if there is one, as its usage calls it.
+pub fn verb<'a>(alloc: Global, name: &str) -> Option<Command<'a>> {
+    for (verb, about) in VERBS.iter() {
+        if *verb == name {
+            let command = command_of(alloc, verb, about).ok()?;
+            let usage = format!(in alloc; "pinepolo {name}").ok()?;
+            return command.bin_name(usage.as_str()).ok();
+        }
+    }
+    None
 }

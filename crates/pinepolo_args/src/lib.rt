@@ -1,26 +1,20 @@
-//! The words of pinepolo's command line: its verbs, their options, and the help of each.
+//! The words of pinepolo's command line: its verbs, their arguments, and the help of each.
 //!
-//! Words that ask for something become a `Request`, whose numbers are within their limits; all other words are told why
-//! not, with the usage of their verb.
+//! `parse` answers a request, whose numbers are within their limits, or why there is none: the help that was asked for, or
+//! a usage error with the usage of the verb.
 #![tactic(auto)]
 
-mod argument_table;
 mod arguments;
 mod commands;
-mod found;
 mod help;
-mod manifest_help;
-mod manifests;
+mod options;
 mod parsing;
 mod request;
-mod restore_help;
-mod restores;
 mod sites;
-mod table_help;
-mod tables;
+mod verbs;
 
-pub use parsing::{Unasked, parse};
+pub use parsing::{ParseExit, parse};
 pub use request::{
-    Checking, Designing, Diagnosing, Dumping, Loading, Manifesting, Recovering, Relaying, Request,
-    Restoring, Showing, Undoing, Verifying,
+    CheckArgs, DesignArgs, DiagnoseArgs, DumpArgs, LoadArgs, ManifestArgs, RecoverArgs,
+    RelayoutArgs, Request, RestoreArgs, ShowArgs, UndoArgs, Verb, VerifyArgs,
 };

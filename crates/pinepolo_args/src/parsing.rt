@@ -1,129 +1,150 @@
-//! From words to what they ask for.
+//! From words to a request.
+ghost use Rattle.std.specs.Prelude.{IfErr, IsErrAnd};
+ghost use Rattle.clap.specs.Values.{kind_of};
+ghost use Rattle.pinepolo_args.specs.Exits.{AsksForHelp, IsHelp};
+
+use crate::commands;
+use crate::options::Options;
 use crate::request::Request;
-use crate::{commands, found};
+use crate::verbs::verb_of;
 use clap::error::ErrorKind;
 use clap::{ArgMatches, Error};
 use std::alloc::Global;
 
-/// Why words ask a verb for nothing. The texts end with a line break.
+/// Why words give no request. The texts end with a line break.
 #[derive(Drop)]
-pub enum Unasked {
-    /// Want of memory.
-    Memory,
-    /// They ask for the help or the version, which is this.
-    Told(String),
-    /// They are wrong: which, and the usage of their verb.
-    Wrong(String),
+pub enum ParseExit {
+    /// Out of memory.
+    OutOfMemory,
+    /// The help or the version, which the words ask for.
+    Help(String),
+    /// What is wrong with the words, and the usage of their verb.
+    Usage(String),
 }
 
-/// What the words ask for, without the program's name. As many workers as there are `processors`, at most 64, where the
-/// words give no number.
+/// What the words ask for, which do not begin with the program's name. If they give no number of workers, there are as
+/// many as `processors`, at most 64.
 pub fn parse<'a>(
     alloc: Global,
     words: &'a [String],
     processors: u32,
-) -> Result<Request<'a>, Unasked> {
-    let program = match commands::program(alloc) {
-        Ok(program) => program,
-        Err(error) => return Err(unasked_by(alloc, &error)),
-    };
-    match program.try_get_matches_from(words) {
-        Ok(matches) => match asked(&matches, processors) {
-            Some(request) => Ok(request),
-            None => Err(wrong_words(alloc)),
-        },
-        Err(error) => Err(with_usage(alloc, words, unasked_by(alloc, &error))),
+) -> Result<Request<'a>, ParseExit> {
+    parse_found(alloc, words, find(alloc, words), processors)
+}
+
+/// What clap finds in the words.
+fn find<'a>(alloc: Global, words: &'a [String]) -> Result<ArgMatches<'a>, Error> {
+    commands::program(alloc)?.try_get_matches_from(words)
+}
+
+/// The request of what clap found in the words, or why there is none.
+fn parse_found<'a>(
+    alloc: Global,
+    words: &[String],
+    found: Result<ArgMatches<'a>, Error>,
+    processors: u32,
+) -> Result<Request<'a>, ParseExit>
+    ensures { IfErr result (λ exit. IsHelp exit → IsErrAnd found.entry (λ error. AsksForHelp (kind_of error))) }
+{
+    match found {
+        Ok(matches) => request_of(alloc, &matches, processors),
+        Err(error) => Err(with_usage(alloc, words, exit_of(alloc, &error))),
     }
 }
 
-/// How the parser's texts end.
+/// The request of the matches, or why there is none.
+fn request_of<'a>(
+    alloc: Global,
+    matches: &ArgMatches<'a>,
+    processors: u32,
+) -> Result<Request<'a>, ParseExit>
+    ensures { IfErr result (λ exit. ¬ IsHelp exit) }
+{
+    match requested(matches, processors) {
+        Some(request) => Ok(request),
+        None => Err(nothing_asked(alloc)),
+    }
+}
+
+/// The request of the matches, if they are those of a verb with its arguments.
+fn requested<'a>(matches: &ArgMatches<'a>, processors: u32) -> Option<Request<'a>> {
+    let (name, found) = matches.subcommand()?;
+    let Some(options) = Options::read(found, processors) else {
+        return None;
+    };
+    let Some(verb) = verb_of(name, &options) else {
+        return None;
+    };
+    Some(Request {
+        verb,
+        workers: options.workers,
+        json: options.json,
+        quiet: options.quiet,
+    })
+}
+
+/// An error of clap as why there is no request.
+fn exit_of(alloc: Global, error: &Error) -> ParseExit
+    ensures { IsHelp result → AsksForHelp (kind_of error.now) }
+{
+    if error.kind() == ErrorKind::OutOfMemory {
+        return ParseExit::OutOfMemory;
+    }
+    match format!(in alloc; "{error}") {
+        Ok(text) => {
+            if error.use_stderr() {
+                ParseExit::Usage(text)
+            } else {
+                ParseExit::Help(text)
+            }
+        }
+        Err(_) => ParseExit::OutOfMemory,
+    }
+}
+
+/// The error for words that clap accepts, but that are no verb with its arguments.
+fn nothing_asked(alloc: Global) -> ParseExit
+    ensures { ¬ IsHelp result }
+{
+    match String::from_str(alloc, "error: these words ask for nothing\n") {
+        Ok(text) => ParseExit::Usage(text),
+        Err(_) => ParseExit::OutOfMemory,
+    }
+}
+
+/// How clap's texts end.
 const TEXT_END: &str = "\nFor more information, try '--help'.\n";
 
-/// Wrong words with the usage of their verb, where the parser's text lacks it.
-fn with_usage(alloc: Global, words: &[String], unasked: Unasked) -> Unasked {
-    let Unasked::Wrong(text) = unasked else {
-        return unasked;
+/// A usage error with the usage of its verb, which clap's text may lack.
+fn with_usage(alloc: Global, words: &[String], exit: ParseExit) -> ParseExit
+    ensures { IsHelp result → IsHelp exit }
+{
+    let ParseExit::Usage(text) = exit else {
+        return exit;
     };
     if text.as_str().contains("Usage: ") {
-        return Unasked::Wrong(text);
+        return ParseExit::Usage(text);
     }
     match usage_of(alloc, words) {
         Some(usage) => joined(alloc, text.as_str(), usage.as_str()),
-        None => Unasked::Wrong(text),
+        None => ParseExit::Usage(text),
     }
 }
 
 /// The usage of the verb that the words begin with.
 fn usage_of(alloc: Global, words: &[String]) -> Option<String> {
     let name = words.first()?;
-    let mut verb = commands::verb(alloc, name.as_str())?.ok()?;
+    let mut verb = commands::verb(alloc, name.as_str())?;
     verb.render_usage().ok()
 }
 
 /// A text with a usage before its end.
-fn joined(alloc: Global, text: &str, usage: &str) -> Unasked {
+fn joined(alloc: Global, text: &str, usage: &str) -> ParseExit
+    ensures { ¬ IsHelp result }
+{
     let head = text.strip_suffix(TEXT_END).unwrap_or(text);
     match format!(in alloc; "{head}\n{usage}\n{TEXT_END}") {
-        Ok(text) => Unasked::Wrong(text),
-        Err(_) => Unasked::Memory,
-    }
-}
-
-/// What the verb asks for that was found.
-fn asked<'a>(matches: &ArgMatches<'a>, processors: u32) -> Option<Request<'a>> {
-    let (name, found) = matches.subcommand()?;
-    match name {
-        "check" => found::checking(found, processors),
-        "show" => found::showing(found),
-        "diagnose" => found::diagnosing(found, processors),
-        "recover" => found::recovering(found, processors),
-        _ => asked_in_place(name, found, processors),
-    }
-}
-
-/// What a verb asks for that changes a store in place, or one on manifests, catalogs or tables.
-fn asked_in_place<'a>(name: &str, found: &ArgMatches<'a>, processors: u32) -> Option<Request<'a>> {
-    match name {
-        "restore" => found::restoring(found, processors),
-        "undo" => found::undoing(found),
-        "manifest" => found::manifesting(found),
-        "verify" => found::verifying(found),
-        _ => asked_of_tables(name, found, processors),
-    }
-}
-
-/// What a verb on catalogs or tables asks for.
-fn asked_of_tables<'a>(name: &str, found: &ArgMatches<'a>, processors: u32) -> Option<Request<'a>> {
-    match name {
-        "design" => found::designing(found),
-        "load" => found::loading(found, processors),
-        "dump" => found::dumping(found, processors),
-        "relayout" => found::relaying(found, processors),
-        _ => None,
-    }
-}
-
-/// What an error of the parser says.
-fn unasked_by(alloc: Global, error: &Error) -> Unasked {
-    if error.kind() == ErrorKind::OutOfMemory {
-        return Unasked::Memory;
-    }
-    match format!(in alloc; "{error}") {
-        Ok(text) => {
-            if error.use_stderr() {
-                Unasked::Wrong(text)
-            } else {
-                Unasked::Told(text)
-            }
-        }
-        Err(_) => Unasked::Memory,
-    }
-}
-
-/// That the words are no verb's, where the parser found nothing to say of them.
-fn wrong_words(alloc: Global) -> Unasked {
-    match String::from_str(alloc, "error: these words ask for nothing\n") {
-        Ok(text) => Unasked::Wrong(text),
-        Err(_) => Unasked::Memory,
+        Ok(text) => ParseExit::Usage(text),
+        Err(_) => ParseExit::OutOfMemory,
     }
 }

@@ -2,7 +2,7 @@
 use clap::ArgMatches;
 use cs_schema::Loss;
 
-/// The sites that an argument gives, each from 1 to 16; none where one is not. A site may stand more than once.
+/// The sites that an argument gives; none if one is not from 1 to 16. A site may be given more than once.
 pub fn sites_of(found: &ArgMatches<'_>, argument: &str) -> Option<Loss> {
     let mut loss = Loss::none();
     let Some(sites) = found.get_many::<u8>(argument) else {

@@ -17,9 +17,6 @@ use std::alloc::{AllocError, Global};
 /// An answer as one object.
 pub fn answer_object(alloc: Global, answer: &Answer) -> Result<Value, AllocError> {
     match answer {
-        Answer::Told(text) => Object::of_verb(alloc, "help")
-            .text("text", text.as_str())
-            .finish(),
         Answer::Checked(checked) => checked_object(alloc, checked),
         Answer::Shown(view) => store_object(alloc, view),
         Answer::ShownFile(view) => shown_file_object(alloc, view),

@@ -9,4 +9,4 @@ mod restored_json;
 mod tables_json;
 mod undone_json;
 
-pub use printing::{say, say_refusal};
+pub use printing::{print_bytes, say, say_refusal};

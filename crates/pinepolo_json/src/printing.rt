@@ -106,8 +106,8 @@ fn warn<E: Write>(kind: WorkKind, err: &mut E) -> u8 {
     }
 }
 
-/// Writes a text of bytes, and gives the status where that was possible.
-fn print_bytes<W: Write>(text: &[u8], status: u8, out: &mut W) -> u8
+/// Writes a text, and gives this status: that of a device if it can't be written.
+pub fn print_bytes<W: Write>(text: &[u8], status: u8, out: &mut W) -> u8
     ensures { (result ≡ status) ⊎ (result ≡ DEVICE) }
 {
     match out.write_all(text) {

@@ -1,3 +1,1 @@
-mod SaidStatus
-mod AskedDiagnosis
 mod NoneFailed

@@ -1,3 +1,5 @@
-pub mod TablePromises
 pub mod Promises
+pub mod Requests
 pub mod Showing
+pub mod TablePromises
+pub mod World

@@ -1,5 +1,5 @@
 -- What the verb `show` does, by what the places and the store say of one call.
-use Rattle.std.specs.Prelude.{◌≡◌, ℕ, List, [], Option, Some}
+use Rattle.std.specs.Prelude.{◌≡◌, ℕ, List, [], Option, Some, None}
 use Rattle.cs_schema.specs.CatalogData.{CatalogData}
 use Rattle.cs_schema.specs.FileNames.{surviving, HasName, file_path}
 use Rattle.cs_schema.specs.declared.file_name.FileName.{FileName}
@@ -10,6 +10,8 @@ use Rattle.cs_inspection.specs.BadFiles.{AreBadFiles}
 use Rattle.cs_inspection.specs.declared.badness.Badness.{Badness}
 use Rattle.cs_reports.specs.Design.{IsDesign}
 use Rattle.cs_file_decode.specs.Reports.{IsReportOf}
+use Rattle.pinepolo_text.specs.declared.answer.Answer.{Answer}
+use Rattle.pinepolo_text.specs.declared.answer.Answer.TheVariants.{Shown, ShownFile}
 use Rattle.pinepolo_text.specs.declared.store_view.StoreView.{StoreView}
 use Rattle.pinepolo_text.specs.declared.file_view.FileView.{FileView}
 use Rattle.pinepolo_places.specs.Finding.{FindsStore}
@@ -45,3 +47,9 @@ module _ {P S : Type 0} (reads : P → List ℕ → List ℕ → P → Type 0) (
     pub called : file_path view.name ≡ text
     pub given : gives store view.name (Some bytes) left
     pub report : IsReportOf view.catalog view.name bytes view.report
+
+  -- the answer is the store as a whole, or the file of it that was asked for
+  abbrev pub Shows : (S → FileName → StoreFault → S → Type 0) → (P → List ℕ → List (List ℕ) → P → Type 0) → (P → List ℕ → Option WorkKind → Type 0) → P → List ℕ → Option (List ℕ) → Answer → P → Type 0
+  Shows refuses lists leaves s path None (Shown view) t = ShowsStore refuses lists leaves s path view t
+  Shows refuses lists leaves s path (Some file) (ShownFile view) t = ShowsFile s path file view t
+  Shows refuses lists leaves s path _ _ t = ⊥

@@ -1,5 +1,5 @@
 -- What the verbs on tables as CSV do, each by what the places, the store and the output say of one call.
-use Rattle.std.specs.Prelude.{◌≡◌, ◌⊎◌, ℕ, Bool, List, Option, None, Some, Ok}
+use Rattle.std.specs.Prelude.{◌≡◌, ℕ, List, Option, None, Some, MatchOption, Ok}
 use Rattle.std.specs.Option.{option_map}
 use Rattle.std.specs.FinMap.{entries}
 use Rattle.cs_schema.specs.CatalogData.{CatalogData}
@@ -35,16 +35,17 @@ module _ {P K : Type 0} (begins : P → List ℕ → List ℕ → K → P → Ty
     pub begun : begins s path catalog sink t
     pub saved : Saves takes marks (entries files) sink marked
 
-  -- that was done, and what is answered has these files and so many rows
-  pub record MakesStore (s : P) (path catalog : List ℕ) (files : Files) (rows : ℕ) (store : NewStore) (t : P) : Type 0 where
+  -- that was done, and what is answered has this catalog, these files and so many rows
+  pub record MakesStore (s : P) (path : List ℕ) (C : CatalogData) (catalog : List ℕ) (files : Files) (rows : ℕ) (store : NewStore) (t : P) : Type 0 where
     pub written : WritesStore s path catalog files t
+    pub same_catalog : store.catalog ≡ C
     pub same_files : store.files ≡ files
     pub same_rows : store.rows ≡ rows
 
 module _ {P I K : Type 0} (reads : P → List ℕ → List ℕ → P → Type 0) (opens_table : P → List ℕ → I → P → Type 0) (remaining : I → Option (List ℕ)) (begins : P → List ℕ → List ℕ → K → P → Type 0) (takes : K → FileName → List ℕ → K → Type 0) (marks : K → ℕ → K → Type 0) where
   -- The catalog was read, and then the CSV: its rows make these files. Then a store with the catalog's bytes was begun, and
   -- they were put there and marked.
-  pub record LoadsStore (s : P) (catalog_path table_path store_path : List ℕ) (files : Files) (rows : ℕ) (t : P) : Type 0 where
+  pub record LoadsStore (s : P) (catalog_path table_path store_path : List ℕ) (store : NewStore) (t : P) : Type 0 where
     pub catalog : CatalogData
     pub bytes : List ℕ
     pub found : P
@@ -53,9 +54,7 @@ module _ {P I K : Type 0} (reads : P → List ℕ → List ℕ → P → Type 0)
     pub says : IsCatalogOf bytes catalog
     pub loaded : Loaded
     pub table : ReadsTable opens_table remaining found catalog table_path opened loaded
-    pub same_files : files ≡ loaded.files
-    pub same_rows : rows ≡ loaded.rows
-    pub writes : WritesStore begins takes marks opened store_path bytes loaded.files t
+    pub makes : MakesStore begins takes marks opened store_path catalog bytes loaded.files loaded.rows store t
 
 module _ {S : Type 0} (gives : S → FileName → Option (List ℕ) → S → Type 0) where
   -- what survives the loss was loaded, and this is the text of the table that it holds
@@ -92,27 +91,25 @@ module _ {P S : Type 0} (reads : P → List ℕ → List ℕ → P → Type 0) (
     pub laid_out : LaysOutSurvivors gives catalog L store new relaid left
 
 module _ {P : Type 0} (writes_table : P → List ℕ → List ℕ → P → Type 0) where
-  -- the text is the answer, or it was written at some path
-  abbrev pub WritesText : P → List ℕ → Dumped → P → Type 0
-  WritesText s text dumped t =
-      ((option_map (λ v. v.items) dumped.text ≡ Some text) × (t ≡ s)) ⊎ ((dumped.text ≡ None) × ((path : List ℕ) × writes_table s path text t))
+  -- the text is the answer, or it was written at the path that was asked for
+  abbrev pub WritesText : P → List ℕ → Option (List ℕ) → Dumped → P → Type 0
+  WritesText s text path dumped t =
+      MatchOption path ((option_map (λ v. v.items) dumped.text ≡ Some text) × (t ≡ s)) (λ p. (dumped.text ≡ None) × writes_table s p text t)
 
 module _ {P S : Type 0} (reads : P → List ℕ → List ℕ → P → Type 0) (opens : P → List ℕ → CatalogData → S → Type 0) (gives : S → FileName → Option (List ℕ) → S → Type 0) (leaves : P → List ℕ → Option WorkKind → Type 0) (writes_table : P → List ℕ → List ℕ → P → Type 0) where
-  -- The text of the table that the store holds without the lost sites was read; then it was written, or is the answer.
-  pub record DumpsStore (s : P) (path : List ℕ) (L : Sites) (dumped : Dumped) (t : P) : Type 0 where
+  -- The text of the table that the store holds without the lost sites was read; then it was written to the path that was asked for, or is the answer.
+  pub record DumpsStore (s : P) (path : List ℕ) (L : Sites) (table_path : Option (List ℕ)) (dumped : Dumped) (t : P) : Type 0 where
     pub text : List ℕ
     pub reached : P
     pub reads_text : ReadsText reads opens gives leaves s path L text dumped.unfinished reached
-    pub writes : WritesText writes_table reached text dumped t
+    pub writes : WritesText writes_table reached text table_path dumped t
 
 module _ {P S K : Type 0} (reads : P → List ℕ → List ℕ → P → Type 0) (opens : P → List ℕ → CatalogData → S → Type 0) (gives : S → FileName → Option (List ℕ) → S → Type 0) (begins : P → List ℕ → List ℕ → K → P → Type 0) (takes : K → FileName → List ℕ → K → Type 0) (marks : K → ℕ → K → Type 0) where
   -- The files hold the table of the store without the lost sites, under the new catalog. Then a store with that catalog's bytes was begun, and they were put there and marked.
-  pub record RelaysStore (s : P) (path : List ℕ) (L : Sites) (catalog_path new_path : List ℕ) (files : Files) (rows : ℕ) (t : P) : Type 0 where
+  pub record RelaysStore (s : P) (path : List ℕ) (L : Sites) (catalog_path new_path : List ℕ) (store : NewStore) (t : P) : Type 0 where
     pub catalog : CatalogData
     pub bytes : List ℕ
     pub relaid : Relaid
     pub reached : P
     pub lays_out : LaysOutStore reads opens gives s path L catalog_path catalog bytes relaid reached
-    pub same_files : files ≡ relaid.files
-    pub same_rows : rows ≡ relaid.rows
-    pub writes : WritesStore begins takes marks reached new_path bytes relaid.files t
+    pub makes : MakesStore begins takes marks reached new_path catalog bytes relaid.files relaid.rows store t

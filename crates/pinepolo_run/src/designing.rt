@@ -1,11 +1,12 @@
 //! The verb `design`.
 ghost use Rattle.std.specs.Prelude.{IfOk, OnOk};
+ghost use Rattle.std.specs.Option.{option_map};
 ghost use Rattle.pinepolo_run.specs.Promises.{DesignsCatalog, IsDrawn};
 
 use cs_reports::{Design, design_of, picture};
 use cs_schema::Catalog;
 use cs_store::{Fault, StoreFault};
-use pinepolo_args::Designing;
+use pinepolo_args::DesignArgs;
 use pinepolo_places::{Places, Stop, look_up, stop_of};
 use pinepolo_text::Designed;
 use std::alloc::Global;
@@ -14,10 +15,10 @@ use std::alloc::Global;
 pub fn design<P: Places>(
     alloc: Global,
     places: &mut P,
-    request: &Designing<'_>,
+    request: &DesignArgs<'_>,
 ) -> Result<Designed, Stop>
     ensures { IfOk result (λ designed. DesignsCatalog P.reads P.draws
-        places.old request.now.catalog.now request.now.lost designed.design places.new) }
+        places.old request.now.catalog.now request.now.lost (option_map (λ path. path.now) request.now.svg) designed.design places.new) }
 {
     let lost = request.lost;
     let catalog = match look_up(alloc, places, request.catalog) {
@@ -36,7 +37,7 @@ pub fn design<P: Places>(
     }
 }
 
-/// Writes the picture of a design, where a path is given for it.
+/// Writes the picture of a design, if a path is given for it.
 fn draw<P: Places>(
     alloc: Global,
     places: &mut P,
@@ -44,7 +45,7 @@ fn draw<P: Places>(
     design: &Design,
     path: Option<&str>,
 ) -> Result<(), Stop>
-    ensures { OnOk result (IsDrawn P.reads P.draws places.old places.new) }
+    ensures { OnOk result (IsDrawn P.draws places.old (option_map (λ p. p.now) path.entry) places.new) }
 {
     let Some(path) = path else {
         return Ok(());

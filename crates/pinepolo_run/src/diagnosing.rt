@@ -5,11 +5,11 @@ ghost use Rattle.pinepolo_places.specs.Finding.{LooksUp};
 ghost use Rattle.cs_parallel_io.specs.Standing.{standing};
 ghost use Rattle.pinepolo_run.specs.Promises.{DiagnosesStore};
 
-use crate::host::Host;
 use crate::trusted::{changed_files, find_trusted, read_trusted};
 use cs_diagnosis::{diagnose as diagnose_files, disputed_rows};
+use cs_rebuild::Run;
 use cs_verifying::manifest_if;
-use pinepolo_args::Diagnosing;
+use pinepolo_args::DiagnoseArgs;
 use pinepolo_places::{Listings, Stop, Tables};
 use pinepolo_progress::{Progress, Stage};
 use pinepolo_text::Diagnosed;
@@ -20,16 +20,15 @@ use std::thread::Threads;
 ///
 /// Files of which the manifest says another digest, where one is asked for, are as good as missing.
 pub fn diagnose<R: Threads + Sync, G: Progress + Sync, P: Listings + Tables>(
-    host: &Host<'_, R, G>,
+    run: &Run<'_, R, G>,
     places: &mut P,
-    request: &Diagnosing<'_>,
+    request: &DiagnoseArgs<'_>,
 ) -> Result<Diagnosed, Stop>
     ensures ok { IfOk result (λ diagnosed. DiagnosesStore P.reads P.opens (standing P.Store.answers) (standing P.Store.fails) P.opens_table P.Input.remaining P.leaves
         places.old request.now.store.now (option_map (λ path. path.now) request.now.manifest) request.now.at_most request.now.disputes diagnosed places.new) }
     ensures err { request.now.manifest ≡ None → OnErr result (LooksUp P.reads P.misses places.old request.now.store.now places.new) }
 {
-    let alloc = host.alloc;
-    let run = host.run_by(request.workers);
+    let alloc = run.alloc;
     let manifest = match manifest_if(alloc, places, request.manifest) {
         Ok(manifest) => manifest,
         Err(stop) => return Err(stop),
@@ -38,15 +37,15 @@ pub fn diagnose<R: Threads + Sync, G: Progress + Sync, P: Listings + Tables>(
         Ok(found) => found,
         Err(stop) => return Err(stop),
     };
-    let Ok(found) = read_trusted(host, &catalog, &source, &manifest) else {
+    let Ok(found) = read_trusted(run, &catalog, &source, &manifest) else {
         return Err(Stop::Memory);
     };
     let unreadable = found.unreadable.as_slice();
-    let Ok(changed) = changed_files(host, &catalog, &source, &manifest, unreadable) else {
+    let Ok(changed) = changed_files(run, &catalog, &source, &manifest, unreadable) else {
         return Err(Stop::Memory);
     };
-    host.gate.reached(Stage::Inspecting);
-    let Ok(diagnosis) = diagnose_files(&run, &catalog, &found.files, unreadable, request.at_most)
+    run.gate.reached(Stage::Inspecting);
+    let Ok(diagnosis) = diagnose_files(run, &catalog, &found.files, unreadable, request.at_most)
     else {
         return Err(Stop::Memory);
     };

@@ -1,15 +1,16 @@
 //! The verb `dump`.
 ghost use Rattle.std.specs.Prelude.{◌≡◌, IfOk};
+ghost use Rattle.std.specs.Option.{option_map};
 ghost use Rattle.cs_parallel_io.specs.Standing.{standing};
 ghost use Rattle.pinepolo_run.specs.TablePromises.{DumpsStore, GivesText, ReadsText, WritesText};
 
-use crate::host::{Host, World};
+use crate::host::World;
 use crate::surviving::{Surviving, read_survivors, refuse};
 use crate::ways::{see_way, unmade};
 use cs_parallel_io::SharedSource;
 use cs_rebuild::Run;
 use cs_tables::DumpFault;
-use pinepolo_args::Dumping;
+use pinepolo_args::DumpArgs;
 use pinepolo_places::{Stop, Tables, WorkKind, find_store};
 use pinepolo_progress::{Progress, Stage};
 use pinepolo_text::Dumped;
@@ -26,38 +27,38 @@ struct TableText {
 
 /// Writes the table of a store as CSV, to a new file or as the answer.
 pub fn dump<R: Threads + Sync, G: Progress + Sync, P: World>(
-    host: &Host<'_, R, G>,
+    run: &Run<'_, R, G>,
     places: &mut P,
-    request: &Dumping<'_>,
+    request: &DumpArgs<'_>,
 ) -> Result<Dumped, Stop>
     ensures { IfOk result (λ dumped. DumpsStore P.reads P.opens (standing P.Store.answers) P.leaves P.writes_table
-        places.old request.now.store.now request.now.lost dumped places.new) }
+        places.old request.now.store.now request.now.lost (option_map (λ path. path.now) request.now.table) dumped places.new) }
 {
-    let alloc = host.alloc;
+    let alloc = run.alloc;
     if let Some(path) = request.table {
         match see_way(alloc, places, path, true) {
             Ok(()) => {}
             Err(stop) => return Err(stop),
         }
     }
-    let text = match read_text(host, places, request) {
+    let text = match read_text(run, places, request) {
         Ok(text) => text,
         Err(stop) => return Err(stop),
     };
-    host.gate.reached(Stage::Writing);
+    run.gate.reached(Stage::Writing);
     write_text(alloc, places, request.table, text)
 }
 
 /// The text of the table that a store holds, without the sites that are lost.
 fn read_text<R: Threads + Sync, G: Progress + Sync, P: World>(
-    host: &Host<'_, R, G>,
+    run: &Run<'_, R, G>,
     places: &mut P,
-    request: &Dumping<'_>,
+    request: &DumpArgs<'_>,
 ) -> Result<TableText, Stop>
     ensures { IfOk result (λ found. ReadsText P.reads P.opens (standing P.Store.answers) P.leaves
         places.old request.now.store.now request.now.lost found.text.items found.unfinished places.new) }
 {
-    let (catalog, source) = match find_store(host.alloc, places, request.store) {
+    let (catalog, source) = match find_store(run.alloc, places, request.store) {
         Ok(found) => found,
         Err(stop) => return Err(stop),
     };
@@ -70,8 +71,7 @@ fn read_text<R: Threads + Sync, G: Progress + Sync, P: World>(
         path: request.store,
         unfinished,
     };
-    let run = host.run_by(request.workers);
-    match text_of(host, &run, &store, &source) {
+    match text_of(run, &store, &source) {
         Ok(text) => Ok(TableText { text, unfinished }),
         Err(stop) => Err(stop),
     }
@@ -79,20 +79,19 @@ fn read_text<R: Threads + Sync, G: Progress + Sync, P: World>(
 
 /// The text of the table that the survivors of a store hold.
 fn text_of<R: Threads + Sync, G: Progress + Sync, S: SharedSource>(
-    host: &Host<'_, R, G>,
     run: &Run<'_, R, G>,
     store: &Surviving<'_>,
     source: &S,
 ) -> Result<Vec<u8>, Stop>
     ensures { IfOk result (λ text. GivesText (standing S.answers) store.now.catalog.now store.now.lost source.now text.items source.now) }
 {
-    let files = match read_survivors(host, store, source) {
+    let files = match read_survivors(run, store, source) {
         Ok(files) => files,
         Err(stop) => return Err(stop),
     };
-    match cs_tables::dump(run, store.catalog, &files, store.lost, Vec::new(host.alloc)) {
+    match cs_tables::dump(run, store.catalog, &files, store.lost, Vec::new(run.alloc)) {
         Ok(text) => Ok(text),
-        Err(DumpFault::Store(fault)) => Err(refuse(host, store, &files, &[], &fault)),
+        Err(DumpFault::Store(fault)) => Err(refuse(run, store, &files, &[], &fault)),
         Err(DumpFault::Text(_)) => Err(Stop::Memory),
     }
 }
@@ -104,7 +103,7 @@ fn write_text<P: Tables>(
     path: Option<&str>,
     found: TableText,
 ) -> Result<Dumped, Stop>
-    ensures { IfOk result (λ dumped. WritesText P.writes_table places.old found.text.items dumped places.new
+    ensures { IfOk result (λ dumped. WritesText P.writes_table places.old found.text.items (option_map (λ p. p.now) path.entry) dumped places.new
         × (dumped.unfinished ≡ found.unfinished)) }
 {
     let TableText { text, unfinished } = found;

@@ -13,14 +13,12 @@ pub const CUT: u32 = 65_536;
 pub struct Host<'a, R, G> {
     pub rt: &'a R,
     pub alloc: Global,
-    /// How many processors there are.
-    pub processors: u32,
     /// What is told how far a verb has come.
     pub gate: &'a G,
 }
 
 impl<'a, R, G> Host<'a, R, G> {
-    /// By what and how so many workers do the rounds of a verb.
+    /// What a verb runs on, with this many workers.
     pub fn run_by(&self, workers: u32) -> Run<'a, R, G>
         requires { (1 ≤ workers) × (workers ≤ 64) }
     {

@@ -1,7 +1,8 @@
 //! The verbs of pinepolo, each a public call over `Places`: where stores are found, and outputs and pictures are made.
 //!
-//! A verb answers what it did, or why it ended early; `run` does what words ask for, prints the answer as text or as one
-//! object of JSON, and gives the status. Promised: the status is 0 only where the verb's promise was performed.
+//! A verb answers what it did, or why it stopped early; `run` does what a request asks for, prints the answer as text or
+//! as one object of JSON, and gives the status. Promised: the request's own verb was performed on the paths, sites and
+//! numbers that it gives, and the status tells its answer; or it stopped early, with a status that is not 0.
 #![tactic(auto)]
 
 mod designing;
@@ -34,4 +35,4 @@ pub use pinepolo_text::{
 pub use program::run;
 pub use recovering::recover;
 pub use relaying::relayout;
-pub use showing::{show, show_file};
+pub use showing::show;

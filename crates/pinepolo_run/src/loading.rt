@@ -2,14 +2,15 @@
 ghost use Rattle.std.specs.Prelude.{IfOk};
 ghost use Rattle.pinepolo_run.specs.TablePromises.{LoadsStore, ReadsTable};
 
-use crate::host::{Host, World};
+use crate::host::World;
 use crate::making::{make_store, unsafe_already};
 use crate::ways::see_way;
 use cs_csv::CsvFault;
+use cs_rebuild::Run;
 use cs_schema::Catalog;
 use cs_store::StoreFault;
 use cs_tables::{LoadFault, LoadWords, Loaded};
-use pinepolo_args::Loading;
+use pinepolo_args::LoadArgs;
 use pinepolo_places::{Stop, look_up_text, refused};
 use pinepolo_progress::{LinesRead, Progress, Stage};
 use pinepolo_text::NewStore;
@@ -19,14 +20,14 @@ use std::thread::Threads;
 
 /// Makes a store of a catalog from a CSV. It gets its name last, when all of it is written.
 pub fn load<R: Threads + Sync, G: Progress + Sync, P: World>(
-    host: &Host<'_, R, G>,
+    run: &Run<'_, R, G>,
     places: &mut P,
-    request: &Loading<'_>,
+    request: &LoadArgs<'_>,
 ) -> Result<NewStore, Stop>
     ensures { IfOk result (λ store. LoadsStore P.reads P.opens_table P.Input.remaining P.begins P.NewStore.takes P.NewStore.marks
-        places.old request.now.catalog.now request.now.table.now request.now.store.now store.files store.rows places.new) }
+        places.old request.now.catalog.now request.now.table.now request.now.store.now store places.new) }
 {
-    let alloc = host.alloc;
+    let alloc = run.alloc;
     let found = match look_up_text(alloc, places, request.catalog) {
         Ok(found) => found,
         Err(stop) => return Err(stop),
@@ -35,11 +36,11 @@ pub fn load<R: Threads + Sync, G: Progress + Sync, P: World>(
         Ok(()) => {}
         Err(stop) => return Err(stop),
     }
-    let Loaded { files, rows } = match read_table(host, places, &found.0, request) {
+    let Loaded { files, rows } = match read_table(run, places, &found.0, request) {
         Ok(loaded) => loaded,
         Err(stop) => return Err(stop),
     };
-    host.gate.reached(Stage::Writing);
+    run.gate.reached(Stage::Writing);
     make_store(alloc, places, found, files, rows, request.store)
 }
 
@@ -72,23 +73,22 @@ fn stop_by(alloc: Global, catalog: &Catalog, path: &str, fault: &LoadFault) -> S
 
 /// The files of a store from a CSV.
 fn read_table<R: Threads + Sync, G: Progress + Sync, P: World>(
-    host: &Host<'_, R, G>,
+    run: &Run<'_, R, G>,
     places: &mut P,
     catalog: &Catalog,
-    request: &Loading<'_>,
+    request: &LoadArgs<'_>,
 ) -> Result<Loaded, Stop>
     ensures { IfOk result (ReadsTable P.opens_table P.Input.remaining places.old catalog.now request.now.table.now places.new) }
 {
-    let alloc = host.alloc;
-    let run = host.run_by(request.workers);
+    let alloc = run.alloc;
     let input = match places.table(request.table) {
         Ok(input) => input,
         Err(StoreFault::Memory) => return Err(Stop::Memory),
         Err(StoreFault::Device) => return Err(unread(alloc, request.table)),
     };
-    host.gate.reached(Stage::Table);
-    let lines = LinesRead::new(input, host.gate);
-    match cs_tables::load(&run, catalog, lines) {
+    run.gate.reached(Stage::Table);
+    let lines = LinesRead::new(input, run.gate);
+    match cs_tables::load(run, catalog, lines) {
         Ok(loaded) => Ok(loaded),
         Err(fault) => Err(stop_by(alloc, catalog, request.table, &fault)),
     }

@@ -20,7 +20,7 @@ pub fn make_store<P: Tables>(
     path: &str,
 ) -> Result<NewStore, Stop>
     ensures { IfOk result (λ store. MakesStore P.begins P.NewStore.takes P.NewStore.marks
-        places.old path.now found.1.items files rows store places.new) }
+        places.old path.now found.0 found.1.items files rows store places.new) }
 {
     let (catalog, bytes) = found;
     match write_store(alloc, places, &catalog, bytes.as_slice(), &files, path) {
@@ -57,7 +57,7 @@ fn write_store<P: Tables>(
 
 /// What is answered once the store is there.
 fn finish(alloc: Global, catalog: Catalog, files: FileSet, rows: usize) -> Result<NewStore, Stop>
-    ensures { IfOk result (λ store. (store.files ≡ files) × (store.rows ≡ rows)) }
+    ensures { IfOk result (λ store. (store.catalog ≡ catalog) × (store.files ≡ files) × (store.rows ≡ rows)) }
 {
     let k = greatest_k(&catalog, Loss::none()).unwrap_or(0);
     let Ok(fatal) = fatal_losses(alloc, &catalog, Loss::none()) else {

@@ -4,12 +4,11 @@ ghost use Rattle.pinepolo_places.specs.Finding.{LooksUp};
 ghost use Rattle.cs_parallel_io.specs.Standing.{standing};
 ghost use Rattle.pinepolo_run.specs.Promises.{RecoversStore, StopsRecovery, RebuildsStore, WritesOutput, AsksForOutput};
 
-use crate::host::Host;
 use cs_parallel_io::{load_side_by_side, save_batch};
-use cs_rebuild::rebuild_owned;
+use cs_rebuild::{Run, rebuild_owned};
 use cs_schema::{Catalog, Loss};
 use cs_store::{FileSet, StoreFault};
-use pinepolo_args::Recovering;
+use pinepolo_args::RecoverArgs;
 use pinepolo_places::{Places, Stop, find_store, stop_of};
 use pinepolo_progress::{Progress, Stage};
 use pinepolo_text::Recovered;
@@ -19,24 +18,24 @@ use std::thread::Threads;
 
 /// Recovers what a store has lost into an output, which is made only after the store was accepted, and marked last.
 pub fn recover<R: Threads + Sync, G: Progress + Sync, P: Places>(
-    host: &Host<'_, R, G>,
+    run: &Run<'_, R, G>,
     places: &mut P,
-    request: &Recovering<'_>,
+    request: &RecoverArgs<'_>,
 ) -> Result<Recovered, Stop>
     ensures ok { IfOk result (λ recovered. RecoversStore P.reads P.opens (standing P.Store.answers) P.makes P.Output.takes P.Output.marks
-        places.old request.now.store.now request.now.loss request.now.output.now recovered.files places.new) }
+        places.old request.now.store.now request.now.lost request.now.output.now recovered.files places.new) }
     ensures err { OnErr result (StopsRecovery P.reads P.opens (standing P.Store.answers) P.makes P.misses P.denies
-        places.old request.now.store.now request.now.loss request.now.output.now places.new) }
+        places.old request.now.store.now request.now.lost request.now.output.now places.new) }
 {
-    let (catalog, rebuilt) = match rebuild_store(host, places, request) {
+    let (catalog, rebuilt) = match rebuild_store(run, places, request) {
         Ok(found) => found,
         Err(stop) => return Err(stop),
     };
-    host.gate.reached(Stage::Writing);
-    match write_output(host, places, &catalog, &rebuilt, request.output) {
+    run.gate.reached(Stage::Writing);
+    match write_output(run, places, &catalog, &rebuilt, request.output) {
         Ok(()) => Ok(Recovered {
             catalog,
-            lost: request.loss,
+            lost: request.lost,
             files: rebuilt,
         }),
         Err(stop) => Err(stop),
@@ -45,33 +44,32 @@ pub fn recover<R: Threads + Sync, G: Progress + Sync, P: Places>(
 
 /// The files that recover what a store has lost, with its catalog.
 fn rebuild_store<R: Threads + Sync, G: Progress + Sync, P: Places>(
-    host: &Host<'_, R, G>,
+    run: &Run<'_, R, G>,
     places: &mut P,
-    request: &Recovering<'_>,
+    request: &RecoverArgs<'_>,
 ) -> Result<(Catalog, FileSet), Stop>
     ensures ok { IfOk result (λ found. RebuildsStore P.reads P.opens (standing P.Store.answers)
-        places.old request.now.store.now request.now.loss found.1 places.new) }
+        places.old request.now.store.now request.now.lost found.1 places.new) }
     ensures err { OnErr result (LooksUp P.reads P.misses places.old request.now.store.now places.new) }
 {
-    let (alloc, loss) = (host.alloc, request.loss);
-    let run = host.run_by(request.workers);
+    let (alloc, lost) = (run.alloc, request.lost);
     let (catalog, source) = match find_store(alloc, places, request.store) {
         Ok(found) => found,
         Err(stop) => return Err(stop),
     };
-    let files = match load_side_by_side(run.rt, alloc, &catalog, loss, &source) {
+    let files = match load_side_by_side(run.rt, alloc, &catalog, lost, &source) {
         Ok(files) => files,
-        Err(fault) => return Err(stop_of(alloc, &catalog, loss, &fault)),
+        Err(fault) => return Err(stop_of(alloc, &catalog, lost, &fault)),
     };
-    match rebuild_owned(&run, &catalog, loss, files) {
+    match rebuild_owned(run, &catalog, lost, files) {
         Ok(rebuilt) => Ok((catalog, rebuilt)),
-        Err(fault) => Err(stop_of(alloc, &catalog, loss, &fault)),
+        Err(fault) => Err(stop_of(alloc, &catalog, lost, &fault)),
     }
 }
 
 /// Makes the output, puts the files there and marks it.
 fn write_output<R: Threads + Sync, G: Progress + Sync, P: Places>(
-    host: &Host<'_, R, G>,
+    run: &Run<'_, R, G>,
     places: &mut P,
     catalog: &Catalog,
     files: &FileSet,
@@ -82,11 +80,11 @@ fn write_output<R: Threads + Sync, G: Progress + Sync, P: Places>(
 {
     let sink = match places.output(path) {
         Ok(sink) => sink,
-        Err(fault) => return Err(unmade(host.alloc, fault, path)),
+        Err(fault) => return Err(unmade(run.alloc, fault, path)),
     };
-    match save_batch(host.rt, host.alloc, files, sink) {
+    match save_batch(run.rt, run.alloc, files, sink) {
         Ok(()) => Ok(()),
-        Err(fault) => Err(stop_of(host.alloc, catalog, Loss::none(), &fault)),
+        Err(fault) => Err(stop_of(run.alloc, catalog, Loss::none(), &fault)),
     }
 }
 

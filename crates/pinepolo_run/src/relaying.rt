@@ -3,15 +3,16 @@ ghost use Rattle.std.specs.Prelude.{IfOk};
 ghost use Rattle.cs_parallel_io.specs.Standing.{standing};
 ghost use Rattle.pinepolo_run.specs.TablePromises.{LaysOutStore, LaysOutSurvivors, RelaysStore};
 
-use crate::host::{Host, World};
+use crate::host::World;
 use crate::making::{make_store, unsafe_already};
 use crate::surviving::{Surviving, read_survivors, refuse};
 use crate::ways::see_way;
 use cs_parallel_io::SharedSource;
+use cs_rebuild::Run;
 use cs_schema::Catalog;
 use cs_store::FileSet;
 use cs_tables::{Relaid, RelayoutFault, RelayoutWords};
-use pinepolo_args::Relaying;
+use pinepolo_args::RelayoutArgs;
 use pinepolo_places::{Stop, find_store, look_up_text, refused};
 use pinepolo_progress::{Progress, Stage};
 use pinepolo_text::NewStore;
@@ -27,44 +28,44 @@ struct LaidOut {
 
 /// Makes a new store of the table that another holds, under another catalog. It gets its name last, when all of it is written.
 pub fn relayout<R: Threads + Sync, G: Progress + Sync, P: World>(
-    host: &Host<'_, R, G>,
+    run: &Run<'_, R, G>,
     places: &mut P,
-    request: &Relaying<'_>,
+    request: &RelayoutArgs<'_>,
 ) -> Result<NewStore, Stop>
     ensures { IfOk result (λ store. RelaysStore P.reads P.opens (standing P.Store.answers) P.begins P.NewStore.takes P.NewStore.marks
-        places.old request.now.store.now request.now.lost request.now.catalog.now request.now.new.now store.files store.rows places.new) }
+        places.old request.now.store.now request.now.lost request.now.catalog.now request.now.new.now store places.new) }
 {
-    match see_way(host.alloc, places, request.new, request.replaces) {
+    match see_way(run.alloc, places, request.new, request.replaces) {
         Ok(()) => {}
         Err(stop) => return Err(stop),
     }
-    let LaidOut { found, relaid } = match lay_out_store(host, places, request) {
+    let LaidOut { found, relaid } = match lay_out_store(run, places, request) {
         Ok(laid_out) => laid_out,
         Err(stop) => return Err(stop),
     };
-    host.gate.reached(Stage::Writing);
+    run.gate.reached(Stage::Writing);
     let Relaid { files, rows } = relaid;
-    make_store(host.alloc, places, found, files, rows, request.new)
+    make_store(run.alloc, places, found, files, rows, request.new)
 }
 
 /// Finds the store and the new catalog, and lays the store's table out.
 fn lay_out_store<R: Threads + Sync, G: Progress + Sync, P: World>(
-    host: &Host<'_, R, G>,
+    run: &Run<'_, R, G>,
     places: &mut P,
-    request: &Relaying<'_>,
+    request: &RelayoutArgs<'_>,
 ) -> Result<LaidOut, Stop>
     ensures { IfOk result (λ laid_out. LaysOutStore P.reads P.opens (standing P.Store.answers)
         places.old request.now.store.now request.now.lost request.now.catalog.now
         laid_out.found.0 laid_out.found.1.items laid_out.relaid places.new) }
 {
-    let (old, source) = match find_store(host.alloc, places, request.store) {
+    let (old, source) = match find_store(run.alloc, places, request.store) {
         Ok(found) => found,
         Err(stop) => return Err(stop),
     };
     let Ok(unfinished) = places.unfinished(request.store) else {
         return Err(Stop::Memory);
     };
-    let found = match look_up_text(host.alloc, places, request.catalog) {
+    let found = match look_up_text(run.alloc, places, request.catalog) {
         Ok(found) => found,
         Err(stop) => return Err(stop),
     };
@@ -74,7 +75,7 @@ fn lay_out_store<R: Threads + Sync, G: Progress + Sync, P: World>(
         path: request.store,
         unfinished,
     };
-    match lay_out(host, request, &store, &source, &found.0) {
+    match lay_out(run, request, &store, &source, &found.0) {
         Ok(relaid) => Ok(LaidOut { found, relaid }),
         Err(stop) => Err(stop),
     }
@@ -82,29 +83,28 @@ fn lay_out_store<R: Threads + Sync, G: Progress + Sync, P: World>(
 
 /// Lays the table out that the survivors of a store hold.
 fn lay_out<R: Threads + Sync, G: Progress + Sync, S: SharedSource>(
-    host: &Host<'_, R, G>,
-    request: &Relaying<'_>,
+    run: &Run<'_, R, G>,
+    request: &RelayoutArgs<'_>,
     store: &Surviving<'_>,
     source: &S,
     new: &Catalog,
 ) -> Result<Relaid, Stop>
     ensures { IfOk result (λ relaid. LaysOutSurvivors (standing S.answers) store.now.catalog.now store.now.lost source.now new.now relaid source.now) }
 {
-    let run = host.run_by(request.workers);
-    let files = match read_survivors(host, store, source) {
+    let files = match read_survivors(run, store, source) {
         Ok(files) => files,
         Err(stop) => return Err(stop),
     };
-    match cs_tables::relayout(&run, store.catalog, &files, store.lost, new) {
+    match cs_tables::relayout(run, store.catalog, &files, store.lost, new) {
         Ok(relaid) => Ok(relaid),
-        Err(fault) => Err(stop_by(host, request, store, &files, new, &fault)),
+        Err(fault) => Err(stop_by(run, request, store, &files, new, &fault)),
     }
 }
 
 /// How a fault ends a relayout.
 fn stop_by<R: Threads + Sync, G: Progress + Sync>(
-    host: &Host<'_, R, G>,
-    request: &Relaying<'_>,
+    run: &Run<'_, R, G>,
+    request: &RelayoutArgs<'_>,
     store: &Surviving<'_>,
     files: &FileSet,
     new: &Catalog,
@@ -112,13 +112,13 @@ fn stop_by<R: Threads + Sync, G: Progress + Sync>(
 ) -> Stop {
     match fault {
         RelayoutFault::Memory => Stop::Memory,
-        RelayoutFault::Unsafe => unsafe_already(host.alloc, new),
-        RelayoutFault::Store(fault) => refuse(host, store, files, &[], fault),
+        RelayoutFault::Unsafe => unsafe_already(run.alloc, new),
+        RelayoutFault::Store(fault) => refuse(run, store, files, &[], fault),
         _ => {
             let old = store.catalog;
             let words = RelayoutWords { old, new, fault };
             let path = request.catalog;
-            let text = format!(in host.alloc;
+            let text = format!(in run.alloc;
                 "fault: {words}\nnext: change {path}, and lay the store out again\n"
             );
             refused(text.ok())

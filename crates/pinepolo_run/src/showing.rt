@@ -1,19 +1,21 @@
 //! The verb `show`.
 ghost use Rattle.std.specs.Prelude.{◌≡◌, IsTrue, IfOk, IfSome};
+ghost use Rattle.std.specs.Option.{option_map};
 ghost use Rattle.cs_schema.specs.FileNames.{HasName, file_path};
 ghost use Rattle.cs_parallel_io.specs.Standing.{standing};
-ghost use Rattle.pinepolo_run.specs.Showing.{ShowsStore, ShowsFile, LooksOver};
+ghost use Rattle.pinepolo_run.specs.Showing.{Shows, ShowsStore, ShowsFile, LooksOver};
 
-use crate::host::Host;
 use cs_file_decode::look_into;
 use cs_inspection::{Badness, bad_files};
 use cs_parallel_io::{SharedSource, load_readable_side_by_side};
+use cs_rebuild::Run;
 use cs_reports::design_of;
 use cs_schema::{Catalog, FileName, Loss};
 use cs_store::{Fault, StoreFault};
+use pinepolo_args::ShowArgs;
 use pinepolo_places::{Listings, Places, Stop, find_store, stop_of};
 use pinepolo_progress::{Progress, Stage};
-use pinepolo_text::{FileLine, FileView, StoreView, lines_of, strays_of};
+use pinepolo_text::{Answer, FileLine, FileView, StoreView, lines_of, strays_of};
 use std::alloc::{AllocError, Global};
 use std::marker::Sync;
 use std::thread::Threads;
@@ -27,19 +29,19 @@ struct Seen {
 
 /// Reads the files of a store, and looks at each.
 fn look_over<R: Threads + Sync, G: Progress + Sync, S: SharedSource>(
-    host: &Host<'_, R, G>,
+    run: &Run<'_, R, G>,
     catalog: &Catalog,
     source: &S,
 ) -> Result<Seen, Stop>
     ensures { IfOk result (λ seen. LooksOver (standing S.answers) (standing S.fails) catalog.now source.now seen.bad.items source.now) }
 {
-    let alloc = host.alloc;
-    let Ok(found) = load_readable_side_by_side(host.rt, alloc, catalog, Loss::none(), source) else {
+    let alloc = run.alloc;
+    let Ok(found) = load_readable_side_by_side(run.rt, alloc, catalog, Loss::none(), source) else {
         return Err(Stop::Memory);
     };
     let unreadable = found.unreadable.as_slice();
-    host.gate.reached(Stage::Inspecting);
-    let Ok(bad) = bad_files(host.rt, alloc, catalog, &found.files, unreadable) else {
+    run.gate.reached(Stage::Inspecting);
+    let Ok(bad) = bad_files(run.rt, alloc, catalog, &found.files, unreadable) else {
         return Err(Stop::Memory);
     };
     match lines_of(alloc, catalog, &found.files, bad.as_slice()) {
@@ -63,15 +65,15 @@ fn unlisted(alloc: Global, fault: StoreFault, path: &str) -> Stop {
 }
 
 /// What a store holds: its catalog, its files, those that are bad, and what else stands in its folder.
-pub fn show<R: Threads + Sync, G: Progress + Sync, P: Listings>(
-    host: &Host<'_, R, G>,
+fn show_store<R: Threads + Sync, G: Progress + Sync, P: Listings>(
+    run: &Run<'_, R, G>,
     places: &mut P,
     path: &str,
 ) -> Result<StoreView, Stop>
     ensures { IfOk result (λ view. ShowsStore P.reads P.opens (standing P.Store.answers) (standing P.Store.fails) P.lists P.leaves
         places.old path.now view places.new) }
 {
-    let alloc = host.alloc;
+    let alloc = run.alloc;
     let (catalog, source) = match find_store(alloc, places, path) {
         Ok(found) => found,
         Err(stop) => return Err(stop),
@@ -80,7 +82,7 @@ pub fn show<R: Threads + Sync, G: Progress + Sync, P: Listings>(
         Ok(names) => names,
         Err(fault) => return Err(unlisted(alloc, fault, path)),
     };
-    let Seen { bad, lines } = match look_over(host, &catalog, &source) {
+    let Seen { bad, lines } = match look_over(run, &catalog, &source) {
         Ok(seen) => seen,
         Err(stop) => return Err(stop),
     };
@@ -137,7 +139,7 @@ fn unnamed(alloc: Global, text: &str) -> Stop {
 }
 
 /// What the bytes of one file of a store say.
-pub fn show_file<P: Places>(
+fn show_file<P: Places>(
     alloc: Global,
     places: &mut P,
     path: &str,
@@ -171,4 +173,19 @@ pub fn show_file<P: Places>(
         Err(StoreFault::Memory) => Fault::Memory,
     };
     Err(stop_of(alloc, &catalog, Loss::none(), &fault))
+}
+
+/// What a store holds, or what the bytes of one of its files say.
+pub fn show<R: Threads + Sync, G: Progress + Sync, P: Listings>(
+    run: &Run<'_, R, G>,
+    places: &mut P,
+    request: &ShowArgs<'_>,
+) -> Result<Answer, Stop>
+    ensures { IfOk result (λ answer. Shows P.reads P.opens (standing P.Store.answers) (standing P.Store.fails) P.lists P.leaves
+        places.old request.now.store.now (option_map (λ file. file.now) request.now.file) answer places.new) }
+{
+    match request.file {
+        None => show_store(run, places, request.store).map(Answer::Shown),
+        Some(file) => show_file(run.alloc, places, request.store, file).map(Answer::ShownFile),
+    }
 }

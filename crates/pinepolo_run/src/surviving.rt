@@ -4,9 +4,9 @@ ghost use Rattle.cs_schema.specs.FileNames.{surviving};
 ghost use Rattle.cs_store.specs.Load.{Loads};
 ghost use Rattle.cs_parallel_io.specs.Standing.{standing};
 
-use crate::host::Host;
 use cs_inspection::{Badness, bad_survivors};
 use cs_parallel_io::{SharedSource, load_readable_side_by_side};
+use cs_rebuild::Run;
 use cs_reports::FaultWords;
 use cs_schema::{Catalog, FileName, Loss};
 use cs_store::{Fault, FileSet, Readable};
@@ -40,26 +40,21 @@ impl<'a> Surviving<'a> {
 
 /// Reads the files that survive. Where some can't be read, all that are bad are named.
 pub fn read_survivors<R: Threads + Sync, G: Progress + Sync, S: SharedSource>(
-    host: &Host<'_, R, G>,
+    run: &Run<'_, R, G>,
     store: &Surviving<'_>,
     source: &S,
 ) -> Result<FileSet, Stop>
     ensures { IfOk result (λ files. Loads (standing S.answers) (surviving store.now.catalog.now store.now.lost) source.now files source.now) }
 {
-    let Ok(found) = load_readable_side_by_side(
-        host.rt,
-        host.alloc,
-        store.catalog,
-        store.lost,
-        source,
-    ) else {
+    let Ok(found) = load_readable_side_by_side(run.rt, run.alloc, store.catalog, store.lost, source)
+    else {
         return Err(Stop::Memory);
     };
     let Readable { files, unreadable } = found;
     match unreadable.first() {
         None => Ok(files),
         Some(name) => Err(refuse(
-            host,
+            run,
             store,
             &files,
             unreadable.as_slice(),
@@ -70,17 +65,17 @@ pub fn read_survivors<R: Threads + Sync, G: Progress + Sync, S: SharedSource>(
 
 /// How a fault of what survives ends a verb: all bad files are named, if it comes of bad files.
 pub fn refuse<R: Threads + Sync, G: Progress + Sync>(
-    host: &Host<'_, R, G>,
+    run: &Run<'_, R, G>,
     store: &Surviving<'_>,
     files: &FileSet,
     unreadable: &[FileName],
     fault: &Fault,
 ) -> Stop {
-    let alloc = host.alloc;
+    let alloc = run.alloc;
     if let Fault::Memory | Fault::Site | Fault::Unsafe(_) = fault {
         return stop_of(alloc, store.catalog, store.lost, fault);
     }
-    let Ok(bad) = bad_survivors(host.rt, alloc, store.catalog, files, unreadable, store.lost) else {
+    let Ok(bad) = bad_survivors(run.rt, alloc, store.catalog, files, unreadable, store.lost) else {
         return Stop::Memory;
     };
     let Some(lines) = lines_of(alloc, store, bad.as_slice(), fault) else {

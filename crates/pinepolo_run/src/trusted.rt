@@ -9,10 +9,10 @@ ghost use Rattle.cs_parallel_io.specs.Standing.{standing};
 ghost use Rattle.cs_verifying.specs.Trust.{gives_trusted, refuses_trusted};
 ghost use Rattle.pinepolo_run.specs.Promises.{FindsTrusted};
 
-use crate::host::Host;
 use cs_inspection::bad_files;
 use cs_manifest::{CATALOG, Manifest};
 use cs_parallel_io::{SharedSource, load_readable_side_by_side};
+use cs_rebuild::Run;
 use cs_schema::{Catalog, FileName, Loss};
 use cs_store::{FileSet, Readable};
 use cs_verifying::{Trusted, is_changed};
@@ -53,7 +53,7 @@ pub fn find_trusted<P: Places>(
 
 /// Reads each file of a store that can be read, and of which the manifest says no other digest.
 pub fn read_trusted<R: Threads + Sync, G: Progress + Sync, S: SharedSource>(
-    host: &Host<'_, R, G>,
+    run: &Run<'_, R, G>,
     catalog: &Catalog,
     source: &S,
     manifest: &Manifest,
@@ -63,19 +63,19 @@ pub fn read_trusted<R: Threads + Sync, G: Progress + Sync, S: SharedSource>(
     ensures apart { IfOk result (λ found. AllByRecursion (λ name. contents_of found.files name ≡ None) found.unreadable.items) }
 {
     let trusted = Trusted { source, manifest };
-    load_readable_side_by_side(host.rt, host.alloc, catalog, Loss::none(), &trusted)
+    load_readable_side_by_side(run.rt, run.alloc, catalog, Loss::none(), &trusted)
 }
 
 /// Whether these bytes alone are no file of this name.
 fn is_damaged<R: Threads + Sync, G: Progress + Sync>(
-    host: &Host<'_, R, G>,
+    run: &Run<'_, R, G>,
     catalog: &Catalog,
     name: FileName,
     bytes: Vec<u8>,
 ) -> Result<bool, AllocError> {
-    let mut alone = FileSet::new(host.alloc)?;
+    let mut alone = FileSet::new(run.alloc)?;
     alone.put(name, bytes)?;
-    for (bad, _) in bad_files(host.rt, host.alloc, catalog, &alone, &[])? {
+    for (bad, _) in bad_files(run.rt, run.alloc, catalog, &alone, &[])? {
         if bad == name {
             return Ok(true);
         }
@@ -85,19 +85,19 @@ fn is_damaged<R: Threads + Sync, G: Progress + Sync>(
 
 /// Which files could not be read because the manifest says another digest of them. Each is read once more.
 pub fn changed_files<R: Threads + Sync, G: Progress + Sync, S: SharedSource>(
-    host: &Host<'_, R, G>,
+    run: &Run<'_, R, G>,
     catalog: &Catalog,
     source: &S,
     manifest: &Manifest,
     unreadable: &[FileName],
 ) -> Result<Vec<ChangedFile>, AllocError> {
-    let mut changed = Vec::new(host.alloc);
+    let mut changed = Vec::new(run.alloc);
     for name in unreadable {
         if let Ok(Some(bytes)) = source.read_shared(*name) {
             if is_changed(manifest, name.path().as_str(), bytes.as_slice()) {
                 changed.push(ChangedFile {
                     name: *name,
-                    is_damaged: is_damaged(host, catalog, *name, bytes)?,
+                    is_damaged: is_damaged(run, catalog, *name, bytes)?,
                 })?;
             }
         }

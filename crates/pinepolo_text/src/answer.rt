@@ -14,8 +14,6 @@ use std::fmt;
 /// What a verb did. Its text is lines, each ended by a line break.
 #[derive(Drop)]
 pub enum Answer {
-    /// The help or the version was asked for, which is this.
-    Told(String),
     /// A store was checked.
     Checked(Checked),
     /// A store was looked at as a whole.
@@ -47,7 +45,6 @@ pub enum Answer {
 impl fmt::Display for Answer {
     fn fmt<W: fmt::Write>(&self, f: &mut fmt::Formatter<W>) -> fmt::Result {
         match self {
-            Answer::Told(text) => f.write_str(text.as_str()),
             Answer::Checked(checked) => write!(f, "{checked}"),
             Answer::Shown(view) => write!(f, "{view}"),
             Answer::ShownFile(view) => write!(f, "{view}"),

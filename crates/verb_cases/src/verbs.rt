@@ -1,6 +1,7 @@
 //! Verbs over places in memory, with what they print.
 use crate::places::MemoryPlaces;
 use anyhow::Result;
+use pinepolo_args::parse;
 use pinepolo_progress::OpenGate;
 use pinepolo_run::{Host, World, run};
 use std::marker::Sync;
@@ -25,12 +26,12 @@ pub fn answered<R: Threads + Sync + AllocGlobal + Print>(
     let host = Host {
         rt,
         alloc,
-        processors: PROCESSORS,
         gate: &OpenGate,
     };
     let mut out = Vec::new(alloc);
     let mut err = Vec::new(alloc);
-    let status = run(&host, owned.as_slice(), places, &mut out, &mut err);
+    let parsed = parse(alloc, owned.as_slice(), PROCESSORS);
+    let status = run(&host, &parsed, places, &mut out, &mut err);
     places.settle()?;
     let out = String::from_utf8_lossy(alloc, out.as_slice())?;
     let err = String::from_utf8_lossy(alloc, err.as_slice())?;

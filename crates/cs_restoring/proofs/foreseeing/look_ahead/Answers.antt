@@ -8,10 +8,10 @@ use Rattle.cs_restoring.proofs.foreseeing.look_ahead.Goals.{in-Ok-doubted, in-Er
 pub returns-in-Ok-Some : goal.returns-in-Ok-Some
 returns-in-Ok-Some g c =
     let request = c.args.request.now in
-    let foresees = Foresees g.P.Shelves.looks_at g.P.Shelf.Shelf.holds request.accepts_loss request.resumes c.args.places.now request.store.now c.args.catalog request.loss in
+    let foresees = Foresees g.P.Shelves.looks_at g.P.Shelf.Shelf.holds request.accepts_loss request.resumes c.args.places.now request.store.now c.args.catalog request.lost in
     elim c.match-doubted.branch [
       | in-Ok-doubted w ↦ subst (λ r. IfOk r foresees) (sym w.result-is)
-          (subst (λ d. IsDoubtful d request.loss request.resumes) (sym w.in-Ok-doubted.ensures) (c.in-Ok-Some.ensures.doubtful c.in-Ok-Some.doubt c.in-Ok-Some.field-0-is))
+          (subst (λ d. IsDoubtful d request.lost request.resumes) (sym w.in-Ok-doubted.ensures) (c.in-Ok-Some.ensures.doubtful c.in-Ok-Some.doubt c.in-Ok-Some.field-0-is))
       | in-Err-doubted w ↦ subst (λ r. IfOk r foresees) (sym w.result-is) tt
     ]
 
@@ -27,7 +27,7 @@ returns-in-Ok-plan g c =
         left = left;
         looked = c.in-Ok.ensures;
         same = c.read_files.ensures.held;
-        plan = planned c.args.catalog c.args.request.now.loss read (g.P.Shelf.Shelf.holds left) c.in-Ok-plan.ensures c.in-Ok-read_files.ensures.found;
+        plan = planned c.args.catalog c.args.request.now.lost read (g.P.Shelf.Shelf.holds left) c.in-Ok-plan.ensures c.in-Ok-read_files.ensures.found;
         undoubted = λ refuses. record {
           seen = left;
           read = read;

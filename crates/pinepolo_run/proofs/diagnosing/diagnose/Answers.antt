@@ -5,11 +5,10 @@ use Rattle.cs_inspection.specs.Laws.{AreAbsent}
 use Rattle.cs_diagnosis.specs.Diagnoses.{IsDiagnosis}
 use Rattle.cs_diagnosis.specs.Disputed.{AreAllDisputes}
 use Rattle.cs_restoring.proofs.Unreadable.{absent}
-use Rattle.pinepolo_run.proofs.AskedDiagnosis.{few_sites}
 use Rattle.pinepolo_run.proofs.diagnosing.diagnose.Goals as goal
 
 pub diagnose-requires-clause-at_most : goal.diagnose-requires-clause-at_most
-diagnose-requires-clause-at_most g c κs within = few_sites c.args.request.now.at_most c.args.request.now.sites_in_limits
+diagnose-requires-clause-at_most g c κs within = c.args.request.now.sites_in_limits
 
 pub diagnose-requires-clause-absent : goal.diagnose-requires-clause-absent
 diagnose-requires-clause-absent g c κs within =

@@ -11,7 +11,5 @@ returns g c = if-ok-then c.make_store.result _ _ (λ store h. record {
   says = c.in-Ok.ensures.ok.1;
   loaded = c.in-Ok-read_table.loaded;
   table = c.in-Ok-read_table.ensures;
-  same_files = h.same_files;
-  same_rows = h.same_rows;
-  writes = h.written;
+  makes = h;
 }) c.make_store.ensures

@@ -8,7 +8,5 @@ returns g c = if-ok-then c.make_store.result _ _ (λ store h. record {
   relaid = c.in-Ok-lay_out_store.laid_out.relaid;
   reached = c.lay_out_store.new.places;
   lays_out = c.in-Ok-lay_out_store.ensures;
-  same_files = h.same_files;
-  same_rows = h.same_rows;
-  writes = h.written;
+  makes = h;
 }) c.make_store.ensures

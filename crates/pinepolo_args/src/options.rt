@@ -1,0 +1,94 @@
+//! The values of a verb's arguments.
+ghost use Rattle.std.specs.Prelude.{◌≡◌, ◌≤◌, IfSome};
+ghost use Rattle.std.proofs.Props.{props};
+
+use crate::sites::sites_of;
+use clap::ArgMatches;
+use cs_schema::Loss;
+
+/// How many rows of a dispute are printed, if no number is given.
+const DISPUTES: u32 = 10;
+
+/// How many workers there are, at most.
+const WORKER_LIMIT: u32 = 64;
+
+/// The greatest number of a site.
+const SITE_LIMIT: u8 = 16;
+
+/// The values of all arguments. One that was not given, or that the verb does not take, is absent, false or empty.
+#[derive(Clone, Copy)]
+pub struct Options<'a> {
+    pub accepts_loss: bool,
+    pub at_most: Option<u8>,
+    pub catalog: Option<&'a str>,
+    pub disputes: u32,
+    pub file: Option<&'a str>,
+    pub is_dry_run: bool,
+    pub json: bool,
+    pub k: Option<u8>,
+    pub kept: Option<u32>,
+    pub lost: Loss,
+    pub manifest: Option<&'a str>,
+    pub new: Option<&'a str>,
+    pub output: Option<&'a str>,
+    pub quiet: bool,
+    pub replaces: bool,
+    pub resumes: bool,
+    pub store: Option<&'a str>,
+    pub svg: Option<&'a str>,
+    pub table: Option<&'a str>,
+    pub workers: u32,
+    pub ghost sites_in_limits: { IfSome at_most (λ n. n ≤ 16) } by { Prim.hlevel props },
+    pub ghost workers_in_limits: { (1 ≤ workers) × (workers ≤ 64) },
+}
+
+/// The workers that are asked for, or as many as there are processors, within the limit.
+fn workers_of(found: &ArgMatches<'_>, processors: u32) -> u32
+    ensures { (1 ≤ result) × (result ≤ 64) }
+{
+    found
+        .get_one::<u32>("workers")
+        .unwrap_or(processors)
+        .min(WORKER_LIMIT)
+        .max(1)
+}
+
+/// The greatest number of sites of a loss that is tried, within the limit.
+fn at_most_of(found: &ArgMatches<'_>) -> Option<u8>
+    ensures { IfSome result (λ n. n ≤ 16) }
+{
+    match found.get_one::<u8>("at-most") {
+        Some(sites) => Some(sites.min(SITE_LIMIT)),
+        None => None,
+    }
+}
+
+impl<'a> Options<'a> {
+    /// Reads the arguments of a verb; none if a site is out of range. Without a number of workers there are as many as
+    /// processors, within the limit.
+    pub fn read(found: &ArgMatches<'a>, processors: u32) -> Option<Options<'a>> {
+        let lost = sites_of(found, "lost")?;
+        Some(Options {
+            accepts_loss: found.get_flag("accept-loss"),
+            at_most: at_most_of(found),
+            catalog: found.get_str("catalog"),
+            disputes: found.get_one::<u32>("disputes").unwrap_or(DISPUTES),
+            file: found.get_str("file"),
+            is_dry_run: found.get_flag("dry-run"),
+            json: found.get_flag("json"),
+            k: found.get_one::<u8>("k"),
+            kept: found.get_one::<u32>("kept"),
+            lost,
+            manifest: found.get_str("manifest"),
+            new: found.get_str("new"),
+            output: found.get_str("output"),
+            quiet: found.get_flag("quiet"),
+            replaces: found.get_flag("replace-partial"),
+            resumes: found.get_flag("resume"),
+            store: found.get_str("store"),
+            svg: found.get_str("svg"),
+            table: found.get_str("table"),
+            workers: workers_of(found, processors),
+        })
+    }
+}
