@@ -1,5 +1,5 @@
 -- What the verb `check` does, by what the places and the store say of one call.
-use Rattle.std.specs.Prelude.{◌≡◌, ℕ, ◌+◌, ◌≤◌, List, [], ◌∷◌, length, Option, MatchOption, Ok, Err}
+use Rattle.std.specs.Prelude.{◌≡◌, ◌==◌, ℕ, ◌+◌, ◌≤◌, List, [], ◌∷◌, length, not, Option, MatchOption, Ok, Err}
 use Rattle.std.specs.Option.{unwrap_or}
 use Rattle.cs_schema.specs.Losses.{Sites}
 use Rattle.cs_schema.specs.CatalogData.{CatalogData}
@@ -53,12 +53,12 @@ pub record IsJudged (C : CatalogData) (F : FileContents) (unreadable : List File
 module _ {P S : Type 0} (reads : P → List ℕ → List ℕ → P → Type 0) (opens : P → List ℕ → CatalogData → S → Type 0) (gives : S → FileName → Option (List ℕ) → S → Type 0) where
   -- the store at this path was found, each of its files read, and what could be read was judged, by the number that is asked for
   pub record ChecksStore (refuses : S → FileName → StoreFault → S → Type 0) (leaves : P → List ℕ → Option WorkKind → Type 0) (s : P) (path : List ℕ) (asked : Option ℕ) (checked : Checked) (t : P) : Type 0 where
-    pub catalog : CatalogData
     pub files : Files
     pub unreadable : List FileName
     pub store : S
     pub left : S
-    pub finds : FindsStore reads opens s path catalog store t
-    pub loads : LoadsReadable gives refuses (surviving catalog []) store files unreadable left
-    pub judged : IsJudged catalog (contents_of files) unreadable asked checked.bad.items checked.verdict
+    pub finds : FindsStore reads opens s path checked.catalog store t
+    pub loads : LoadsReadable gives refuses (surviving checked.catalog []) store files unreadable left
+    pub judged : IsJudged checked.catalog (contents_of files) unreadable asked checked.bad.items checked.verdict
+    pub is_unreadable : checked.is_unreadable ≡ not (length unreadable == 0)
     pub unfinished : leaves t path checked.unfinished

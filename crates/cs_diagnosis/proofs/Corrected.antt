@@ -72,31 +72,33 @@ few_sites C cat L loss =
 
 module _ (C : CatalogData) (forced : ℕ) (asked : Option ℕ) (at_most : ℕ) (few : at_most ≤ 16) (asked_for : (n : ℕ) → asked ≡ Some n → at_most ≡ n) where
   pub reached : (most : ℕ) (certain : Option ℕ) → IsGreatestCorrected C forced (Some most) → (asked ≡ None → (1 ≤ at_most) × (forced + most ≤ at_most))
+      → (asked ≡ None → (n : ℕ) → 1 ≤ n → forced + most ≤ n → at_most ≤ n)
       → MatchOption certain (at_most < forced) (λ m. (m ≤ most) × (forced + m ≤ at_most) × ((n : ℕ) → n ≤ most → forced + n ≤ at_most → n ≤ m))
       → IsReach C forced asked (record { at_most = at_most; certain = certain })
-  reached most None g far below = record {
+  reached most None g far near below = record {
     few = few;
     asked_for = asked_for;
-    some = λ e. ((far e).0, omega (arith, far e));
-    far = λ e n d. omega (arith, far e, g.1 n d);
+    far_enough = λ e. record { one = (far e).0; all_forced = omega (arith, far e); corrects = λ n d. omega (arith, far e, g.1 n d) };
+    least = λ e n enough. near e n enough.one (enough.corrects most g.0);
     certain = tt;
     greatest = λ n d h. absurd (omega (arith, below, h));
   }
-  reached most (Some m) g far by = record {
+  reached most (Some m) g far near by = record {
     few = few;
     asked_for = asked_for;
-    some = λ e. ((far e).0, omega (arith, far e));
-    far = λ e n d. omega (arith, far e, g.1 n d);
+    far_enough = λ e. record { one = (far e).0; all_forced = omega (arith, far e); corrects = λ n d. omega (arith, far e, g.1 n d) };
+    least = λ e n enough. near e n enough.one (enough.corrects most g.0);
     certain = (record { k = g.0.k; safe = g.0.safe; fits = omega (arith, g.0.fits, by.0) }, by.1);
     greatest = λ n d h. (m, refl, by.2 n (g.1 n d) h);
   }
 
-  pub unreached : IsGreatestCorrected C forced None → (asked ≡ None → (1 ≤ at_most) × (forced + 0 ≤ at_most)) → IsReach C forced asked (record { at_most = at_most; certain = None })
-  unreached g far = record {
+  pub unreached : IsGreatestCorrected C forced None → (asked ≡ None → (1 ≤ at_most) × (forced + 0 ≤ at_most)) → (asked ≡ None → (n : ℕ) → 1 ≤ n → forced + 0 ≤ n → at_most ≤ n)
+      → IsReach C forced asked (record { at_most = at_most; certain = None })
+  unreached g far near = record {
     few = few;
     asked_for = asked_for;
-    some = λ e. ((far e).0, omega (arith, far e));
-    far = λ e n d. absurd (g n d);
+    far_enough = λ e. record { one = (far e).0; all_forced = omega (arith, far e); corrects = λ n d. absurd (g n d) };
+    least = λ e n enough. near e n enough.one (omega (arith, enough.all_forced));
     certain = tt;
     greatest = λ n d h. absurd (g n d);
   }

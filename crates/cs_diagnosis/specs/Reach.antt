@@ -14,12 +14,17 @@ pub record IsCorrected (C : CatalogData) (forced m : ℕ) : Type 0 where
 abbrev pub IsGreatestCorrected : CatalogData → ℕ → Option ℕ → Type 0
 IsGreatestCorrected C forced result = MatchOption result ((n : ℕ) → ¬ IsCorrected C forced n) (λ m. IsCorrected C forced m × ((n : ℕ) → IsCorrected C forced n → n ≤ m))
 
--- Losses of at most as many sites are tried as is asked for; or else of one at least, and of the forced sites with as many
--- others as can be corrected. Certain is the greatest number that can be corrected by losses of so many sites.
+-- so many sites are one at least, and the forced ones with as many others as can be corrected
+pub record IsFarEnough (C : CatalogData) (forced n : ℕ) : Type 0 where
+  pub one : 1 ≤ n
+  pub all_forced : forced ≤ n
+  pub corrects : (m : ℕ) → IsCorrected C forced m → forced + m ≤ n
+
+-- Losses of at most as many sites are tried as is asked for; or else of the least number that is far enough. Certain is the greatest number that can be corrected by losses of so many sites.
 pub record IsReach (C : CatalogData) (forced : ℕ) (asked : Option ℕ) (r : Reach) : Type 0 where
   pub few : r.at_most ≤ 16
   pub asked_for : (n : ℕ) → asked ≡ Some n → r.at_most ≡ n
-  pub some : asked ≡ None → (1 ≤ r.at_most) × (forced ≤ r.at_most)
-  pub far : asked ≡ None → (n : ℕ) → IsCorrected C forced n → forced + n ≤ r.at_most
+  pub far_enough : asked ≡ None → IsFarEnough C forced r.at_most
+  pub least : asked ≡ None → (n : ℕ) → IsFarEnough C forced n → r.at_most ≤ n
   pub certain : IfSome r.certain (λ m. IsCorrected C forced m × (forced + m ≤ r.at_most))
   pub greatest : (n : ℕ) → IsCorrected C forced n → forced + n ≤ r.at_most → (m : ℕ) × (r.certain ≡ Some m) × (n ≤ m)

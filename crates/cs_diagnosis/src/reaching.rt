@@ -40,6 +40,7 @@ fn tried(forced: u8, most: u8, asked: Option<u8>) -> u8
     ensures few { result ≤ 16 }
     ensures asked_for { (n : ℕ) → asked ≡ Some n → result ≡ n }
     ensures far { asked ≡ None → (1 ≤ result) × (forced + most ≤ result) }
+    ensures near { asked ≡ None → (n : ℕ) → 1 ≤ n → forced + most ≤ n → result ≤ n }
 {
     match asked {
         Some(sites) => sites,

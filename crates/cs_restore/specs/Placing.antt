@@ -19,6 +19,10 @@ OthersAreThere out names held = (d : Files) → held d → (n : FileName) → Is
 abbrev pub WasRead : Files → Files → FileName → Type 0
 WasRead out read n = (bytes : List ℕ) → contents_of out n ≡ Some bytes → contents_of read n ≡ Some bytes
 
+-- the set has bytes under a name, and they were read there
+abbrev pub IsReadAsAnswered : Files → Files → FileName → Type 0
+IsReadAsAnswered out read n = (bytes : List ℕ) × (contents_of out n ≡ Some bytes) × (contents_of read n ≡ Some bytes)
+
 -- under all names but these the set's bytes were read
 abbrev pub OthersWereRead : Files → List FileName → Files → Type 0
 OthersWereRead out names read = (n : FileName) → IsAmong names n ⊎ WasRead out read n

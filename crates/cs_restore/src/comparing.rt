@@ -1,8 +1,8 @@
 //! Which of the rebuilt files stand in place already.
-ghost use Rattle.std.specs.Prelude.{◌≡◌, ℕ, List, map, IfOk, OnOk, Some};
+ghost use Rattle.std.specs.Prelude.{◌≡◌, ℕ, List, map, IfOk, OnOk, None, Some};
 ghost use Rattle.std.specs.FinMap.{entries};
 ghost use Rattle.cs_store.specs.FileSet.{contents_of};
-ghost use Rattle.cs_restore.specs.Placing.{AddsStep, OthersWereRead, WasRead};
+ghost use Rattle.cs_restore.specs.Placing.{AddsStep, IsReadAsAnswered, OthersWereRead, WasRead};
 ghost use Rattle.cs_restore.specs.declared.step.What.TheVariants as what;
 
 use crate::naming::names_of;
@@ -22,7 +22,9 @@ pub struct Compared {
 
 /// What becomes of a name that is to have these bytes.
 fn standing(read: &Readable, name: FileName, bytes: &[u8]) -> What
-    ensures { result ≡ what.Same → contents_of read.now.files name ≡ Some bytes.now }
+    ensures same { result ≡ what.Same → contents_of read.now.files name ≡ Some bytes.now }
+    ensures stays { contents_of read.now.files name ≡ Some bytes.now → result ≡ what.Same }
+    ensures new { result ≡ what.New → contents_of read.now.files name ≡ None }
 {
     if let Some(held) = read.files.get(name) {
         return what_of(held, bytes);
@@ -37,6 +39,8 @@ fn standing(read: &Readable, name: FileName, bytes: &[u8]) -> What
 fn step_of(read: &Readable, answer: &FileSet, name: FileName) -> Step
     ensures named { result.name ≡ name }
     ensures same { result.what ≡ what.Same → WasRead answer.now read.now.files name }
+    ensures stays { IsReadAsAnswered answer.now read.now.files name → result.what ≡ what.Same }
+    ensures new { result.what ≡ what.New → contents_of read.now.files name ≡ None }
 {
     let bytes = answer.get(name).unwrap_or(&[]);
     Step {

@@ -25,7 +25,8 @@ pub struct Step {
 
 /// What becomes of a name that has these bytes where it is to have those.
 pub fn what_of(held: &[u8], bytes: &[u8]) -> What
-    ensures { result ≡ What.Same → held.now ≡ bytes.now }
+    ensures same { result ≡ What.Same → held.now ≡ bytes.now }
+    ensures stays { held.now ≡ bytes.now → result ≡ What.Same }
 {
     if held == bytes {
         What::Same

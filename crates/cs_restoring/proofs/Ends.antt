@@ -1,9 +1,11 @@
 -- How a restore ends, of a store that was read before.
-use Rattle.std.proofs.Common.{◌≡◌, ℕ, Bool, false, [], Result, IfOk, sym, subst}
+use Rattle.std.proofs.Common.{◌≡◌, ℕ, Bool, false, List, [], Option, Result, IfOk, sym, subst}
 use Rattle.cs_schema.specs.CatalogData.{CatalogData}
 use Rattle.cs_schema.specs.FileNames.{surviving}
 use Rattle.cs_schema.specs.Losses.{Sites}
+use Rattle.cs_schema.specs.declared.file_name.FileName.{FileName}
 use Rattle.cs_store.specs.FileSet.{Files}
+use Rattle.cs_store.specs.declared.fault.StoreFault.{StoreFault}
 use Rattle.cs_store.specs.declared.readable.Readable.{Readable}
 use Rattle.cs_shelf.specs.Shelf.{IsNoMore, IsReadIn}
 use Rattle.cs_shelf.proofs.Steps.{from_more}
@@ -13,14 +15,14 @@ use Rattle.cs_diagnosis.specs.declared.diagnosing.Diagnosis.{Diagnosis}
 use Rattle.pinepolo_text.specs.declared.doubted.Doubted.{Doubted}
 use Rattle.pinepolo_text.specs.declared.restoration.Restoration.{Restoration}
 use Rattle.pinepolo_text.specs.declared.restoration.Restoration.TheVariants as restoration
-use Rattle.cs_restoring.specs.Doubts.{IsDoubtful, IsUndoubtedOf}
+use Rattle.cs_restoring.specs.Doubts.{IsDoubtOf, IsUndoubtedOf}
 use Rattle.cs_restoring.specs.Restores.{EndsDoubted, EndsRestore, FinishesRestore, HasPlan, PlansFrom, WorksOnStore}
 
 -- a plan for all contents of which this was read is one for what is held
 pub planned : (C : CatalogData) (L : Sites) (read : Readable) (held : Files → Type 0) → PlansFrom C L read → IsReadIn held (surviving C []) read.files read.unreadable.items → HasPlan C L held
 planned C L read held plan found = (plan.0, plan.1, record { answers = λ d now. (plan.2 d (found d now)).answers; others = λ d now n. (plan.2 d (found d now)).others n })
 
-module _ {P K : Type 0} (gives_back : P → K → Bool → P → Type 0) (holds may_leave : K → Files → Type 0) (s : P) (C : CatalogData) (L : Sites) (store left : K) (t : P) (held : IsNoMore (holds store) (holds left)) where
+module _ {P K : Type 0} (gives_back : P → K → Bool → P → Type 0) (gives : K → FileName → Option (List ℕ) → K → Type 0) (refuses : K → FileName → StoreFault → K → Type 0) (holds may_leave : K → Files → Type 0) (s : P) (C : CatalogData) (L : Sites) (store left : K) (t : P) (held : IsNoMore (holds store) (holds left)) where
   works_on : (rows : ℕ) → WorksOnStore gives_back holds may_leave s C L left rows t → WorksOnStore gives_back holds may_leave s C L store rows t
   works_on rows works = record {
     left = works.left;
@@ -30,15 +32,15 @@ module _ {P K : Type 0} (gives_back : P → K → Bool → P → Type 0) (holds 
     given = works.given;
   }
 
-  pub ends_restored : (accepts resumes : Bool) → (accepts ≡ false → IsUndoubtedOf holds C store L resumes) → (answer : Restoration) → FinishesRestore gives_back holds may_leave s C L left t answer
-      → EndsRestore gives_back holds may_leave accepts resumes s C L store t answer
-  ends_restored accepts resumes undoubted (restoration.Done restored) ends = ((ends.0, ends.1, (ends.2.0, ends.2.1, works_on ends.2.0 ends.2.2)), undoubted)
+  pub ends_restored : (accepts resumes : Bool) → (accepts ≡ false → IsUndoubtedOf gives refuses C store L resumes) → (answer : Restoration) → FinishesRestore gives_back holds may_leave s C L left t answer
+      → EndsRestore gives_back gives refuses holds may_leave accepts resumes s C L store t answer
+  ends_restored accepts resumes undoubted (restoration.Done restored) ends = ((ends.0, ends.1, works_on ends.0 ends.2), undoubted)
   ends_restored accepts resumes undoubted (restoration.Doubted doubted) ends = absurd ends
 
-  pub ends_doubted : (accepts resumes : Bool) (stop : IsNoMore (may_leave store) (may_leave left)) (diagnosis : Diagnosis) → IsDoubtful diagnosis L resumes
-      → (doubted : Result Doubted Stop) → IfOk doubted (λ d. d.diagnosed.diagnosis ≡ diagnosis) → (answer : Restoration) → EndsDoubted gives_back s doubted left t answer
-      → EndsRestore gives_back holds may_leave accepts resumes s C L store t answer
-  ends_doubted accepts resumes stop diagnosis doubtful doubted of (restoration.Done restored) ends = absurd ends
-  ends_doubted accepts resumes stop diagnosis doubtful doubted of (restoration.Doubted answer) ends =
-      let same : answer.diagnosed.diagnosis ≡ diagnosis = subst (λ r. IfOk r (λ d. d.diagnosed.diagnosis ≡ diagnosis)) ends.0 of in
-      (subst (λ d. IsDoubtful d L resumes) (sym same) doubtful, record { left = left; held = held; stop = stop; given = ends.1 })
+  pub ends_doubted : (accepts resumes : Bool) → accepts ≡ false → (stop : IsNoMore (may_leave store) (may_leave left)) (diagnosis : Diagnosis) → IsDoubtOf gives refuses C store L resumes diagnosis
+      → (doubted : Result Doubted Stop) → IfOk doubted (λ d. (d.lost ≡ L) × (d.diagnosed.diagnosis ≡ diagnosis)) → (answer : Restoration) → EndsDoubted gives_back s doubted left t answer
+      → EndsRestore gives_back gives refuses holds may_leave accepts resumes s C L store t answer
+  ends_doubted accepts resumes unaccepted stop diagnosis doubt doubted of (restoration.Done restored) ends = absurd ends
+  ends_doubted accepts resumes unaccepted stop diagnosis doubt doubted of (restoration.Doubted answer) ends =
+      let same : (answer.lost ≡ L) × (answer.diagnosed.diagnosis ≡ diagnosis) = subst (λ r. IfOk r (λ d. (d.lost ≡ L) × (d.diagnosed.diagnosis ≡ diagnosis))) ends.0 of in
+      (unaccepted, same.0, subst (IsDoubtOf gives refuses C store L resumes) (sym same.1) doubt, record { left = left; held = held; stop = stop; given = ends.1 })

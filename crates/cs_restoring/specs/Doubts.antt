@@ -1,14 +1,15 @@
 -- Whether it is doubtful that a store lost just some sites.
-use Rattle.std.specs.Prelude.{◌≡◌, ◌≤◌, ℕ, Bool, false, List, [], length, Some, IsTrue}
+use Rattle.std.specs.Prelude.{◌≡◌, ◌≤◌, ℕ, Bool, false, List, [], length, Option, Some, IsTrue}
 use Rattle.cs_schema.specs.declared.file_name.FileName.{FileName}
 use Rattle.cs_schema.specs.CatalogData.{CatalogData}
 use Rattle.cs_schema.specs.FileNames.{FileContents, HasName, surviving}
 use Rattle.cs_schema.specs.Lists.{member}
 use Rattle.cs_schema.specs.Losses.{Sites, IsLoss}
 use Rattle.cs_safety.specs.Safety.{IsSafe}
-use Rattle.cs_store.specs.FileSet.{Files, contents_of}
+use Rattle.cs_store.specs.FileSet.{contents_of}
+use Rattle.cs_store.specs.LoadReadable.{LoadsReadable}
+use Rattle.cs_store.specs.declared.fault.StoreFault.{StoreFault}
 use Rattle.cs_store.specs.declared.readable.Readable.{Readable}
-use Rattle.cs_shelf.specs.Shelf.{IsNoMore, IsReadIn}
 use Rattle.cs_recovery.specs.Conflicts.{site_of}
 use Rattle.cs_inspection.specs.BadFiles.{IsBad}
 use Rattle.cs_inspection.specs.declared.badness.Badness.{Badness}
@@ -35,10 +36,27 @@ pub data IsUndoubted (C : CatalogData) (read : Readable) (L : Sites) (resumes : 
   each_bad : IsEachBad C (contents_of read.files) read.unreadable.items L → IsUndoubted C read L resumes
   told : (n : ℕ) (d : Diagnosis) → length L ≤ n → IsDiagnosis C (contents_of read.files) read.unreadable.items (Some n) d → ¬ IsDoubtful d L resumes → IsUndoubted C read L resumes
 
--- so it is by what was read of a store, which that changed in nothing
-pub record IsUndoubtedOf {K : Type 0} (holds : K → Files → Type 0) (C : CatalogData) (store : K) (L : Sites) (resumes : Bool) : Type 0 where
-  pub seen : K
-  pub read : Readable
-  pub same : IsNoMore (holds store) (holds seen)
-  pub found : IsReadIn (holds seen) (surviving C []) read.files read.unreadable.items
-  pub undoubted : IsUndoubted C read L resumes
+-- A diagnosis of what was read makes it doubtful that just these sites were lost.
+pub record IsDoubtBy (C : CatalogData) (read : Readable) (L : Sites) (resumes : Bool) (d : Diagnosis) : Type 0 where
+  pub at_most : ℕ
+  pub diagnosis : IsDiagnosis C (contents_of read.files) read.unreadable.items (Some at_most) d
+  pub doubtful : IsDoubtful d L resumes
+
+module _ {K : Type 0} (gives : K → FileName → Option (List ℕ) → K → Type 0) (refuses : K → FileName → StoreFault → K → Type 0) where
+  -- each file of the store was tried, and this was read of it
+  abbrev pub IsReadFrom : CatalogData → K → Readable → K → Type 0
+  IsReadFrom C store read seen = LoadsReadable gives refuses (surviving C []) store read.files read.unreadable.items seen
+
+  -- by what was read of this store it is not doubtful that just these sites were lost
+  pub record IsUndoubtedOf (C : CatalogData) (store : K) (L : Sites) (resumes : Bool) : Type 0 where
+    pub read : Readable
+    pub seen : K
+    pub from : IsReadFrom C store read seen
+    pub undoubted : IsUndoubted C read L resumes
+
+  -- a diagnosis of what was read of this store makes it doubtful
+  pub record IsDoubtOf (C : CatalogData) (store : K) (L : Sites) (resumes : Bool) (d : Diagnosis) : Type 0 where
+    pub read : Readable
+    pub seen : K
+    pub from : IsReadFrom C store read seen
+    pub doubt : IsDoubtBy C read L resumes d

@@ -3,7 +3,7 @@ ghost use Rattle.std.specs.Prelude.{◌≡◌, ◌≤◌, true, Some, IfOk, Matc
 ghost use Rattle.cs_store.specs.FileSet.{contents_of};
 ghost use Rattle.cs_inspection.specs.Laws.{AreAbsent};
 ghost use Rattle.cs_diagnosis.specs.Diagnoses.{IsDiagnosis};
-ghost use Rattle.cs_restoring.specs.Doubts.{IsDoubtful, IsEachBad, IsUndoubted};
+ghost use Rattle.cs_restoring.specs.Doubts.{IsDoubtBy, IsDoubtful, IsEachBad, IsUndoubted};
 
 use cs_design::within::is_within;
 use cs_diagnosis::explained::{is_explained, is_found};
@@ -77,7 +77,7 @@ pub fn find_doubt<R: Threads + Sync, G: Progress + Sync>(
     resumes: bool,
 ) -> Result<Option<Doubt>, Stop>
     requires { AreAbsent (contents_of read.now.files) read.now.unreadable.items }
-    ensures { IfOk result (λ found. MatchOption found (IsUndoubted catalog.now read.now loss resumes) (λ doubt. IsDoubtful doubt.diagnosis loss resumes)) }
+    ensures { IfOk result (λ found. MatchOption found (IsUndoubted catalog.now read.now loss resumes) (λ doubt. IsDoubtBy catalog.now read.now loss resumes doubt.diagnosis)) }
 {
     let _rules = catalog.projection_count();
     if !catalog.has_sites(loss) || !safe(catalog, loss) {

@@ -3,7 +3,7 @@ ghost use Rattle.std.specs.Prelude.{◌≡◌, IfOk};
 ghost use Rattle.cs_restoring.specs.Restores.{Foresees};
 
 use crate::ending::{LostStore, stop_unseen};
-use crate::planning::{plan, planned};
+use crate::planning::{plan, restored_of};
 use crate::reading::{doubt_of, doubted, read_files};
 use cs_rebuild::Run;
 use cs_schema::Catalog;
@@ -21,7 +21,7 @@ pub fn look_ahead<R: Threads + Sync, G: Progress + Sync, P: Shelves>(
     catalog: Catalog,
     request: &RestoreArgs<'_>,
 ) -> Result<Restoration, Stop>
-    ensures { IfOk result (Foresees P.looks_at P.Shelf.holds request.now.accepts_loss request.now.resumes places.now request.now.store.now catalog request.now.lost) }
+    ensures { IfOk result (Foresees P.looks_at P.Shelf.gives P.Shelf.refuses P.Shelf.holds request.now.accepts_loss request.now.resumes places.now request.now.store.now catalog request.now.lost) }
 {
     let lost = request.lost;
     let mut shelf = match places.look(request.store, &catalog) {
@@ -47,7 +47,7 @@ pub fn look_ahead<R: Threads + Sync, G: Progress + Sync, P: Shelves>(
         verb: WorkKind::Restore,
     };
     match plan(run, &store, &read) {
-        Ok(steps) => Ok(Restoration::Done(planned(catalog, lost, steps))),
+        Ok(steps) => Ok(Restoration::Done(restored_of(catalog, lost, None, steps, None))),
         Err(stop) => Err(stop),
     }
 }

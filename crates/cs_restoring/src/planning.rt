@@ -1,6 +1,6 @@
-//! What a restore would do.
-ghost use Rattle.std.specs.Prelude.{◌≡◌, IfOk, None};
-ghost use Rattle.cs_restoring.specs.Restores.{PlansFrom};
+//! What a restore would do, and its answer.
+ghost use Rattle.std.specs.Prelude.{IfOk};
+ghost use Rattle.cs_restoring.specs.Restores.{IsRestoredOf, PlansFrom};
 
 use crate::ending::LostStore;
 use cs_design::greatest_k;
@@ -28,17 +28,23 @@ pub fn plan<R: Threads + Sync, G: Progress + Sync>(
     }
 }
 
-/// The answer of a restore of which only the plan was wanted.
-pub fn planned(catalog: Catalog, lost: Loss, steps: Vec<Step>) -> Restored
-    ensures { (result.catalog ≡ catalog) × ((result.lost ≡ lost) × (result.rows ≡ None)) }
+/// The answer of a restore, with the number of rows if the store was restored.
+pub fn restored_of(
+    catalog: Catalog,
+    lost: Loss,
+    rows: Option<u64>,
+    steps: Vec<Step>,
+    kept: Option<u32>,
+) -> Restored
+    ensures { IsRestoredOf catalog lost rows result }
 {
     let k = greatest_k(&catalog, Loss::none()).unwrap_or(0);
     Restored {
         catalog,
         lost,
-        rows: None,
+        rows,
         k,
         steps,
-        kept: None,
+        kept,
     }
 }

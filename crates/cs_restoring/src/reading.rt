@@ -5,7 +5,7 @@ ghost use Rattle.cs_store.specs.Fault.{CountsFault};
 ghost use Rattle.cs_store.specs.FileSet.{contents_of};
 ghost use Rattle.cs_shelf.specs.Shelf.{IsNoMore, IsReadIn};
 ghost use Rattle.cs_inspection.specs.Laws.{AreAbsent};
-ghost use Rattle.cs_restoring.specs.Doubts.{IsDoubtful, IsUndoubted};
+ghost use Rattle.cs_restoring.specs.Doubts.{IsDoubtBy, IsReadFrom, IsUndoubted};
 ghost use Rattle.cs_restoring.specs.declared.doubting.Doubt.{Doubt as DoubtData};
 
 use crate::doubting::{Doubt, find_doubt};
@@ -27,6 +27,7 @@ pub fn read_files<S: Shelf>(
     catalog: &Catalog,
     shelf: &mut S,
 ) -> Result<Readable, Stop>
+    ensures from { IfOk result (λ read. IsReadFrom S.gives S.refuses catalog.now shelf.old read shelf.new) }
     ensures found { IfOk result (λ read. IsReadIn (S.holds shelf.new) (surviving catalog.now []) read.files read.unreadable.items) }
     ensures absent { IfOk result (λ read. AreAbsent (contents_of read.files) read.unreadable.items) }
     ensures device { IfOk result (λ read. read.unreadable.items ≢ [] → CountsFault (S.fault_count shelf.old) (S.fault_count shelf.new)) }
@@ -49,7 +50,8 @@ pub fn doubt_of<R: Threads + Sync, G: Progress + Sync>(
 ) -> Result<Option<Doubt>, Stop>
     requires { AreAbsent (contents_of read.now.files) read.now.unreadable.items }
     ensures undoubted { IfOk result (λ found. found ≡ None → request.now.accepts_loss ≡ false → IsUndoubted catalog.now read.now lost request.now.resumes) }
-    ensures doubtful { IfOk result (λ found. (doubt : DoubtData) → found ≡ Some doubt → IsDoubtful doubt.diagnosis lost request.now.resumes) }
+    ensures unaccepted { IfOk result (λ found. (doubt : DoubtData) → found ≡ Some doubt → request.now.accepts_loss ≡ false) }
+    ensures doubt { IfOk result (λ found. (doubt : DoubtData) → found ≡ Some doubt → IsDoubtBy catalog.now read.now lost request.now.resumes doubt.diagnosis) }
 {
     if request.accepts_loss {
         return Ok(None);
@@ -59,7 +61,7 @@ pub fn doubt_of<R: Threads + Sync, G: Progress + Sync>(
 
 /// The answer of a restore that is doubtful.
 pub fn doubted(alloc: Global, catalog: Catalog, doubt: Doubt, lost: Loss) -> Result<Doubted, Stop>
-    ensures { IfOk result (λ doubted. doubted.diagnosed.diagnosis ≡ doubt.diagnosis) }
+    ensures { IfOk result (λ doubted. (doubted.lost ≡ lost) × (doubted.diagnosed.diagnosis ≡ doubt.diagnosis)) }
 {
     let Doubt {
         diagnosis,

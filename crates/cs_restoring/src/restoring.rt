@@ -1,21 +1,21 @@
 //! The verb `restore`.
-ghost use Rattle.std.specs.Prelude.{◌≡◌, [], IfOk, Some, false};
+ghost use Rattle.std.specs.Prelude.{◌≡◌, [], IfOk, false};
 ghost use Rattle.cs_schema.specs.FileNames.{surviving};
 ghost use Rattle.cs_shelf.specs.Shelf.{IsReadIn};
 ghost use Rattle.cs_restoring.specs.Restores.{DoesRestore, EndsDoubted, EndsRestore, FinishesRestore};
 
 use crate::ending::{LostStore, stop_unended, stop_untaken};
 use crate::foreseeing::look_ahead;
+use crate::planning::restored_of;
 use crate::reading::{doubt_of, doubted, read_files};
 use crate::working::work;
-use cs_design::greatest_k;
 use cs_rebuild::Run;
 use cs_schema::{Catalog, Loss};
 use cs_store::Readable;
 use pinepolo_args::RestoreArgs;
-use pinepolo_places::{GivenBack, Shelves, Stop, WorkKind, find_store};
+use pinepolo_places::{Shelves, Stop, WorkKind, find_store};
 use pinepolo_progress::Progress;
-use pinepolo_text::{Doubted, Restoration, Restored};
+use pinepolo_text::{Doubted, Restoration};
 use std::alloc::Global;
 use std::marker::Sync;
 use std::thread::Threads;
@@ -42,26 +42,6 @@ fn take<P: Shelves>(
     match taken {
         Ok(taken) => Ok(taken),
         Err(untaken) => Err(stop_untaken(alloc, &untaken, path, WorkKind::Restore)),
-    }
-}
-
-/// The answer of a restore that is finished.
-fn finished(
-    catalog: Catalog,
-    lost: Loss,
-    restored: cs_restore::Restored,
-    given: GivenBack,
-) -> Restored
-    ensures { (result.catalog ≡ catalog) × ((result.lost ≡ lost) × (result.rows ≡ Some restored.rows)) }
-{
-    let k = greatest_k(&catalog, Loss::none()).unwrap_or(0);
-    Restored {
-        catalog,
-        lost,
-        rows: Some(restored.rows),
-        k,
-        steps: restored.steps,
-        kept: given.kept,
     }
 }
 
@@ -111,7 +91,11 @@ fn restore_read<R: Threads + Sync, G: Progress + Sync, P: Shelves>(
         verb: WorkKind::Restore,
     };
     match work(run, places, shelf, &store, read) {
-        Ok((restored, given)) => Ok(Restoration::Done(finished(catalog, lost, restored, given))),
+        Ok((restored, given)) => {
+            let rows = Some(restored.rows);
+            let restored = restored_of(catalog, lost, rows, restored.steps, given.kept);
+            Ok(Restoration::Done(restored))
+        }
         Err(stop) => Err(stop),
     }
 }
@@ -124,7 +108,7 @@ fn restore_taken<R: Threads + Sync, G: Progress + Sync, P: Shelves>(
     catalog: Catalog,
     request: &RestoreArgs<'_>,
 ) -> Result<Restoration, Stop>
-    ensures { IfOk result (EndsRestore P.gives_back P.Shelf.holds P.Shelf.may_leave request.now.accepts_loss request.now.resumes places.old catalog taken.1 taken.0 places.new) }
+    ensures { IfOk result (EndsRestore P.gives_back P.Shelf.gives P.Shelf.refuses P.Shelf.holds P.Shelf.may_leave request.now.accepts_loss request.now.resumes places.old catalog taken.1 taken.0 places.new) }
 {
     let (shelf, lost) = taken;
     let mut shelf = shelf;
@@ -150,7 +134,7 @@ pub fn restore<R: Threads + Sync, G: Progress + Sync, P: Shelves>(
     places: &mut P,
     request: &RestoreArgs<'_>,
 ) -> Result<Restoration, Stop>
-    ensures { IfOk result (λ restoration. DoesRestore P.reads P.opens P.takes_store P.looks_at P.gives_back P.Shelf.holds P.Shelf.may_leave
+    ensures { IfOk result (λ restoration. DoesRestore P.reads P.opens P.takes_store P.looks_at P.gives_back P.Shelf.gives P.Shelf.refuses P.Shelf.holds P.Shelf.may_leave
         request.now.is_dry_run request.now.accepts_loss request.now.resumes request.now.lost places.old request.now.store.now restoration places.new) }
 {
     let (catalog, _source) = match find_store(run.alloc, places, request.store) {

@@ -5,6 +5,7 @@ ghost use Rattle.cs_schema.specs.FileNames.{surviving};
 ghost use Rattle.cs_schema.specs.declared.file_name.FileName.{FileName};
 ghost use Rattle.cs_store.specs.Fault.{CountsFault};
 ghost use Rattle.cs_store.specs.FileSet.{contents_of};
+ghost use Rattle.cs_store.specs.LoadReadable.{LoadsReadable};
 ghost use Rattle.cs_shelf.specs.Shelf.{ChangesNothing, IsFoundIn, IsReadIn};
 
 use crate::Shelf;
@@ -34,6 +35,7 @@ pub fn load_readable_held<S: Shelf>(
     catalog: &Catalog,
     shelf: &mut S,
 ) -> Result<Readable, AllocError>
+    ensures loads { IfOk result (λ found. LoadsReadable S.gives S.refuses (surviving catalog.now []) shelf.old found.files found.unreadable.items shelf.new) }
     ensures found { IfOk result (λ found. IsReadIn (S.holds shelf.new) (surviving catalog.now []) found.files found.unreadable.items) }
     ensures apart { IfOk result (λ found.
         AllByRecursion (λ name. contents_of found.files name ≡ None) found.unreadable.items) }

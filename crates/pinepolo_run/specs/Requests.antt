@@ -38,7 +38,7 @@ module _ {P S K I N B : Type 0} (w : WorldSays P S K I N B) where
   Performs s (verb.Show args) shown t = Shows w.reads w.opens w.gives w.refuses w.lists w.leaves s args.store.now (option_map (λ file. file.now) args.file) shown t
   Performs s (verb.Diagnose args) (answer.Diagnosed diagnosed) t = DiagnosesStore w.reads w.opens w.gives w.refuses w.opens_table w.remaining w.leaves s args.store.now (option_map (λ path. path.now) args.manifest) args.at_most args.disputes diagnosed t
   Performs s (verb.Recover args) (answer.Recovered recovered) t = RecoversStore w.reads w.opens w.gives w.makes w.takes w.marks s args.store.now args.lost args.output.now recovered.files t
-  Performs s (verb.Restore args) (answer.Restored restoration) t = DoesRestore w.reads w.opens w.takes_store w.looks_at w.gives_back w.holds w.may_leave args.is_dry_run args.accepts_loss args.resumes args.lost s args.store.now restoration t
+  Performs s (verb.Restore args) (answer.Restored restoration) t = DoesRestore w.reads w.opens w.takes_store w.looks_at w.gives_back w.gives_held w.refuses_held w.holds w.may_leave args.is_dry_run args.accepts_loss args.resumes args.lost s args.store.now restoration t
   Performs s (verb.Undo args) (answer.Undone undone) t = DoesUndo w.reads w.opens w.takes_undo w.gives_back w.holds w.may_leave s args.store.now (undo_asked args.resumes args.kept) t undone
   Performs s (verb.Manifest args) (answer.Listed listed) t = ListsStore w.reads w.opens w.gives w.refuses s args.store.now listed t
   Performs s (verb.Verify args) (answer.Verified verified) t = VerifiesStore w.reads w.opens w.gives w.refuses w.opens_table w.remaining s args.store.now args.manifest.now verified t

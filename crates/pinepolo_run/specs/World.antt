@@ -33,5 +33,7 @@ pub record WorldSays (P Store Output Input New Shelf : Type 0) : Type 1 where
   pub takes_undo : P → List ℕ → CatalogData → UndoOf → Files → List FileName → Shelf → P → Type 0
   pub looks_at : P → List ℕ → CatalogData → Shelf → Type 0
   pub gives_back : P → Shelf → Bool → P → Type 0
+  pub gives_held : Shelf → FileName → Option (List ℕ) → Shelf → Type 0
+  pub refuses_held : Shelf → FileName → StoreFault → Shelf → Type 0
   pub holds : Shelf → Files → Type 0
   pub may_leave : Shelf → Files → Type 0

@@ -59,6 +59,8 @@ pub fn run<R: Threads + Sync, G: Progress + Sync, P: World, W: Write, E: Write>(
       takes_undo = P.takes_undo;
       looks_at = P.looks_at;
       gives_back = P.gives_back;
+      gives_held = P.Shelf.gives;
+      refuses_held = P.Shelf.refuses;
       holds = P.Shelf.holds;
       may_leave = P.Shelf.may_leave;
     }) parsed.now places.old result places.new }
@@ -137,6 +139,8 @@ fn perform<R: Threads + Sync, G: Progress + Sync, P: World>(
       takes_undo = P.takes_undo;
       looks_at = P.looks_at;
       gives_back = P.gives_back;
+      gives_held = P.Shelf.gives;
+      refuses_held = P.Shelf.refuses;
       holds = P.Shelf.holds;
       may_leave = P.Shelf.may_leave;
     }) places.old verb.now result places.new }

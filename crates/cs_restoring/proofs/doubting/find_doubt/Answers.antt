@@ -16,5 +16,8 @@ diagnosis_of-requires-clause-few g c κs within =
     let few = few_sites c.args.catalog.now c.projection_count-rules.ensures.rules c.args.loss (c.has_sites.ensures.0 c.if-not-has_sites.false) in
     omega (arith, few, c.count.ensures.count)
 
+pub returns-in-Ok-disputed_rows : goal.returns-in-Ok-disputed_rows
+returns-in-Ok-disputed_rows g c = record { at_most = c.count.result; diagnosis = c.in-Ok.ensures; doubtful = rw c.if-not-is_doubtful.false at c.is_doubtful.ensures }
+
 pub returns-then-not-is_doubtful : goal.returns-then-not-is_doubtful
 returns-then-not-is_doubtful g c = IsUndoubted.told c.count.result c.in-Ok.diagnosis (omega (arith, c.count.ensures.count)) c.in-Ok.ensures (rw c.if-not-is_doubtful.true at c.is_doubtful.ensures)

@@ -1,5 +1,5 @@
 use Rattle.std.proofs.Common.{IfOk, sym, subst}
-use Rattle.cs_restoring.specs.Doubts.{IsDoubtful}
+use Rattle.cs_restoring.specs.Doubts.{IsDoubtOf}
 use Rattle.cs_restoring.specs.Restores.{Foresees}
 use Rattle.cs_restoring.proofs.Ends.{planned}
 use Rattle.cs_restoring.proofs.foreseeing.look_ahead.Goals as goal
@@ -8,10 +8,16 @@ use Rattle.cs_restoring.proofs.foreseeing.look_ahead.Goals.{in-Ok-doubted, in-Er
 pub returns-in-Ok-Some : goal.returns-in-Ok-Some
 returns-in-Ok-Some g c =
     let request = c.args.request.now in
-    let foresees = Foresees g.P.Shelves.looks_at g.P.Shelf.Shelf.holds request.accepts_loss request.resumes c.args.places.now request.store.now c.args.catalog request.lost in
+    let foresees = Foresees g.P.Shelves.looks_at g.P.Shelf.Source.gives g.P.Shelf.Source.refuses g.P.Shelf.Shelf.holds request.accepts_loss request.resumes c.args.places.now request.store.now c.args.catalog request.lost in
     elim c.match-doubted.branch [
       | in-Ok-doubted w ↦ subst (λ r. IfOk r foresees) (sym w.result-is)
-          (subst (λ d. IsDoubtful d request.lost request.resumes) (sym w.in-Ok-doubted.ensures) (c.in-Ok-Some.ensures.doubtful c.in-Ok-Some.doubt c.in-Ok-Some.field-0-is))
+          (record {
+            store = c.in-Ok.shelf;
+            looked = c.in-Ok.ensures;
+            sites = w.in-Ok-doubted.ensures.0;
+            doubt = subst (IsDoubtOf g.P.Shelf.Source.gives g.P.Shelf.Source.refuses c.args.catalog c.in-Ok.shelf request.lost request.resumes) (sym w.in-Ok-doubted.ensures.1)
+                (record { read = c.in-Ok-read_files.read; seen = c.read_files.new.shelf; from = c.in-Ok-read_files.ensures.from; doubt = c.in-Ok-Some.ensures.doubt c.in-Ok-Some.doubt c.in-Ok-Some.field-0-is });
+          })
       | in-Err-doubted w ↦ subst (λ r. IfOk r foresees) (sym w.result-is) tt
     ]
 
@@ -19,9 +25,7 @@ pub returns-in-Ok-plan : goal.returns-in-Ok-plan
 returns-in-Ok-plan g c =
     let read = c.in-Ok-read_files.read in
     let left = c.read_files.new.shelf in (
-      c.planned.ensures.0,
-      c.planned.ensures.1.0,
-      c.planned.ensures.1.1,
+      c.restored_of.ensures,
       record {
         store = c.in-Ok.shelf;
         left = left;
@@ -29,10 +33,9 @@ returns-in-Ok-plan g c =
         same = c.read_files.ensures.held;
         plan = planned c.args.catalog c.args.request.now.lost read (g.P.Shelf.Shelf.holds left) c.in-Ok-plan.ensures c.in-Ok-read_files.ensures.found;
         undoubted = λ refuses. record {
-          seen = left;
           read = read;
-          same = c.read_files.ensures.held;
-          found = c.in-Ok-read_files.ensures.found;
+          seen = left;
+          from = c.in-Ok-read_files.ensures.from;
           undoubted = c.in-Ok-None.ensures.undoubted c.in-Ok-None.field-0-is refuses;
         };
       },

@@ -5,19 +5,19 @@ use Rattle.cs_restoring.proofs.restoring.restore_taken.Goals as goal
 pub returns-in-Ok-None : goal.returns-in-Ok-None
 returns-in-Ok-None g c =
     IfOk-weaker c.restore_read.result _ _ (λ answer ends.
-    ends_restored g.P.Shelves.gives_back g.P.Shelf.Shelf.holds g.P.Shelf.Shelf.may_leave c.args.places.now c.args.catalog c.args.taken.1 c.args.taken.0 c.read_files.new.shelf c.restore_read.new.places c.read_files.ensures.held
+    ends_restored g.P.Shelves.gives_back g.P.Shelf.Source.gives g.P.Shelf.Source.refuses g.P.Shelf.Shelf.holds g.P.Shelf.Shelf.may_leave c.args.places.now c.args.catalog c.args.taken.1 c.args.taken.0 c.read_files.new.shelf c.restore_read.new.places c.read_files.ensures.held
     c.args.request.now.accepts_loss c.args.request.now.resumes
     (λ refuses. record {
-      seen = c.read_files.new.shelf;
       read = c.in-Ok.read;
-      same = c.read_files.ensures.held;
-      found = c.in-Ok.ensures.found;
+      seen = c.read_files.new.shelf;
+      from = c.in-Ok.ensures.from;
       undoubted = c.in-Ok-None.ensures.undoubted c.in-Ok-None.field-0-is refuses;
     }) answer ends) c.restore_read.ensures
 
 pub returns-in-Ok-Some : goal.returns-in-Ok-Some
 returns-in-Ok-Some g c =
     IfOk-weaker c.give_back_doubted.result _ _
-    (ends_doubted g.P.Shelves.gives_back g.P.Shelf.Shelf.holds g.P.Shelf.Shelf.may_leave c.args.places.now c.args.catalog c.args.taken.1 c.args.taken.0 c.read_files.new.shelf c.give_back_doubted.new.places c.read_files.ensures.held
-    c.args.request.now.accepts_loss c.args.request.now.resumes c.read_files.ensures.stop c.in-Ok-Some.doubt.diagnosis (c.in-Ok-Some.ensures.doubtful c.in-Ok-Some.doubt c.in-Ok-Some.field-0-is)
+    (ends_doubted g.P.Shelves.gives_back g.P.Shelf.Source.gives g.P.Shelf.Source.refuses g.P.Shelf.Shelf.holds g.P.Shelf.Shelf.may_leave c.args.places.now c.args.catalog c.args.taken.1 c.args.taken.0 c.read_files.new.shelf c.give_back_doubted.new.places c.read_files.ensures.held
+    c.args.request.now.accepts_loss c.args.request.now.resumes (c.in-Ok-Some.ensures.unaccepted c.in-Ok-Some.doubt c.in-Ok-Some.field-0-is) c.read_files.ensures.stop c.in-Ok-Some.doubt.diagnosis
+    (record { read = c.in-Ok.read; seen = c.read_files.new.shelf; from = c.in-Ok.ensures.from; doubt = c.in-Ok-Some.ensures.doubt c.in-Ok-Some.doubt c.in-Ok-Some.field-0-is })
     c.doubted-doubted.result c.doubted-doubted.ensures) c.give_back_doubted.ensures

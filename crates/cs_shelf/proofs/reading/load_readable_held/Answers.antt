@@ -6,6 +6,11 @@ use Rattle.cs_store.specs.LoadReadable.{LoadsReadable}
 use Rattle.cs_shelf.proofs.Readable.{loads_read, attempts_still}
 use Rattle.cs_shelf.proofs.reading.load_readable_held.Goals as goal
 
+pub returns-clause-loads : goal.returns-clause-loads
+returns-clause-loads g c =
+    IfOk-weaker c.load_readable.result _ _ (λ read loads.
+    subst (λ l. LoadsReadable g.S.Source.gives g.S.Source.refuses (surviving c.args.catalog.now l) c.args.shelf.now read.files read.unreadable.items c.load_readable.new.source) c.none.ensures loads) c.load_readable.ensures.ok
+
 pub returns-clause-found : goal.returns-clause-found
 returns-clause-found g c =
     IfOk-weaker c.load_readable.result _ _ (λ read loads.
