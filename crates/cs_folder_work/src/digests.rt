@@ -1,5 +1,6 @@
 //! The digests of files that a restore reads anyway, for the journal.
 use crate::record::Change;
+use cs_folders::FileLimits;
 use cs_schema::FileName;
 use sha2::{Digest, Sha256};
 use std::alloc::{AllocError, Global};
@@ -35,15 +36,18 @@ fn is_noted(noted: Option<&BTreeMap<FileName, Change>>, name: &FileName) -> bool
 pub struct Digests {
     /// The names of which digests are noted, ascending.
     names: Vec<FileName>,
+    /// How many bytes a file has that can be read, at most.
+    pub limits: FileLimits,
     before: BTreeMap<FileName, FileDigest>,
     now: BTreeMap<FileName, FileDigest>,
 }
 
 impl Digests {
     /// Nothing is known yet of the files of these names, which ascend.
-    pub fn new(alloc: Global, names: Vec<FileName>) -> Self {
+    pub fn new(alloc: Global, names: Vec<FileName>, limits: FileLimits) -> Self {
         Self {
             names,
+            limits,
             before: BTreeMap::new(alloc),
             now: BTreeMap::new(alloc),
         }

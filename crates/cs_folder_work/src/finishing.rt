@@ -10,8 +10,8 @@ use std::rt::Files;
 use std::time::Clock;
 use std::{fs, io};
 
-/// Ends work that is finished: its line joins the journal, and its record what it keeps. Work that was stopped in between has
-/// done the first already where the second is done.
+/// Ends work that is finished: its line joins the journal, and its record what it keeps. If the record is there already, so
+/// is the line; but a run that was stopped may not have synced the record's name.
 pub fn finish<R: Files + Clock>(
     alloc: Global,
     rt: &R,
@@ -23,12 +23,12 @@ pub fn finish<R: Files + Clock>(
         let number = taken.record.kept;
         let kept = kept_record(alloc, store, number)?;
         if !fs::exists(rt, kept.as_str())? {
-            append(alloc, rt, store, &taken.record, digests)?;
+            append(alloc, rt, store, taken, digests)?;
             let record = format!(in alloc; "{store}/{RESTORING}")?;
             fs::hard_link(rt, record.as_str(), kept.as_str())?;
-            let folder = format!(in alloc; "{store}/replaced/{number}")?;
-            sync_folder(rt, folder.as_str())?;
         }
+        let folder = format!(in alloc; "{store}/replaced/{number}")?;
+        sync_folder(rt, folder.as_str())?;
     }
     remove_record(alloc, rt, store)
 }

@@ -8,8 +8,8 @@ use std::rt::Files;
 use std::time::Clock;
 
 impl<R: Files + Clock + Copy + Drop> FolderShelf<R> {
-    /// Gives the folder back: its work is finished, or ended early. Work that ended early after a name may have been given
-    /// new bytes stays unfinished. The number under which old files are kept, where some are.
+    /// Gives the folder back: its work is finished, or ended early. Work that ended early after the store may have changed
+    /// stays unfinished. The number under which old files are kept, if some are.
     pub fn give_back(self, is_finished: bool) -> Result<Option<u32>, StoreFault> {
         let kept = if self.has_kept {
             Some(self.number())

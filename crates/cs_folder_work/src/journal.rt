@@ -1,12 +1,12 @@
 //! The journal of a store: a line for each restore and undo that changed something.
 use crate::digests::{Digests, FileDigest};
-use crate::files::{read_regular, regular_size};
-use crate::record::{Change, Record, change_word};
+use crate::files::{io_error, read_regular, regular_size, sync_folder};
+use crate::record::{Change, change_word};
+use crate::taking::Taken;
 use cs_folders::read_bounded;
 use cs_reports::object::{Object, sites};
 use cs_schema::FileName;
 use cs_shelf::{JOURNAL, Work};
-use cs_store::StoreFault;
 use jiff::Timestamp;
 use serde_json::Value;
 use std::alloc::Global;
@@ -16,96 +16,103 @@ use std::rt::Files;
 use std::time::Clock;
 use std::{fs, io};
 
-/// The size and the digest of the regular file at this path; null where there is none. It is read only where its digest
-/// isn't known.
+/// The size and the digest of the regular file at this path; null if there is none. The digest is null if the file has more
+/// than `limit` bytes. It is read only if its digest isn't known.
 fn file_value<R: Files>(
     alloc: Global,
     rt: &R,
     path: &str,
     known: Option<FileDigest>,
+    limit: u64,
 ) -> io::Result<Value> {
-    let Some(size) = regular_size(rt, path) else {
+    let Some(size) = regular_size(rt, path)? else {
         return Ok(Value::Null);
     };
     match known {
-        Some(digest) if digest.bytes == size => return digest_value(alloc, digest),
+        Some(digest) if digest.bytes == size => return digest_value(alloc, size, Some(digest)),
         _ => {}
     }
-    match read_regular(alloc, rt, path, size)? {
-        Some(bytes) => digest_value(alloc, FileDigest::of(bytes.as_slice())),
-        None => Ok(Value::Null),
-    }
+    let read = read_regular(alloc, rt, path, limit)?;
+    let digest = read.map(|bytes| FileDigest::of(bytes.as_slice()));
+    digest_value(alloc, size, digest)
 }
 
-/// A size and a digest as an object.
-fn digest_value(alloc: Global, digest: FileDigest) -> io::Result<Value> {
+/// A size, and a digest or null, as an object.
+fn digest_value(alloc: Global, bytes: u64, digest: Option<FileDigest>) -> io::Result<Value> {
+    let object = Object::new(alloc).number("bytes", bytes);
+    let Some(digest) = digest else {
+        return Ok(object.member("sha256", Ok(Value::Null)).finish()?);
+    };
     let sha256 = hex::encode(alloc, &digest.sha256)?;
-    Ok(
-        Object::new(alloc)
-            .number("bytes", digest.bytes)
-            .text("sha256", sha256.as_str())
-            .finish()?,
-    )
+    Ok(object.text("sha256", sha256.as_str()).finish()?)
 }
 
-/// The file that was kept of a name, where one was.
+/// The file that was kept of a name, if one was. It may have been replaced because it can't be read: then its digest is null.
 fn before_value<R: Files>(
     alloc: Global,
     rt: &R,
     kept: &str,
     name: FileName,
-    change: Change,
     digests: &Digests,
 ) -> io::Result<Value> {
-    match change {
-        Change::New => Ok(Value::Null),
-        Change::Replaces => {
-            let path = format!(in alloc; "{kept}/{name}")?;
-            file_value(alloc, rt, path.as_str(), digests.before(name))
-        }
+    let path = format!(in alloc; "{kept}/{name}")?;
+    let limit = digests.limits.limit_of(name);
+    match file_value(alloc, rt, path.as_str(), digests.before(name), limit) {
+        Err(e) if e.kind() != ErrorKind::OutOfMemory => file_value(
+            alloc,
+            rt,
+            path.as_str(),
+            None,
+            0,
+        ),
+        value => value,
     }
 }
 
-/// What became of a name: the file before, where one was, and after.
-fn change_value<R: Files>(
+/// The file that stands under a name. What was moved there may be one that can't be read.
+fn after_value<R: Files>(
     alloc: Global,
     rt: &R,
-    folders: (&str, &str),
+    store: &str,
     name: FileName,
-    change: Change,
+    taken: &Taken,
     digests: &Digests,
 ) -> io::Result<Value> {
-    let (store, kept) = folders;
-    let before = before_value(alloc, rt, kept, name, change, digests)?;
     let path = format!(in alloc; "{store}/{name}")?;
-    let after = file_value(alloc, rt, path.as_str(), digests.now(name))?;
-    let name = name.path();
-    Ok(
-        Object::new(alloc)
-            .text("path", name.as_str())
-            .text("what", change_word(change))
-            .member("before", Ok(before))
-            .member("after", Ok(after))
-            .finish()?,
-    )
+    let limit = if taken.moves.as_slice().contains(&name) {
+        0
+    } else {
+        digests.limits.limit_of(name)
+    };
+    file_value(alloc, rt, path.as_str(), digests.now(name), limit)
 }
 
-/// What became of each name.
+/// What became of each name: the file before, if there was one, and after.
 fn change_values<R: Files>(
     alloc: Global,
     rt: &R,
     store: &str,
-    record: &Record,
+    taken: &Taken,
     digests: &Digests,
 ) -> io::Result<Value> {
     let mut list = Vec::new(alloc);
-    let Some(changes) = &record.changes else {
+    let Some(changes) = &taken.record.changes else {
         return Ok(Value::Array(list));
     };
-    let kept = format!(in alloc; "{store}/replaced/{}", record.kept)?;
+    let kept = format!(in alloc; "{store}/replaced/{}", taken.record.kept)?;
     for (name, change) in changes {
-        let folders = (store, kept.as_str());
-        list.push(change_value(alloc, rt, folders, *name, *change, digests)?)?;
+        let before = match change {
+            Change::New => Value::Null,
+            Change::Replaces => before_value(alloc, rt, kept.as_str(), *name, digests)?,
+        };
+        let after = after_value(alloc, rt, store, *name, taken, digests)?;
+        let path = name.path();
+        let object = Object::new(alloc)
+            .text("path", path.as_str())
+            .text("what", change_word(*change))
+            .member("before", Ok(before))
+            .member("after", Ok(after));
+        list.push(object.finish()?)?;
     }
     Ok(Value::Array(list))
 }
@@ -128,20 +135,20 @@ fn line_of<R: Files + Clock>(
     alloc: Global,
     rt: &R,
     store: &str,
-    record: &Record,
+    taken: &Taken,
     digests: &Digests,
 ) -> io::Result<String> {
     let time = now(alloc, rt)?;
     let object = Object::new(alloc)
         .text("time", time.as_str())
-        .number("kept", u64::from(record.kept));
-    let object = match record.work {
+        .number("kept", u64::from(taken.record.kept));
+    let object = match taken.record.work {
         Work::Restore(lost) => object
             .text("what", "restore")
             .member("sites", sites(alloc, lost)),
         Work::Undo(number) => object.text("what", "undo").number("of", u64::from(number)),
     };
-    let files = change_values(alloc, rt, store, record, digests)?;
+    let files = change_values(alloc, rt, store, taken, digests)?;
     let value = object.member("files", Ok(files)).finish()?;
     Ok(format!(in alloc; "{value}\n")?)
 }
@@ -157,37 +164,40 @@ fn ends_within_a_line<F: Read + Seek>(file: &mut F, size: u64) -> io::Result<boo
     Ok(count == 1 && last != [b'\n'])
 }
 
-/// Whether a file of so many bytes ends with this line already, but for its time: work was stopped right after it.
-fn ends_with<F: Read + Seek>(
+/// Where this line begins, but for its time, if it is the last of a file of so many bytes: work was stopped right after it.
+/// Else where the file ends.
+fn line_start<F: Read + Seek>(
     alloc: Global,
     file: &mut F,
     size: u64,
     line: &str,
-) -> io::Result<bool> {
+) -> io::Result<u64> {
     let Some((head, _)) = line.split_once("\"time\"") else {
-        return Ok(false);
+        return Ok(size);
     };
     let length = line.len() as u64;
     if size < length {
-        return Ok(false);
+        return Ok(size);
     }
-    file.seek(SeekFrom::Start(size - length))?;
+    let start = size - length;
+    file.seek(SeekFrom::Start(start))?;
     match read_bounded(alloc, file, length) {
-        Ok(tail) => Ok(tail.starts_with(head.as_bytes())),
-        Err(StoreFault::Memory) => Err(io::Error::from(ErrorKind::OutOfMemory)),
-        Err(StoreFault::Device) => Ok(false),
+        Ok(tail) if tail.starts_with(head.as_bytes()) => Ok(start),
+        Ok(_) => Ok(size),
+        Err(fault) => Err(io_error(fault)),
     }
 }
 
-/// Adds the line of a restore or an undo, and brings it to the disk.
+/// Adds the line of a restore or an undo, and brings it to the disk. If it is the last one already it is written anew: where
+/// an earlier sync of it failed, the system may have dropped it and sync nothing.
 pub fn append<R: Files + Clock>(
     alloc: Global,
     rt: &R,
     store: &str,
-    record: &Record,
+    taken: &Taken,
     digests: &Digests,
 ) -> io::Result<()> {
-    let line = line_of(alloc, rt, store, record, digests)?;
+    let line = line_of(alloc, rt, store, taken, digests)?;
     let path = format!(in alloc; "{store}/{JOURNAL}")?;
     let size = match fs::symlink_metadata(rt, path.as_str()) {
         Ok(found) if found.is_file() => found.len(),
@@ -201,12 +211,14 @@ pub fn append<R: Files + Clock>(
         .append(true)
         .create(true)
         .open(rt, path.as_str())?;
-    if ends_with(alloc, &mut file, size, line.as_str())? {
-        return file.sync_all();
+    let start = line_start(alloc, &mut file, size, line.as_str())?;
+    if start < size {
+        file.set_len(start)?;
     }
-    if ends_within_a_line(&mut file, size)? {
+    if ends_within_a_line(&mut file, start)? {
         file.write_all(b"\n")?;
     }
     file.write_all(line.as_bytes())?;
-    file.sync_all()
+    file.sync_all()?;
+    sync_folder(rt, store)
 }

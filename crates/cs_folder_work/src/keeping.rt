@@ -18,11 +18,14 @@ impl<R: Files + Copy + Drop> FolderShelf<R> {
         format!(in self.alloc; "{}/replaced/{}", self.path, self.number())
     }
 
-    /// Makes the folder that keeps what is replaced, unless it is there.
+    /// Makes the folder that keeps what is replaced, unless it is there, and brings its name to the disk: what is moved into a
+    /// folder is lost with it.
     fn make_kept_folder(&self) -> io::Result<()> {
         let all = format!(in self.alloc; "{}/replaced", self.path)?;
         make_folder(&self.rt, all.as_str())?;
-        make_folder(&self.rt, self.kept_folder()?.as_str())
+        make_folder(&self.rt, self.kept_folder()?.as_str())?;
+        sync_folder(&self.rt, all.as_str())?;
+        sync_folder(&self.rt, self.path.as_str())
     }
 
     /// Keeps what stands under the name, if anything does: a file by a second name, and a folder by moving it. What is kept
@@ -58,9 +61,7 @@ impl<R: Files + Copy + Drop> FolderShelf<R> {
 
     /// Brings the names of what is kept to the disk, and those of the store.
     fn sync_kept(&self) -> io::Result<()> {
-        let all = format!(in self.alloc; "{}/replaced", self.path)?;
         sync_folder(&self.rt, self.kept_folder()?.as_str())?;
-        sync_folder(&self.rt, all.as_str())?;
         sync_folder(&self.rt, self.path.as_str())
     }
 
@@ -106,6 +107,7 @@ impl<R: Files<File = File> + Copy + Drop> FolderShelf<R> {
             return Ok(());
         }
         self.make_kept_folder()?;
+        self.has_changed = true;
         let noted = self.noted();
         self.digests.keep(names, noted.as_ref())?;
         let changes = self.kept_with(noted, names)?;

@@ -12,6 +12,7 @@ mod finishing;
 mod giving_back;
 mod journal;
 mod keeping;
+mod moving;
 mod names;
 mod owner;
 mod record;

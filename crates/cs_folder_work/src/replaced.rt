@@ -3,6 +3,7 @@ use crate::files::read_regular;
 use crate::record::{Change, Record};
 use crate::recording::{RECORD_LIMIT, record_of};
 use crate::taking::failed;
+use cs_folders::FileLimits;
 use cs_schema::FileName;
 use cs_shelf::{Undoable, Untaken};
 use cs_store::FileSet;
@@ -77,66 +78,97 @@ fn read_kept_record<R: Files>(
         return Err(Untaken::NoneKept(Some(number)));
     }
     let path = kept_record(alloc, store, number).map_err(failed)?;
-    match read_regular(alloc, rt, path.as_str(), RECORD_LIMIT) {
-        Ok(Some(bytes)) => match record_of(alloc, bytes.as_slice()) {
+    match read_regular(alloc, rt, path.as_str(), RECORD_LIMIT).map_err(failed)? {
+        Some(bytes) => match record_of(alloc, bytes.as_slice()) {
             Ok(record) if record.kept == number && record.changes.is_some() => Ok(record),
             Ok(_) | Err(Untaken::Damaged) => Err(Untaken::Unrecorded(number)),
             Err(untaken) => Err(untaken),
         },
-        Ok(None) => Err(Untaken::Unrecorded(number)),
-        Err(_) => Err(Untaken::Memory),
+        None => Err(Untaken::Unrecorded(number)),
     }
 }
 
-/// Adds a name to what is put back, with the file that is kept of it.
-fn add_kept<R: Files>(
+/// What work on a store keeps.
+#[derive(Drop)]
+pub struct Kept {
+    pub undoable: Undoable,
+    /// The names under which what is kept is moved back, since it is no regular file that can be read. In what is put back
+    /// they have no bytes.
+    pub moves: Vec<FileName>,
+}
+
+/// The bytes of the file that is kept at this path, if it is a regular one that can be read; an error if nothing is there.
+fn read_kept<R: Files>(
     alloc: Global,
     rt: &R,
-    store: &str,
-    undoable: &mut Undoable,
-    name: FileName,
-) -> Result<(), Untaken> {
-    let number = undoable.number;
-    let path = match format!(in alloc; "{store}/replaced/{number}/{name}") {
-        Ok(path) => path,
-        Err(_) => return Err(Untaken::Memory),
-    };
-    match read_regular(alloc, rt, path.as_str(), u64::MAX) {
-        Ok(Some(bytes)) => match undoable.back.put(name, bytes) {
-            Ok(()) => Ok(()),
-            Err(_) => Err(Untaken::Memory),
-        },
-        Ok(None) => Err(Untaken::Incomplete(number, name)),
-        Err(_) => Err(Untaken::Memory),
+    path: &str,
+    limit: u64,
+) -> io::Result<Option<Vec<u8>>> {
+    fs::symlink_metadata(rt, path)?;
+    match read_regular(alloc, rt, path, limit) {
+        Err(e) if e.kind() != ErrorKind::OutOfMemory => Ok(None),
+        read => read,
     }
 }
 
-/// What an undo of the work of this number puts back. Each file that it kept has to be there.
+impl Kept {
+    /// Adds a name, with what was read of what is kept of it.
+    fn add(&mut self, alloc: Global, name: FileName, read: Option<Vec<u8>>) -> Result<(), Untaken> {
+        let bytes = match read {
+            Some(bytes) => bytes,
+            None => match self.moves.push(name) {
+                Ok(()) => Vec::new(alloc),
+                Err(_) => return Err(Untaken::Memory),
+            },
+        };
+        match self.undoable.back.put(name, bytes) {
+            Ok(()) => Ok(()),
+            Err(_) => Err(Untaken::Memory),
+        }
+    }
+}
+
+/// What an undo of the work of this number puts back. All that it kept has to be there, but for what an undo that has begun
+/// may have moved back.
 pub fn read_replaced<R: Files>(
     alloc: Global,
     rt: &R,
     store: &str,
     number: u32,
-) -> Result<Undoable, Untaken> {
+    limits: FileLimits,
+    has_begun: bool,
+) -> Result<Kept, Untaken> {
     let record = read_kept_record(alloc, rt, store, number)?;
     let Ok(back) = FileSet::new(alloc) else {
         return Err(Untaken::Memory);
     };
-    let mut undoable = Undoable {
-        number,
-        back,
-        names: Vec::new(alloc),
+    let mut kept = Kept {
+        undoable: Undoable {
+            number,
+            back,
+            names: Vec::new(alloc),
+        },
+        moves: Vec::new(alloc),
     };
     let Some(changes) = &record.changes else {
         return Err(Untaken::Unrecorded(number));
     };
     for (name, change) in changes {
-        if undoable.names.push(*name).is_err() {
+        if kept.undoable.names.push(*name).is_err() {
             return Err(Untaken::Memory);
         }
-        if *change == Change::Replaces {
-            add_kept(alloc, rt, store, &mut undoable, *name)?;
+        if *change == Change::New {
+            continue;
+        }
+        let Ok(path) = format!(in alloc; "{store}/replaced/{number}/{name}") else {
+            return Err(Untaken::Memory);
+        };
+        match read_kept(alloc, rt, path.as_str(), limits.limit_of(*name)) {
+            Ok(read) => kept.add(alloc, *name, read)?,
+            Err(e) if e.kind() != ErrorKind::NotFound => return Err(failed(e)),
+            Err(_) if has_begun => kept.add(alloc, *name, None)?,
+            Err(_) => return Err(Untaken::Incomplete(number, *name)),
         }
     }
-    Ok(undoable)
+    Ok(kept)
 }

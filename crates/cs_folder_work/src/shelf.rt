@@ -27,7 +27,7 @@ pub struct FolderShelf<R> {
     source: StoreFolder<R>,
     /// Whether an old file is kept.
     pub(crate) has_kept: bool,
-    /// Whether a name may have been given new bytes.
+    /// Whether anything may have been kept, moved or given new bytes.
     pub(crate) has_changed: bool,
     /// The digests of files that change, for the journal.
     pub(crate) digests: Digests,
@@ -47,21 +47,20 @@ impl<R: Files + Copy + Drop> FolderShelf<R> {
             source,
             has_kept: false,
             has_changed: false,
-            digests: Digests::new(alloc, Vec::new(alloc)),
+            digests: Digests::new(alloc, Vec::new(alloc), limits),
             faults: 0,
         })
     }
 
-    /// This store with its folder taken. What is known to change may have been given new bytes already. Of these
-    /// names, which ascend, the digests of what is read are kept for the journal.
+    /// This store with its folder taken. Of these names, which ascend, the digests of what is read are kept for the journal.
     pub fn taken_by(self, taken: Taken, noted: Vec<FileName>) -> Self {
         let has_kept = taken.record.keeps_any();
-        let has_changed = taken.record.changes.is_some();
+        let has_changed = taken.has_changed;
         Self {
             taken: Some(taken),
             has_kept,
             has_changed,
-            digests: Digests::new(self.alloc, noted),
+            digests: Digests::new(self.alloc, noted, self.digests.limits),
             ..self
         }
     }
@@ -74,7 +73,7 @@ impl<R: Files + Copy + Drop> FolderShelf<R> {
         }
     }
 
-    /// Whether a name may have been given new bytes.
+    /// Whether anything may have been kept, moved or given new bytes.
     pub fn has_changed(&self) -> bool {
         self.has_changed
     }
@@ -188,7 +187,11 @@ impl<R: Files<File = File> + Copy + Drop> Shelf for FolderShelf<R> {
     }
 
     fn replace(&mut self, name: FileName, bytes: &[u8]) -> Result<(), StoreFault> {
-        let replaced = self.replace_file(name, bytes);
+        let replaced = if self.is_moved(name) {
+            self.move_back(name)
+        } else {
+            self.replace_file(name, bytes)
+        };
         self.told(replaced)
     }
 

@@ -20,6 +20,10 @@ const BESIDE_LIMIT: u32 = 64;
 #[derive(Drop)]
 pub struct Taken {
     pub record: Record,
+    /// The names under which an undo moves back what is kept; none of a restore.
+    pub moves: Vec<FileName>,
+    /// Whether an earlier run may have kept, moved or replaced anything.
+    pub has_changed: bool,
     /// The locked file of the record.
     lock: File,
 }
@@ -55,14 +59,16 @@ pub fn failed(error: io::Error) -> Untaken {
     }
 }
 
-/// Which kind of work on the store in this folder is not finished, if any; a restore where its record can't be read.
+/// Which kind of work on the store in this folder is not finished, if any; a restore if its record can't be looked at or read.
 pub fn unfinished_kind<R: Files>(
     alloc: Global,
     rt: &R,
     store: &str,
 ) -> Result<Option<WorkKind>, AllocError> {
-    if !is_unfinished(alloc, rt, store)? {
-        return Ok(None);
+    match is_unfinished(alloc, rt, store) {
+        Ok(false) => return Ok(None),
+        Err(e) if e.kind() == ErrorKind::OutOfMemory => return Err(AllocError),
+        _ => {}
     }
     let path = format!(in alloc; "{store}/{RESTORING}")?;
     match record_at(alloc, rt, path.as_str()) {
@@ -72,12 +78,13 @@ pub fn unfinished_kind<R: Files>(
     }
 }
 
-/// Whether a restore or an undo of the store in this folder is not finished, or it can't be told that none is.
-fn is_unfinished<R: Files>(alloc: Global, rt: &R, store: &str) -> Result<bool, AllocError> {
+/// Whether a restore or an undo of the store in this folder is not finished.
+fn is_unfinished<R: Files>(alloc: Global, rt: &R, store: &str) -> io::Result<bool> {
     let path = format!(in alloc; "{store}/{RESTORING}")?;
     match fs::symlink_metadata(rt, path.as_str()) {
         Ok(_) => Ok(true),
-        Err(e) => Ok(e.kind() != ErrorKind::NotFound),
+        Err(e) if e.kind() == ErrorKind::NotFound => Ok(false),
+        Err(e) => Err(e),
     }
 }
 
@@ -154,10 +161,8 @@ pub fn take<R: Files<File = File> + Alloc + Clone + Drop>(
         Ok(path) => path,
         Err(_) => return Err(Untaken::Memory),
     };
-    match is_unfinished(alloc, rt, store) {
-        Ok(false) => {}
-        Ok(true) => return Err(unfinished(alloc, rt, path.as_str())),
-        Err(_) => return Err(Untaken::Memory),
+    if is_unfinished(alloc, rt, store).map_err(failed)? {
+        return Err(unfinished(alloc, rt, path.as_str()));
     }
     let record = new_record(alloc, rt, store, work).map_err(failed)?;
     let (beside, mut file) = new_beside(alloc, rt, path.as_str()).map_err(failed)?;
@@ -179,7 +184,12 @@ pub fn take<R: Files<File = File> + Alloc + Clone + Drop>(
             return Err(untaken);
         }
     }
-    Ok(Taken { record, lock: file })
+    Ok(Taken {
+        record,
+        moves: Vec::new(alloc),
+        has_changed: false,
+        lock: file,
+    })
 }
 
 /// Locks the record that was written beside, and gives it its name. Not where another has taken the folder meanwhile, which
@@ -228,23 +238,33 @@ pub fn resume<R: Files<File = File>>(alloc: Global, rt: &R, store: &str) -> Resu
         Err(e) => return Err(failed(e)),
     };
     lock(&file)?;
-    if !is_there(rt, &file, path.as_str()) {
+    if !is_there(rt, &file, path.as_str()).map_err(failed)? {
         return Err(Untaken::Finished);
     }
-    match read_record(alloc, &mut file) {
-        Ok(record) => {
-            let _swept = sweep(alloc, rt, path.as_str()).is_ok();
-            Ok(Taken { record, lock: file })
-        }
-        Err(untaken) => Err(untaken),
-    }
+    let record = read_record(alloc, &mut file)?;
+    let has_changed = has_kept_folder(alloc, rt, store, record.kept).map_err(failed)?;
+    let _swept = sweep(alloc, rt, path.as_str()).is_ok();
+    Ok(Taken {
+        record,
+        moves: Vec::new(alloc),
+        has_changed,
+        lock: file,
+    })
+}
+
+/// Whether the folder is there that keeps what is replaced: it is made before anything is kept.
+fn has_kept_folder<R: Files>(alloc: Global, rt: &R, store: &str, number: u32) -> io::Result<bool> {
+    let folder = format!(in alloc; "{store}/replaced/{number}")?;
+    fs::exists(rt, folder.as_str())
 }
 
 /// Whether the record still has its name: the program that had it locked may have ended meanwhile.
-fn is_there<R: Files>(rt: &R, file: &File, path: &str) -> bool {
-    match (OpenFile::metadata(file), fs::metadata(rt, path)) {
-        (Ok(opened), Ok(named)) => opened.ino() == named.ino() && opened.dev() == named.dev(),
-        _ => false,
+fn is_there<R: Files>(rt: &R, file: &File, path: &str) -> io::Result<bool> {
+    let opened = OpenFile::metadata(file)?;
+    match fs::metadata(rt, path) {
+        Ok(named) => Ok(opened.ino() == named.ino() && opened.dev() == named.dev()),
+        Err(e) if e.kind() == ErrorKind::NotFound => Ok(false),
+        Err(e) => Err(e),
     }
 }
 

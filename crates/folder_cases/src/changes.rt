@@ -9,6 +9,8 @@ use std::rt::Files;
 pub fn changed<R: Files>(rt: &R, words: &[&str]) -> Result<bool> {
     match words {
         ["rm", path] => fs::remove_file(rt, path)?,
+        ["mkdir", path] => fs::create_dir(rt, path)?,
+        ["rmdir", path] => fs::remove_dir(rt, path)?,
         ["link", target, path] => symlink(rt, target, path)?,
         ["sparse", bytes, path] => {
             File::create(rt, path)?.set_len(bytes.parse::<u64>()?)?;

@@ -1,7 +1,7 @@
 //! Runs pinepolo's verbs over the folders beside it, and prints what each says and its status.
 //!
 //! Standard input has lines: the words of a verb, behind `full` where its standard output is to take nothing; or `rm PATH`,
-//! `link TARGET PATH` and `sparse BYTES PATH`, which change what stands in the folders.
+//! `mkdir PATH`, `rmdir PATH`, `link TARGET PATH` and `sparse BYTES PATH`, which change what stands in the folders.
 #![tactic(auto)]
 
 mod changes;

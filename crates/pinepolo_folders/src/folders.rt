@@ -240,7 +240,7 @@ impl<R: Files<File = File> + Alloc + Clock + Copy + Drop + Sync> Shelves for Fol
             Ok(shelf) => shelf,
             Err(_) => return Err(Untaken::Memory),
         };
-        match take_undo(self.alloc, &self.rt, path, asked) {
+        match take_undo(self.alloc, &self.rt, path, asked, FileLimits::of(catalog)) {
             Ok((taken, undoable)) => Ok((shelf.taken_by(taken, Vec::new(self.alloc)), undoable)),
             Err(untaken) => Err(untaken),
         }

@@ -1,0 +1,158 @@
+"""The states of a folder that a crash may leave, by what a file system promises.
+
+A synced file has its data, and a synced folder its names. Of what was done since then
+- `journal` leaves the changes of names in their order, of all folders together, and of each file the data that was
+  written up to some moment; a sync brings all earlier changes of names to the disk, as a journal of metadata does;
+- `ordered` leaves the changes of each folder in their order, whatever became of other folders and of files;
+- `weak` leaves any of the changes of names, and zeros may stand for data.
+A rename is one step in each of them. Data whose sync failed is gone, unless it was written again.
+"""
+import os
+from dataclasses import dataclass
+
+MODELS = ("journal", "ordered", "weak")
+
+
+@dataclass(frozen=True)
+class Choice:
+    """Which changes of names a crash leaves, how many of the writes to each file, whether the last of these in part, and
+    whether zeros stand for data."""
+    names: frozenset
+    writes: dict
+    halves: frozenset = frozenset()
+    zeros: frozenset = frozenset()
+
+
+def folders_of(op):
+    return {folder for folder, _, _ in op.names}
+
+
+def pending_names(log, count, model):
+    """The changes of names, of so many first changes, that a crash may undo."""
+    pending, synced, is_synced = [], set(), False
+    for at in reversed(range(count)):
+        op = log.ops[at]
+        if op.kind == "sync":
+            synced.add(op.node)
+            is_synced = True
+        elif op.kind == "names" and not (is_synced if model == "journal" else folders_of(op) & synced):
+            pending.append(at)
+    return pending[::-1]
+
+
+def pending_writes(log, count):
+    """By file, the writes to it that no sync followed, and all those that are gone since a sync of them failed."""
+    pending, gone = {}, set()
+    for at in range(count):
+        op = log.ops[at]
+        if op.kind in ("write", "truncate"):
+            pending.setdefault(op.node, []).append(at)
+        elif op.kind == "sync":
+            pending.pop(op.node, None)
+        elif op.kind == "unsynced":
+            gone.update(pending.pop(op.node, []))
+    return pending, gone
+
+
+def without_gaps(log, pending, kept):
+    """Of these changes those that are left if each folder keeps its own in their order."""
+    cut = set()
+    left = set()
+    for at in pending:
+        folders = folders_of(log.ops[at])
+        if at in kept and not folders & cut:
+            left.add(at)
+        else:
+            cut |= folders
+    return frozenset(left)
+
+
+def extremes(log, count, model):
+    """The states in which all or nothing is left."""
+    names, (writes, _) = frozenset(pending_names(log, count, model)), pending_writes(log, count)
+    none, all_of = dict.fromkeys(writes, 0), {node: len(ats) for node, ats in writes.items()}
+    yield from (Choice(kept, chosen) for kept in (names, frozenset()) for chosen in (all_of, none))
+
+
+def chosen(log, count, model, random):
+    """One of the states that a crash after so many changes may leave."""
+    names, (writes, _) = pending_names(log, count, model), pending_writes(log, count)
+    if model == "journal":
+        kept = frozenset(names[:random.randint(0, len(names))])
+    else:
+        kept = frozenset(at for at in names if random.random() < 0.6)
+        kept = without_gaps(log, names, kept) if model == "ordered" else kept
+    counts = {node: random.randint(0, len(ats)) for node, ats in writes.items()}
+    some = [node for node in writes if counts[node] > 0]
+    halves = frozenset(node for node in some if random.random() < 0.3)
+    zeros = frozenset(node for node in some if model == "weak" and random.random() < 0.3)
+    return Choice(kept, counts, halves, zeros)
+
+
+def left(log, count, model, choice):
+    """The names of each folder and the data of each file that are left."""
+    pending, (writes, gone) = set(pending_names(log, count, model)), pending_writes(log, count)
+    last = {node: ats[choice.writes[node] - 1] for node, ats in writes.items() if choice.writes[node] > 0}
+    dropped = gone | {at for node, ats in writes.items() for at in ats[choice.writes[node]:]}
+    names = {at: dict(node.names) for at, node in enumerate(log.nodes)}
+    data = {at: bytearray(node.data) for at, node in enumerate(log.nodes)}
+    for at, op in enumerate(log.ops[:count]):
+        if op.kind == "names" and (at not in pending or at in choice.names):
+            for folder, name, node in op.names:
+                if node is None:
+                    names[folder].pop(name, None)
+                else:
+                    names[folder][name] = node
+        elif op.kind in ("write", "truncate") and at not in dropped:
+            part = op.data
+            if at == last.get(op.node):
+                part = part[:len(part) // 2] if op.node in choice.halves else part
+            if op.node in choice.zeros and op.node in writes and at in writes[op.node]:
+                part = bytes(len(part))
+            change_data(data[op.node], op, part)
+    return names, data
+
+
+def change_data(data, op, part):
+    """Does a write or a truncation to data. Where a file ended before, zeros come between."""
+    end = op.at if op.kind == "truncate" else op.at + len(part)
+    data.extend(bytes(max(0, end - len(data))))
+    if op.kind == "truncate":
+        del data[end:]
+    else:
+        data[op.at:end] = part
+
+
+def key_of(log, state, at=0):
+    """What tells a state from others."""
+    names, data = state
+    node = log.nodes[at]
+    if node.kind == "folder":
+        return tuple((name, key_of(log, state, names[at][name])) for name in sorted(names[at]))
+    return node.kind, at, bytes(data[at])
+
+
+def write_state(log, state, path):
+    """Makes the state at a path."""
+    names, data = state
+    made = {}
+
+    def make(at, path):
+        node = log.nodes[at]
+        if at in made:
+            os.link(made[at], path, follow_symlinks=False)
+        elif node.kind == "folder":
+            os.mkdir(path)
+            for name, child in sorted(names[at].items()):
+                make(child, f"{path}/{name}")
+        elif node.kind == "link":
+            os.symlink(bytes(data[at]), path)
+        elif node.kind == "pipe":
+            os.mkfifo(path)
+        else:
+            with open(path, "wb") as file:
+                file.write(data[at])
+        if node.kind != "folder":
+            made.setdefault(at, path)
+
+    make(0, path)

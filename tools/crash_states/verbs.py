@@ -1,0 +1,176 @@
+"""The verbs that change files: what each begins with, how it is gone on with, and what has to come of it."""
+import hashlib
+import json
+import os
+import re
+import shutil
+import stat
+import subprocess
+
+SITES = ("2", "3")
+
+
+def thing(path):
+    """What stands at a path, with all that is in it."""
+    try:
+        mode = os.lstat(path).st_mode
+    except FileNotFoundError:
+        return None
+    if stat.S_ISDIR(mode):
+        return {name: thing(f"{path}/{name}") for name in sorted(os.listdir(path))}
+    if stat.S_ISREG(mode):
+        with open(path, "rb") as file:
+            return file.read()
+    return os.readlink(path) if stat.S_ISLNK(mode) else "pipe"
+
+
+def files_of(store):
+    """What stands under the names of a store's files."""
+    return {name: thing(f"{store}/{name}") for name in sorted(os.listdir(store)) if name[0] == "p" and name[1].isdigit() and not name.endswith(".restoring")}
+
+
+def digest_of(found):
+    """The size and the digest of a file as the journal has them."""
+    return {"bytes": len(found), "sha256": hashlib.sha256(found).hexdigest()} if isinstance(found, bytes) else None
+
+
+def ended(words, status, said):
+    """What is wrong with how a program ended: nothing if its status is 0. Paths are those in its folder."""
+    line = re.sub(r"\S*/crash-states-\w+/\w+/", "", said.partition("\n")[0])
+    return [] if status == 0 else [f"{' '.join(word for word in words if '/' not in word)}: status {status}, {line}"]
+
+
+class Verb:
+    """A verb in a folder of its own, with the program that does it."""
+
+    def __init__(self, name, program, example):
+        self.name, self.program, self.example = name, program, example
+
+    def run(self, *words):
+        """Runs the program, and says what is wrong with how it ended."""
+        done = subprocess.run([self.program, *words], stdin=subprocess.DEVNULL, capture_output=True, text=True)
+        return ended(words, done.returncode, done.stdout + done.stderr)
+
+    def break_store(self, store):
+        """A store of which two sites are lost: a pipe, half a file and a folder stand under lost names, and one is empty."""
+        shutil.copytree(self.example, store)
+        for name in ("p0.s1.seg", "p1.s0.seg", "p1.s0.del"):
+            os.remove(f"{store}/{name}")
+        os.mkfifo(f"{store}/p0.s1.seg")
+        os.truncate(f"{store}/p0.s1.del", 20)
+        os.mkdir(f"{store}/p1.s0.seg")
+        with open(f"{store}/p1.s0.seg/inner", "w") as file:
+            file.write("inner")
+
+
+class InPlace(Verb):
+    """`restore`, or `undo` of one."""
+
+    def prepare(self, room):
+        self.break_store(f"{room}/store")
+        broken, whole = files_of(f"{room}/store"), files_of(self.example)
+        self.changed = sorted(name for name in whole if whole[name] != broken.get(name))
+        self.before, self.after = (broken, whole) if self.name == "restore" else (whole, broken)
+        if self.name == "undo" and (failed := self.run("restore", "--quiet", f"{room}/store", *SITES)):
+            raise RuntimeError(failed[0])
+
+    def words(self, room):
+        return ["restore", "--quiet", f"{room}/store", *SITES] if self.name == "restore" else ["undo", f"{room}/store", "1"]
+
+    def has_ended(self, room):
+        return not os.path.lexists(f"{room}/store/RESTORING") and files_of(f"{room}/store") == self.after
+
+    def go_on(self, room, run):
+        """Goes on as the documents say."""
+        store = f"{room}/store"
+        if os.path.lexists(f"{store}/RESTORING"):
+            return run(self.name, "--resume", store)
+        if self.has_ended(room):
+            return []
+        if files_of(store) != self.before:
+            return ["changed, and RESTORING is gone"]
+        return run(*self.words(room))
+
+    def faults(self, room):
+        """What is wrong with a store in which the verb has ended, and with what is left of it after an undo."""
+        store = f"{room}/store"
+        if files_of(store) != self.after:
+            return [f"not right: {' '.join(name for name in self.changed if files_of(store).get(name) != self.after.get(name))}"]
+        wrong = self.lost(store) + self.told(store)
+        wrong += self.run("undo", store)
+        if not wrong and files_of(store) != self.before:
+            wrong.append("an undo gives back something else")
+        over = [name for name in os.listdir(store) if name.startswith("RESTORING") or name.endswith(".restoring")]
+        return wrong + ([f"left over: {' '.join(sorted(over))}"] if over else [])
+
+    def lost(self, store):
+        """Names of which nothing keeps what they had."""
+        kept = [files_of(f"{store}/replaced/{number}") for number in os.listdir(f"{store}/replaced")] if os.path.isdir(f"{store}/replaced") else []
+        return [f"lost: {name}" for name in self.changed if name in self.before and all(it.get(name) != self.before[name] for it in kept)]
+
+    def told(self, store):
+        """What is wrong with the line of the journal."""
+        found = []
+        for line in (thing(f"{store}/restores.jsonl") or b"").splitlines():
+            try:
+                found.append(json.loads(line))
+            except ValueError:
+                continue
+        found = [line for line in found if line["what"] == self.name]
+        if len(found) != 1:
+            return [f"{len(found)} lines in the journal"]
+        wanted = {name: [digest_of(self.before.get(name)), digest_of(self.after.get(name))] for name in self.changed}
+        told = {file["path"]: [file["before"], file["after"]] for file in found[0]["files"]}
+        # Of an old file that can't be read the digest is null.
+        for name, (before, _) in told.items():
+            if before and before["sha256"] is None:
+                told[name][0] = wanted.get(name, [None])[0]
+        return [] if told == wanted else ["a wrong line in the journal"]
+
+
+class IntoNew(Verb):
+    """A verb that makes something new at a path, and does nothing else."""
+
+    def prepare(self, room):
+        shutil.copytree(self.example, f"{room}/store")
+        shutil.copy(f"{self.example}/catalog.toml", f"{room}/catalog.toml")
+        self.run("dump", self.example, f"{room}/table.csv")
+        if self.name == "recover":
+            os.remove(f"{room}/store/p0.s1.seg")
+        self.beside = files_of(f"{room}/store")
+        with_room = f"{room}/made"
+        self.run(*self.words(with_room, room))
+        self.after = thing(f"{with_room}.new")
+        shutil.rmtree(f"{with_room}.new") if isinstance(self.after, dict) else os.remove(f"{with_room}.new")
+
+    def words(self, room, given=None):
+        given, new = given or room, f"{room}.new" if given else f"{room}/new"
+        return {"load": ["load", "--replace-partial", f"{given}/catalog.toml", f"{given}/table.csv", new],
+                "relayout": ["relayout", "--replace-partial", f"{given}/store", f"{given}/catalog.toml", new],
+                "recover": ["recover", "--quiet", f"{given}/store", new, "2"],
+                "dump": ["dump", f"{given}/store", new]}[self.name]
+
+    def has_ended(self, room):
+        mark = f"{room}/new/DONE" if self.name == "recover" else f"{room}/new"
+        return os.path.lexists(mark)
+
+    def go_on(self, room, run):
+        if self.has_ended(room):
+            return []
+        shutil.rmtree(f"{room}/new", ignore_errors=True)
+        return run(*self.words(room))
+
+    def faults(self, room):
+        made = thing(f"{room}/new")
+        if self.name == "recover":
+            # the name of the mark tells all
+            made["DONE"] = self.after["DONE"]
+        wrong = [] if made == self.after else ["not right: what was made"]
+        return wrong + ([] if files_of(f"{room}/store") == self.beside else ["the store has changed"])
+
+
+def verb_of(name, program, example):
+    return (InPlace if name in ("restore", "undo") else IntoNew)(name, program, example)
+
+
+VERBS = ("restore", "undo", "load", "relayout", "recover", "dump")
