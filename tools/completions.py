@@ -32,7 +32,8 @@ def zsh_options(verb):
 
 
 def zsh_function(program, verbs):
-    listed = "".join(f"        '{it.name}:{quoted(it.about)}'\n" for it in verbs)
+    # (the commands of cs_cli say nothing of themselves)
+    listed = "".join(f"        '{it.name}'\n" if it.about == it.name else f"        '{it.name}:{quoted(it.about)}'\n" for it in verbs)
     cases = "".join(f"    {it.name}) _arguments {' '.join([*zsh_options(it), chr(39) + '*:file:_files' + chr(39)])} ;;\n" for it in verbs)
     return f"""_{program}() {{
     local -a verbs=(
