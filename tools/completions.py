@@ -4,7 +4,8 @@
 def bash(program, verbs):
     """A function for bash: the verbs, then a verb's options, then file names."""
     names = " ".join(it.name for it in verbs)
-    cases = "".join(f'    {it.name}) words="{" ".join(option.name for option in it.options)}" ;;\n' for it in verbs if it.options)
+    options = {it.name: " ".join(option.name for option in it.options) for it in verbs}
+    cases = "".join(f'    {name}) words="{words}" ;;\n' for name, words in options.items() if words)
     return f"""# Completions of {program} for bash. Written by tools/write-reference.
 _{program}() {{
     local word=${{COMP_WORDS[COMP_CWORD]}} words=
@@ -20,6 +21,10 @@ complete -o filenames -F _{program} {program}
 """
 
 
+# Any word that is no option may be a file.
+FILES = "'*:file:_files'"
+
+
 def quoted(text):
     """A text for a description of _arguments, in single quotes."""
     return text.replace("'", "'\\''").replace("[", "(").replace("]", ")").replace(":", "\\:")
@@ -33,8 +38,9 @@ def zsh_options(verb):
 
 def zsh_function(program, verbs):
     # (the commands of cs_cli say nothing of themselves)
-    listed = "".join(f"        '{it.name}'\n" if it.about == it.name else f"        '{it.name}:{quoted(it.about)}'\n" for it in verbs)
-    cases = "".join(f"    {it.name}) _arguments {' '.join([*zsh_options(it), chr(39) + '*:file:_files' + chr(39)])} ;;\n" for it in verbs)
+    names = (it.name if it.about == it.name else f"{it.name}:{quoted(it.about)}" for it in verbs)
+    listed = "".join(f"        '{it}'\n" for it in names)
+    cases = "".join(f"    {it.name}) _arguments {' '.join([*zsh_options(it), FILES])} ;;\n" for it in verbs)
     return f"""_{program}() {{
     local -a verbs=(
 {listed}    )
@@ -54,4 +60,5 @@ def zsh_function(program, verbs):
 def zsh(programs):
     """The functions of all programs, for zsh."""
     functions = "\n".join(zsh_function(program, verbs) for program, verbs in programs.items())
-    return f"#compdef {' '.join(programs)}\n# Completions for zsh. Written by tools/write-reference.\n{functions}\n_$service \"$@\"\n"
+    head = f"#compdef {' '.join(programs)}\n# Completions for zsh. Written by tools/write-reference.\n"
+    return f'{head}{functions}\n_$service "$@"\n'
