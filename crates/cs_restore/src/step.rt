@@ -1,5 +1,5 @@
 //! What a restore does with each file.
-ghost use Rattle.std.specs.Prelude.{◌≡◌};
+ghost use Rattle.std.specs.Prelude.{◌≡◌, ◌≢◌};
 
 use cs_schema::FileName;
 
@@ -27,6 +27,7 @@ pub struct Step {
 pub fn what_of(held: &[u8], bytes: &[u8]) -> What
     ensures same { result ≡ What.Same → held.now ≡ bytes.now }
     ensures stays { held.now ≡ bytes.now → result ≡ What.Same }
+    ensures stands { result ≢ What.New }
 {
     if held == bytes {
         What::Same
