@@ -29,6 +29,11 @@ pub struct Taken {
 }
 
 impl Taken {
+    /// This folder, with the names under which an undo moves back what is kept.
+    pub fn with_moves(self, moves: Vec<FileName>) -> Self {
+        Self { moves, ..self }
+    }
+
     /// Writes down what becomes of each name, in the place of the record: whole or not at all.
     pub fn note<R: Files<File = File>>(
         &mut self,

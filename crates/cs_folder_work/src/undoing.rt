@@ -22,11 +22,8 @@ fn last<R: Files + Alloc + Clone + Drop>(
 
 /// A folder that is taken for an undo, with what that puts back.
 fn taken_with(taken: Taken, kept: Kept) -> (Taken, Undoable) {
-    let taken = Taken {
-        moves: kept.moves,
-        ..taken
-    };
-    (taken, kept.undoable)
+    let Kept { undoable, moves } = kept;
+    (taken.with_moves(moves), undoable)
 }
 
 /// Takes the store in this folder to go on with its unfinished undo.
