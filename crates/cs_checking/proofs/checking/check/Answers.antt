@@ -18,6 +18,6 @@ returns-in-Ok-judge-clause-ok g c =
       finds = c.in-Ok.ensures.ok;
       loads = subst (λ (L : List ℕ). LoadsReadable (standing g.P.Store.SharedSource.answers) (standing g.P.Store.SharedSource.fails) (surviving c.in-Ok.found.0 L) c.in-Ok.found.1 c.in-Ok-load_readable_side_by_side.found.files c.in-Ok-load_readable_side_by_side.found.unreadable.items c.in-Ok.found.1) c.none.ensures c.in-Ok-load_readable_side_by_side.ensures.ok;
       judged = subst (λ (U : List FileName). IsJudged c.in-Ok.found.0 (contents_of c.in-Ok-load_readable_side_by_side.found.files) U c.args.request.now.k c.in-Ok-judge.bad.items c.in-Ok-judge.verdict) read c.in-Ok-judge.ensures;
-      is_unreadable = ap not (c.is_empty.ensures ∙ ap (λ (names : List FileName). length names == 0) read);
+      is_unreadable = ap not (c.is_empty-is_unreadable.ensures ∙ ap (λ (names : List FileName). length names == 0) read);
       unfinished = c.in-Ok-unfinished.ensures;
     }
