@@ -1,4 +1,5 @@
 """The calls of a traced program that change files, as a log over the files and folders that stood there before."""
+import copy
 import os
 import re
 import stat
@@ -40,6 +41,14 @@ class Log:
         self.nodes, self.ops, self.seen = [], [], {}
         self.names, self.sizes = {}, {}
         self.scan(self.root)
+
+    def until(self, count, state, root):
+        """The log after so many changes, of a folder at another place in which this state was made."""
+        log = copy.copy(self)
+        log.root, log.nodes, log.ops = os.path.realpath(root), list(self.nodes), self.ops[:count]
+        log.names = {at: dict(names) for at, names in state[0].items()}
+        log.sizes = {at: len(data) for at, data in state[1].items()}
+        return log
 
     def scan(self, path):
         """The node of what stands at a path."""

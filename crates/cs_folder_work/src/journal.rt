@@ -3,7 +3,7 @@ use crate::digests::{Digests, FileDigest};
 use crate::files::{io_error, read_regular, regular_size, sync_folder};
 use crate::record::{Change, change_word};
 use crate::taking::Taken;
-use cs_folders::read_bounded;
+use cs_folders::{FileLimits, read_bounded};
 use cs_reports::object::{Object, sites};
 use cs_schema::FileName;
 use cs_shelf::{JOURNAL, Work};
@@ -47,17 +47,18 @@ fn digest_value(alloc: Global, bytes: u64, digest: Option<FileDigest>) -> io::Re
     Ok(object.text("sha256", sha256.as_str()).finish()?)
 }
 
-/// The file that was kept of a name, if one was. It may have been replaced because it can't be read: then its digest is null.
-fn before_value<R: Files>(
+/// The file that stood under a name before, in the folder that has it. It may have been replaced because it can't be read:
+/// then its digest is null.
+fn old_value<R: Files>(
     alloc: Global,
     rt: &R,
-    kept: &str,
+    folder: &str,
     name: FileName,
-    digests: &Digests,
+    known: Option<FileDigest>,
+    limits: FileLimits,
 ) -> io::Result<Value> {
-    let path = format!(in alloc; "{kept}/{name}")?;
-    let limit = digests.limits.limit_of(name);
-    match file_value(alloc, rt, path.as_str(), digests.before(name), limit) {
+    let path = format!(in alloc; "{folder}/{name}")?;
+    match file_value(alloc, rt, path.as_str(), known, limits.limit_of(name)) {
         Err(e) if e.kind() != ErrorKind::OutOfMemory => file_value(
             alloc,
             rt,
@@ -69,7 +70,7 @@ fn before_value<R: Files>(
     }
 }
 
-/// The file that stands under a name. What was moved there may be one that can't be read.
+/// The file that stands under a name. What was moved back there is an old one.
 fn after_value<R: Files>(
     alloc: Global,
     rt: &R,
@@ -78,12 +79,11 @@ fn after_value<R: Files>(
     taken: &Taken,
     digests: &Digests,
 ) -> io::Result<Value> {
+    if taken.moves.as_slice().contains(&name) {
+        return old_value(alloc, rt, store, name, None, digests.limits);
+    }
     let path = format!(in alloc; "{store}/{name}")?;
-    let limit = if taken.moves.as_slice().contains(&name) {
-        0
-    } else {
-        digests.limits.limit_of(name)
-    };
+    let limit = digests.limits.limit_of(name);
     file_value(alloc, rt, path.as_str(), digests.now(name), limit)
 }
 
@@ -103,7 +103,10 @@ fn change_values<R: Files>(
     for (name, change) in changes {
         let before = match change {
             Change::New => Value::Null,
-            Change::Replaces => before_value(alloc, rt, kept.as_str(), *name, digests)?,
+            Change::Replaces => {
+                let known = digests.before(*name);
+                old_value(alloc, rt, kept.as_str(), *name, known, digests.limits)?
+            }
         };
         let after = after_value(alloc, rt, store, *name, taken, digests)?;
         let path = name.path();
