@@ -1,18 +1,19 @@
-//! The rounds of a recovery, of each of which the pieces are done by the workers together.
+//! The rounds of a recovery. The workers share the pieces of each.
 use std::fmt;
 
-/// A round of work: what its pieces do.
+/// A round of work, and what its pieces are.
 #[derive(Clone, Copy, Debug, PartialEq, Eq)]
 pub enum Round {
-    /// The files of surviving segments are read, a segment a piece.
+    /// Reads the files of surviving segments, one segment a piece.
     Files,
-    /// The rows of the survivors are followed along join indexes to the table's rows, `cut` rows a piece.
+    /// Follows surviving rows along join indexes to the table's rows, `cut` rows a piece.
     Walk,
-    /// Surviving segments are compared with the table, a segment a piece.
+    /// Compares surviving segments with the table, one segment a piece.
     Images,
-    /// Surviving join indexes are compared with the places of the table's rows, a join index a piece.
+    /// Compares surviving join indexes with the places of the table's rows, one join index a piece.
     Joins,
-    /// The columns of one segment are encoded, `cut` cells of a column a piece. Each segment that is written has a round.
+    /// Encodes the columns of one segment, `cut` cells of a column a piece. Each segment that is written has a round of
+    /// its own.
     Columns,
 }
 

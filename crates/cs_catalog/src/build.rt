@@ -1,4 +1,4 @@
-//! A catalog from a document that keeps the rules.
+//! Builds a catalog from a document that keeps the rules.
 ghost use Rattle.std.specs.Prelude.{◌≡◌, ◌≤◌, true, None, length, map, IfOk, IfErr};
 ghost use Rattle.std.specs.List.{list_all};
 ghost use Rattle.cs_catalog.specs.Tree.{texts};
@@ -189,7 +189,7 @@ fn projections_of(alloc: Global, document: &Document) -> Result<Vec<Projection>,
     Ok(projections)
 }
 
-/// The catalog that the document names.
+/// The catalog that a document describes.
 pub fn catalog_of(alloc: Global, document: &Document) -> Result<Catalog, CatalogFault>
     requires { least_broken 3 document_rules document.now ≡ None }
     ensures built { IfOk result (λ c. c ≡ catalog_of document.now) }

@@ -62,7 +62,7 @@ fn text_cuts(alloc: Global, values: &[Value]) -> Result<Texts, CatalogFault>
     Ok(found)
 }
 
-/// The cuts as cells of the kind of the first sort column.
+/// The cuts as cells of the first sort column's kind.
 pub fn cut_cells(alloc: Global, is_int: bool, items: &[Value]) -> Result<Cells, CatalogFault>
     ensures read { IfOk result (λ cells. cuts_of is_int (map cut_of (map view items.now)) ≡ Some (values cells)) }
     ensures refused { IfErr result (IsRefusedUnlessMemory 11 (cuts_of is_int (map cut_of (map view items.now)))) }

@@ -1,4 +1,4 @@
-//! A catalog's TOML with every key read at its type.
+//! A catalog's TOML, with each key read at its type.
 ghost use Rattle.std.specs.Prelude.{◌≡◌, codes, Some, None, IfOk, IfErr, OnOk, map, option_and_then, [], ◌∷◌, ◌++◌};
 ghost use Rattle.toml.specs.Data.{as_str, as_integer, as_table};
 ghost use Rattle.toml.specs.View.{view, table_view};
@@ -12,7 +12,7 @@ use std::alloc::Global;
 use std::marker::Model;
 use toml::{Table, Value};
 
-/// A column as the text names it.
+/// A column as the TOML describes it.
 #[derive(Drop)]
 pub struct ColumnEntry<'a> {
     pub name: &'a str,
@@ -27,7 +27,7 @@ impl<'a> Model for ColumnEntry<'a> {
     ghost view = { λ c. record { name = c.name.now; kind = c.kind.now } };
 }
 
-/// A projection as the text names it. The items of `cuts` may have any type.
+/// A projection as the TOML describes it. The items of `cuts` may have any type.
 #[derive(Drop)]
 pub struct ProjectionEntry<'a> {
     pub name: &'a str,
@@ -58,7 +58,7 @@ impl<'a> Model for ProjectionEntry<'a> {
     } };
 }
 
-/// A catalog's TOML with every key read at its type.
+/// A catalog's TOML, with each key read at its type.
 #[derive(Drop)]
 pub struct Document<'a> {
     pub table: &'a str,
@@ -84,7 +84,7 @@ impl<'a> Model for Document<'a> {
     } };
 }
 
-/// Appends an item, or wants memory.
+/// Appends an item; fails if memory is refused.
 pub fn push<T: Drop>(list: &mut Vec<T>, item: T) -> Result<(), CatalogFault>
     ensures ok { OnOk result (list.new.items ≡ list.old.items ++ item ∷ []) }
     ensures memory { IfErr result (λ e. e ≡ CatalogFault.Memory) }
@@ -134,7 +134,7 @@ fn array_at<'a>(table: &'a Table, key: &str) -> Result<&'a [Value], CatalogFault
     }
 }
 
-/// Every value as a text.
+/// Each value as a text.
 fn texts(alloc: Global, values: &[Value]) -> Result<Vec<&str>, CatalogFault>
     ensures read { IfOk result (λ v. read_all as_str (map view values.now) ≡ Some (texts v.items)) }
     ensures unread { IfErr result (IsRefusedUnlessMemory 2 (read_all as_str (map view values.now))) }
@@ -149,7 +149,7 @@ fn texts(alloc: Global, values: &[Value]) -> Result<Vec<&str>, CatalogFault>
     Ok(found)
 }
 
-/// Every value as an integer.
+/// Each value as an integer.
 pub fn integers(alloc: Global, values: &[Value]) -> Result<Vec<i64>, CatalogFault>
     ensures read { IfOk result (λ v. read_all as_integer (map view values.now) ≡ Some v.items) }
     ensures unread { IfErr result (IsRefusedUnlessMemory 2 (read_all as_integer (map view values.now))) }
@@ -271,7 +271,7 @@ fn projections_at(alloc: Global, table: &Table) -> Result<Vec<ProjectionEntry<'_
     projections(alloc, array_at(table, "projection")?)
 }
 
-/// Reads every key at its type.
+/// Reads each key at its type.
 pub fn read_document(alloc: Global, table: &Table) -> Result<Document<'_>, CatalogFault>
     ensures read { IfOk result (λ d. document_of (table_view table.now) ≡ Some d) }
     ensures unread { IfErr result (IsRefusedUnlessMemory 2 (document_of (table_view table.now))) }

@@ -1,4 +1,4 @@
-//! What of a document breaks a rule.
+//! Which part of a document breaks a rule.
 use crate::document::{Document, is_from_to, read_document};
 use crate::names::{column_names, is_name, projection_names};
 use crate::problem::{NONE, Part, Problem};
@@ -7,11 +7,11 @@ use crate::rules::{is_kind, is_stored};
 use std::alloc::{AllocError, Global};
 use toml::Table;
 
-/// A name that breaks the rule on names: a word for what has it, and which one it is.
+/// A name that breaks the rule on names: what kind of item has it, and which one.
 const NAME: &str =
     "{}{}: a name has 1 to 32 bytes, the first a to z, the others a to z, 0 to 9 or _";
 
-/// A name that is none, or that stands twice, found by a sort: the names, each of a `list`, may be of any number.
+/// The first invalid or repeated name of a `list`. Repeats are found by sorting, since there may be many names.
 fn names_problem<'a>(list: &'static str, names: Vec<&'a str>) -> Option<Problem<'a>> {
     let mut names = names;
     for (at, name) in names.iter().enumerate() {
@@ -108,7 +108,7 @@ fn document_problem<'a>(
     }
 }
 
-/// How a tree's document breaks a rule from 3 on.
+/// In words, how a document breaks one of the rules from 3 on.
 pub fn rule_words(alloc: Global, rule: u8, table: &Table) -> Result<String, AllocError> {
     let Ok(document) = read_document(alloc, table) else {
         return Err(AllocError);

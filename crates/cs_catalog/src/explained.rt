@@ -1,4 +1,4 @@
-//! Which rule a catalog's text breaks, and in words how.
+//! Which rule a catalog's text breaks, and how.
 ghost use Rattle.std.specs.Prelude.{◌≡◌, ℕ, Some, IfOk, IfSome, IfNone, option_map};
 ghost use Rattle.toml.specs.View.{table_view};
 ghost use Rattle.cs_catalog.specs.Reading.{least_broken_rule, BreaksRule};
@@ -10,12 +10,12 @@ use crate::read::table_catalog;
 use std::alloc::{AllocError, Global};
 use toml::Table;
 
-/// The least rule that a catalog's text breaks, and in words how.
+/// The first rule that a catalog's text breaks, with a description.
 #[derive(Drop)]
 pub struct Explanation {
     /// The number of the rule, as `read_catalog` gives it.
     pub rule: u8,
-    /// What breaks it and what is wanted; columns, projections and items without a name are numbered from 0.
+    /// What breaks it and what is expected. Columns, projections and unnamed items are numbered from 0.
     pub words: String,
 }
 
@@ -41,8 +41,8 @@ fn explain_table(alloc: Global, table: &Table) -> Result<Option<Explanation>, Al
     }
 }
 
-/// Explains a catalog's text that breaks a rule: the rule that `read_catalog` refuses it by, and in words what breaks it.
-/// None where it breaks no rule, since it is a catalog or no TOML.
+/// Explains why a catalog's text is refused: the rule that `read_catalog` answers, and a description. `None` if the
+/// text breaks no rule, that is, if it is a catalog or not TOML.
 pub fn explain(alloc: Global, bytes: &[u8]) -> Result<Option<Explanation>, AllocError>
     ensures broken { IfOk result (λ found. IfSome found (λ e. BreaksRule bytes.now e.rule)) }
     ensures none { IfOk result (λ found. IfNone found ((n : ℕ) → ¬ BreaksRule bytes.now n)) }

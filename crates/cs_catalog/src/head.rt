@@ -1,4 +1,4 @@
-//! What a catalog's TOML says beside its columns and projections.
+//! The keys of a catalog's TOML other than columns and projections.
 ghost use Rattle.std.specs.Prelude.{◌≡◌, codes, Some, IfOk, IfErr};
 ghost use Rattle.toml.specs.View.{table_view};
 ghost use Rattle.cs_catalog.specs.Tree.{safety_at, text_at, integer_at, document_of};
@@ -8,7 +8,7 @@ use crate::CatalogFault;
 use crate::document::{integer_at, is_version, text_at};
 use toml::Table;
 
-/// What a document says beside its columns and projections.
+/// The keys of a document other than columns and projections.
 #[derive(Clone, Copy)]
 pub struct Head<'a> {
     pub table: &'a str,
@@ -28,7 +28,7 @@ fn safety_at(table: &Table) -> Result<&str, CatalogFault>
     }
 }
 
-/// Reads what stands beside the columns and projections.
+/// Reads the keys other than columns and projections.
 pub fn head_of(table: &Table) -> Result<Head<'_>, CatalogFault>
     ensures table { IfOk result (λ h. text_at (codes "table") (table_view table.now) ≡ Some h.table.now) }
     ensures key { IfOk result (λ h. text_at (codes "key") (table_view table.now) ≡ Some h.key.now) }

@@ -1,10 +1,10 @@
-//! Which key of a catalog is missing or of another type.
+//! Which key of a catalog is missing or has the wrong type.
 use crate::document::is_version;
 use crate::problem::{NONE, Part, Problem};
 use std::alloc::{AllocError, Global};
 use toml::{Table, Value};
 
-/// What the value of a key has to be.
+/// The type that a key's value must have.
 #[derive(Clone, Copy)]
 enum Wanted {
     Text,
@@ -69,7 +69,7 @@ fn other_type(wanted: Wanted) -> &'static str {
     }
 }
 
-/// What is wrong with the value of a key, if anything is.
+/// What is wrong with a key's value, if anything.
 fn of_value(table: &Table, key: &str, wanted: Wanted) -> Option<&'static str> {
     match table.get(key) {
         None => Some("is missing"),
@@ -122,7 +122,7 @@ fn of_items(
     None
 }
 
-/// What is wrong with a key at the top or with the tables of its array, if anything is.
+/// What is wrong with a top-level key, or with its array of tables, if anything.
 fn of_key(table: &Table, key: &'static str, wanted: Wanted) -> Option<Problem<'static>> {
     if key != "safety" || is_version(2, table) {
         if let Some(what) = of_value(table, key, wanted) {
@@ -137,7 +137,7 @@ fn of_key(table: &Table, key: &'static str, wanted: Wanted) -> Option<Problem<'s
     }
 }
 
-/// The first key that is missing or has another type, with those of the tables of each array.
+/// The first key that is missing or has the wrong type, in the tables of each array too.
 fn first_problem(table: &Table) -> Option<Problem<'static>> {
     for (key, wanted) in AT_TOP.iter() {
         let problem = of_key(table, key, *wanted);
@@ -162,13 +162,13 @@ fn version_problem(table: &Table) -> Problem<'static> {
     }
 }
 
-/// Which version a catalog lacks.
+/// In words, which version a catalog lacks.
 pub fn version_words(alloc: Global, table: &Table) -> Result<String, AllocError> {
     let problem = version_problem(table);
     format!(in alloc; "{problem}")
 }
 
-/// The first key that is missing or has another type.
+/// In words, the first key that is missing or has the wrong type.
 pub fn key_words(alloc: Global, table: &Table) -> Result<String, AllocError> {
     match first_problem(table) {
         Some(problem) => format!(in alloc; "{problem}"),

@@ -1,7 +1,7 @@
 //! The catalog of a store, read from its text.
 //!
-//! Promises that a catalog is read exactly: what the text says where it keeps every rule, else the least
-//! rule that it breaks. `explain` answers the same rule, and in words what breaks it.
+//! A catalog is read exactly: the reader answers what the text says if it keeps every rule, and otherwise the first
+//! rule that it breaks. `explain` answers the same rule with a description.
 #![tactic(auto)]
 
 mod build;

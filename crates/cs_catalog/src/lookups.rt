@@ -1,18 +1,18 @@
-//! Names, looked up in a document.
+//! Looking up names in a document.
 ghost use Rattle.std.specs.Prelude.{◌≡◌};
 ghost use Rattle.cs_catalog.specs.Tree.{texts};
 ghost use Rattle.cs_schema.specs.Rules.{is_among, are_distinct, is_column, is_int_column, is_projection, leading};
 
 use crate::document::{ColumnEntry, ProjectionEntry};
 
-/// Whether a name stands among names.
+/// Whether a name is one of these names.
 pub fn is_among(name: &str, names: &[&str]) -> bool
     ensures { result ≡ is_among name.now (texts names.now) }
 {
     names.contains(&name)
 }
 
-/// Whether no name stands twice, for lists of a few names.
+/// Whether no name occurs twice, for short lists.
 pub fn are_distinct(names: &[&str]) -> bool
     ensures { result ≡ are_distinct (texts names.now) }
 {
@@ -24,7 +24,7 @@ pub fn are_distinct(names: &[&str]) -> bool
     true
 }
 
-/// Whether a column has this name.
+/// Whether some column has this name.
 pub fn is_column(columns: &[ColumnEntry], name: &str) -> bool
     ensures { result ≡ is_column columns.now name.now }
 {
@@ -36,7 +36,7 @@ pub fn is_column(columns: &[ColumnEntry], name: &str) -> bool
     false
 }
 
-/// Whether a column of ints has this name.
+/// Whether some column of ints has this name.
 pub fn is_int_column(columns: &[ColumnEntry], name: &str) -> bool
     ensures { result ≡ is_int_column columns.now name.now }
 {
@@ -45,7 +45,7 @@ pub fn is_int_column(columns: &[ColumnEntry], name: &str) -> bool
         .any(|column| column.name == name && column.kind == "int")
 }
 
-/// Whether a projection has this name.
+/// Whether some projection has this name.
 pub fn is_projection(projections: &[ProjectionEntry], name: &str) -> bool
     ensures { result ≡ is_projection projections.now name.now }
 {
@@ -57,7 +57,7 @@ pub fn is_projection(projections: &[ProjectionEntry], name: &str) -> bool
     false
 }
 
-/// The first sort column, or the empty text where there is none.
+/// The first sort column, or the empty text if there is none.
 pub fn leading<'a>(projection: &ProjectionEntry<'a>) -> &'a str
     ensures { result.now ≡ leading projection.now }
 {

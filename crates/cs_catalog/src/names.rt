@@ -35,7 +35,7 @@ pub fn is_name(name: &str) -> bool
     }
 }
 
-/// Whether no text stands twice, for lists of any length: a sort brings equal texts together.
+/// Whether no text occurs twice, for lists of any length: sorting brings equal texts together.
 fn are_distinct_sorted(names: Vec<&str>) -> bool
     ensures { result ≡ are_distinct (texts names.entry.items) }
 {

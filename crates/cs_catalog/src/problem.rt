@@ -1,7 +1,7 @@
-//! What breaks a rule of a catalog, in words.
+//! Descriptions of what breaks a rule of a catalog.
 use std::fmt;
 
-/// What a text names.
+/// A value that a description mentions.
 #[derive(Clone, Copy)]
 pub enum Part<'a> {
     Text(&'a str),
@@ -19,16 +19,16 @@ impl fmt::Display for Part<'_> {
     }
 }
 
-/// What breaks a rule. Its `Display` is a text in which the parts stand for each `{}` in turn.
+/// A description of what breaks a rule. Its `Display` replaces each `{}` of the text by the next part.
 #[derive(Clone, Copy)]
 pub struct Problem<'a> {
-    /// The projection that breaks the rule, if it is one.
+    /// The projection that breaks the rule, if any.
     projection: Option<&'a str>,
     text: &'static str,
     parts: [Part<'a>; 4],
 }
 
-/// In place of a part that a text does not name.
+/// Stands for a part that a text does not use.
 pub const NONE: Part<'static> = Part::Text("");
 
 impl<'a> Problem<'a> {
@@ -40,17 +40,17 @@ impl<'a> Problem<'a> {
         }
     }
 
-    /// A text that names nothing.
+    /// A description without parts.
     pub fn said(text: &'static str) -> Problem<'a> {
         Problem::new(text, [NONE, NONE, NONE, NONE])
     }
 
-    /// A text that names one thing.
+    /// A description with one part.
     pub fn of(text: &'static str, part: Part<'a>) -> Problem<'a> {
         Problem::new(text, [part, NONE, NONE, NONE])
     }
 
-    /// The problem, said of the projection with this name.
+    /// The same description, prefixed by the name of a projection.
     pub fn in_projection(mut self, name: &'a str) -> Problem<'a> {
         self.projection = Some(name);
         self

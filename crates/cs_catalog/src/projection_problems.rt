@@ -1,4 +1,4 @@
-//! What of a projection breaks a rule.
+//! Which part of a projection breaks a rule.
 use crate::cuts::{has_cuts, integer_cut, text_cut};
 use crate::document::{ColumnEntry, Document, ProjectionEntry, is_from_to};
 use crate::lookups::{is_among, is_column, is_int_column, is_projection, leading};
@@ -7,8 +7,8 @@ use crate::rules::may_have_code;
 use std::alloc::{AllocError, Global};
 use toml::Value;
 
-/// The first name that stands before already, which the text names. The names are some of a few, so this ends early in
-/// a list of any length.
+/// The first name that occurs earlier in the list. The names are among a few, so this ends early in a list of any
+/// length.
 fn repeated<'a>(text: &'static str, names: &[&'a str]) -> Option<Problem<'a>> {
     for (at, name) in names.iter().enumerate() {
         if is_among(name, &names[..at]) {
@@ -18,7 +18,7 @@ fn repeated<'a>(text: &'static str, names: &[&'a str]) -> Option<Problem<'a>> {
     None
 }
 
-/// The first number of a list that is out of its range: the text names its place, the number and the greatest wanted.
+/// The first number that is out of range: the text mentions its index, the number and the maximum.
 fn out_of_range(text: &'static str, numbers: &[i64], most: u8) -> Option<Problem<'static>> {
     for (at, number) in numbers.iter().enumerate() {
         if !is_from_to(1, most, *number) {
@@ -30,7 +30,7 @@ fn out_of_range(text: &'static str, numbers: &[i64], most: u8) -> Option<Problem
     None
 }
 
-/// A list of another length than is wanted: the text names both.
+/// A list of the wrong length: the text mentions both lengths.
 fn lengths(text: &'static str, found: usize, wanted: usize) -> Problem<'static> {
     Problem::new(text, [Part::Count(found), Part::Count(wanted), NONE, NONE])
 }
@@ -93,7 +93,7 @@ fn differences_problem(
     None
 }
 
-/// The first item that is no cut, or that they do not ascend.
+/// The first item that is not a cut, or the fact that the cuts do not ascend.
 fn item_of_cuts(of_ints: bool, cuts: &[Value]) -> Problem<'static> {
     for (at, cut) in cuts.iter().enumerate() {
         if of_ints && integer_cut(cut).is_none() {
@@ -150,7 +150,7 @@ fn joins_problem<'a>(
     repeated("joins has {} twice", &projection.joins)
 }
 
-/// What of a projection breaks a rule from 7 to 13, if anything does. The document keeps the rules before it.
+/// Which part of a projection breaks one of the rules 7 to 13, if any. The document keeps the rules before them.
 pub fn projection_problem<'a>(
     alloc: Global,
     rule: u8,

@@ -17,7 +17,7 @@ fn has_version(table: &Table) -> bool
     is_version(1, table) || is_version(2, table)
 }
 
-/// The catalog that a tree says.
+/// The catalog that a TOML tree describes.
 pub fn table_catalog(alloc: Global, table: &Table) -> Result<Catalog, CatalogFault>
     ensures read { IfOk result (IsCatalogOfTree (table_view table.now)) }
     ensures refused { IfErr result (IsRefusalOfTree (table_view table.now)) }

@@ -1,4 +1,4 @@
-//! The rules of a catalog, each asked of the whole document.
+//! The rules of a catalog, each checked on the whole document.
 ghost use Rattle.std.specs.Prelude.{◌≡◌, ℕ, ◌+◌, ◌-◌, ◌<◌, ◌≤◌, ◌==◌, nat_le, length, map, IfOk, IfErr, codes};
 ghost use Rattle.std.specs.List.{list_all, list_any};
 ghost use Rattle.cs_schema.specs.Document.{is_from_to};
@@ -250,7 +250,7 @@ fn safety_holds(document: &Document) -> bool
     document.safety == "whole" || document.safety == "rows"
 }
 
-/// The least rule from 3 on that the document breaks.
+/// The first rule from 3 on that the document breaks.
 pub fn broken_rule(alloc: Global, document: &Document) -> Result<Option<u8>, CatalogFault>
     ensures least { IfOk result (λ rule. rule ≡ least_broken 3 document_rules document.now) }
     ensures memory { IfErr result (λ e. e ≡ CatalogFault.Memory) }

@@ -1,4 +1,4 @@
-//! The positions of one value, by the lengths of their runs.
+//! The positions of one value, as run lengths.
 ghost use Rattle.std.specs.Prelude.{◌≡◌, ◌≤◌, ◌<◌, ◌+◌, ◌-◌, ◌++◌, [], ◌∷◌, IfOk, OnOk, OnErr, length};
 ghost use Rattle.cs_codec.specs.Bitmaps.{glued, total, with_run, entry_text};
 
@@ -7,7 +7,7 @@ use crate::numbers::write_number;
 use std::alloc::{AllocError, Global};
 use std::marker::Model;
 
-/// The lengths of a bitmap's maximal runs up to its last one, zeros first. A contract sees the lengths.
+/// The lengths of a bitmap's maximal runs, zeros first, up to the last run of ones. Contracts see the lengths.
 #[derive(Drop)]
 pub struct Bitmap {
     pub(crate) lengths: Vec<u32>,
@@ -26,7 +26,7 @@ impl Model for Bitmap {
     ghost invariant = { λ bitmap. IsBitmap bitmap.lengths.items bitmap.end };
 }
 
-/// Adds so many zeros and so many ones after them to the lengths of a bitmap.
+/// Appends a run of zeros and then a run of ones to the lengths of a bitmap.
 fn push_run(lengths: &mut Vec<u32>, zeros: u32, ones: u32) -> Result<(), AllocError>
     requires { total lengths.old.items + ones ≤ 1048576 }
     ensures ok { OnOk result (lengths.new.items ≡ with_run lengths.old.items zeros ones) }
@@ -46,7 +46,7 @@ fn push_run(lengths: &mut Vec<u32>, zeros: u32, ones: u32) -> Result<(), AllocEr
 }
 
 impl Bitmap {
-    /// The bitmap without ones.
+    /// A bitmap without ones.
     pub(crate) fn new(alloc: Global) -> Bitmap
         ensures { result ≡ [] }
     {
@@ -56,7 +56,7 @@ impl Bitmap {
         }
     }
 
-    /// Adds a one at a position behind all of them.
+    /// Adds a one at a position after all others.
     pub(crate) fn add(&mut self, position: u32) -> Result<(), AllocError>
         requires below { total self.old ≤ position }
         requires short { position < 1048576 }
@@ -69,8 +69,8 @@ impl Bitmap {
         Ok(())
     }
 
-    /// Adds, to this bitmap of the first `offset` positions, the one of the next positions, whose last one is before
-    /// `end`.
+    /// Appends the bitmap of the next positions to this bitmap of the first `offset` positions. The last of them is
+    /// before `end`.
     pub(crate) fn follow(&mut self, offset: u32, other: &[u32], end: u32) -> Result<(), AllocError>
         requires below { total self.old ≤ offset }
         requires some { 2 ≤ length other.now }

@@ -1,4 +1,4 @@
-//! The column that bytes may be the bitmaps of.
+//! Reading a column from the text of its bitmaps.
 ghost use Rattle.std.specs.Prelude.{◌≡◌, ◌≤◌, ◌<◌, false, replicate, IsTrue, IfOk, IfSome, IfNone, length};
 ghost use Rattle.cs_codec.specs.Bitmaps.{bits_from, total, ones_of};
 ghost use Rattle.cs_codec.specs.Painting.{PaintsRun, Painted};
@@ -11,7 +11,7 @@ use crate::numbered::NumberedColumn;
 use crate::numbers::read_number;
 use std::alloc::{AllocError, Global};
 
-/// So many numbers that stand at `at`, and their end.
+/// The `count` numbers at offset `at`, and the offset of their end.
 fn read_numbers(
     numbers: &mut Vec<u32>,
     bytes: &[u8],
@@ -33,7 +33,7 @@ fn read_numbers(
     Ok(Some(end))
 }
 
-/// Gives the rows from `start` up to `stop` the number.
+/// Assigns the number to the rows `start..stop`.
 fn paint_run(numbers: &mut Vec<u32>, number: u32, start: usize, stop: usize)
     requires order { start ≤ stop }
     requires within { stop ≤ length numbers.old.items }
@@ -44,7 +44,7 @@ fn paint_run(numbers: &mut Vec<u32>, number: u32, start: usize, stop: usize)
     }
 }
 
-/// Gives the rows that the lengths of a bitmap name the number; not where they go past the last one.
+/// Assigns the number to the rows that the lengths of a bitmap mark. Fails if they go past the last row.
 fn paint(numbers: &mut Vec<u32>, number: u32, lengths: &[u32]) -> bool
     ensures painted { IsTrue result → Painted number (bits_from false lengths.now) numbers.old.items numbers.new.items }
     ensures too_long { result ≡ false → length numbers.old.items < total lengths.now }
@@ -66,7 +66,7 @@ fn paint(numbers: &mut Vec<u32>, number: u32, lengths: &[u32]) -> bool
     true
 }
 
-/// How many ones the lengths count, if these are at most `limit`.
+/// The number of ones that the lengths count, if it is at most `limit`.
 fn count_ones(lengths: &[u32], limit: u32) -> Option<u32>
     ensures found { IfSome result (λ n. n ≡ ones_of false lengths.now) }
     ensures within { IfSome result (λ n. n ≤ limit) }
@@ -86,7 +86,7 @@ fn count_ones(lengths: &[u32], limit: u32) -> Option<u32>
     Some(count)
 }
 
-/// The end of an entry whose value ends at `at`. `lengths` becomes the lengths of its bitmap.
+/// The end of an entry whose value ends at offset `at`. `lengths` becomes the lengths of its bitmap.
 fn read_lengths(
     lengths: &mut Vec<u32>,
     bytes: &[u8],
@@ -100,7 +100,7 @@ fn read_lengths(
     read_numbers(lengths, bytes, at + 4, count)
 }
 
-/// The value of the entry that stands at `at`, and the entry's end. `lengths` becomes the lengths of its bitmap.
+/// The value of the entry at offset `at`, and the entry's end. `lengths` becomes the lengths of its bitmap.
 fn read_entry<C: Cell>(
     lengths: &mut Vec<u32>,
     bytes: &[u8],
@@ -117,7 +117,7 @@ fn read_entry<C: Cell>(
     Ok(Some((value, stop)))
 }
 
-/// The end of the entry that stands at `at`, whose value becomes the last one of the values. `lengths` becomes the
+/// Appends the value of the entry at offset `at` to the values, and answers the entry's end. `lengths` becomes the
 /// lengths of its bitmap.
 fn add_entry<C: Cell, L: Column<C>>(
     values: &mut L,
@@ -134,7 +134,7 @@ fn add_entry<C: Cell, L: Column<C>>(
     read_lengths(lengths, bytes, end)
 }
 
-/// Whether the entries name as many positions as there are rows, before anything is reserved for these.
+/// Whether the entries mark as many positions as there are rows. Checked before anything is reserved for the rows.
 pub(crate) fn names_all_rows<C: Cell>(
     alloc: Global,
     bytes: &[u8],
@@ -159,8 +159,8 @@ pub(crate) fn names_all_rows<C: Cell>(
     Ok(named == rows)
 }
 
-/// The one column whose text the bytes may be, where the entries name as many positions as there are rows. The values
-/// come in their order, and not in that of the rows: each row has the number of its value.
+/// The only column that the bytes can be the text of, if the entries mark as many positions as there are rows. Values
+/// are numbered in the order of the entries, and each row has the number of its value.
 pub(crate) fn candidate<C: Cell, L: Column<C>>(
     alloc: Global,
     bytes: &[u8],
@@ -194,7 +194,7 @@ pub(crate) fn candidate<C: Cell, L: Column<C>>(
     Ok(Some(NumberedColumn { values, numbers }))
 }
 
-/// So many zeros.
+/// `rows` zeros.
 fn zeros(alloc: Global, rows: u32) -> Result<Vec<u32>, AllocError>
     ensures { IfOk result (λ numbers. numbers.items ≡ replicate rows 0) }
 {

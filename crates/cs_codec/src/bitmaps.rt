@@ -1,4 +1,4 @@
-//! Columns as the positions of each value.
+//! The bitmap encoding: the positions of each value.
 ghost use Rattle.std.specs.Prelude.{◌≡◌, ◌≤◌, ◌<◌, ◌+◌, ◌-◌, ◌++◌, List, [], ◌∷◌, IfOk, OnOk, length, take, drop, flat_map};
 ghost use Rattle.cs_codec.specs.Encodings.{IsShort};
 ghost use Rattle.cs_codec.specs.Texts.{bitmaps_text};
@@ -20,23 +20,23 @@ use cs_schema::Code;
 use std::alloc::{AllocError, Global};
 use std::collections::BTreeMap;
 
-/// What stands for some cells of a column, and how many they are.
+/// The encoded form of some cells of a column, and their number.
 #[derive(Drop)]
 pub struct BitmapsPart<C: Cell> {
     kept: Kept<C>,
     count: u32,
 }
 
-/// What a part keeps of its cells.
+/// How a part stores its cells.
 #[derive(Drop)]
 enum Kept<C: Cell> {
-    /// The cells, while they are few.
+    /// The cells themselves, while they are few.
     Cells(FewCells<C>),
-    /// The bitmap of each value, by ascending value.
+    /// A bitmap for each value, by ascending value.
     Bitmaps(BTreeMap<C, Bitmap>),
 }
 
-/// Adds a one to the bitmap of a value, at a position behind all of them.
+/// Adds a one to the bitmap of a value, at a position after all others.
 fn add_one<C: Cell>(
     alloc: Global,
     bitmaps: &mut BTreeMap<C, Bitmap>,
@@ -59,7 +59,7 @@ fn add_one<C: Cell>(
     Ok(())
 }
 
-/// Adds the bitmap of a value in the cells that come after the first `offset` ones.
+/// Adds the bitmap of a value among the cells that follow the first `offset` ones.
 fn add_bitmap<C: Cell>(
     bitmaps: &mut BTreeMap<C, Bitmap>,
     value: C,
@@ -81,7 +81,7 @@ fn add_bitmap<C: Cell>(
     Ok(())
 }
 
-/// Adds the cells of a column from one place up to another, which come after the first `before` ones.
+/// Adds the cells `from..to` of a column, which follow the first `before` cells.
 fn add_cells<C: Cell, L: Column<C>>(
     alloc: Global,
     bitmaps: &mut BTreeMap<C, Bitmap>,
@@ -104,7 +104,7 @@ fn add_cells<C: Cell, L: Column<C>>(
     Ok(())
 }
 
-/// Adds the bitmaps of the cells that come after the first `before` ones.
+/// Adds the bitmaps of the cells that follow the first `before` cells.
 fn add_bitmaps<C: Cell>(
     bitmaps: &mut BTreeMap<C, Bitmap>,
     before: u32,
@@ -121,7 +121,7 @@ fn add_bitmaps<C: Cell>(
     Ok(())
 }
 
-/// The bitmaps of the cells of a column from one place up to another.
+/// The bitmaps of the cells `from..to` of a column.
 fn bitmaps_of<C: Cell, L: Column<C>>(
     alloc: Global,
     column: &L,
@@ -150,7 +150,7 @@ fn bitmaps_of_all<C: Cell, L: Column<C>>(
     bitmaps_of(alloc, column, 0, column.len())
 }
 
-/// What a part keeps of the cells of a column from one place up to another.
+/// How a part stores the cells `from..to` of a column.
 fn keep<C: Cell, L: Column<C>>(
     alloc: Global,
     column: &L,
@@ -168,7 +168,7 @@ fn keep<C: Cell, L: Column<C>>(
     Ok(Kept::Bitmaps(bitmaps_of(alloc, column, from, to)?))
 }
 
-/// The bitmaps of what a part keeps.
+/// The bitmaps of the stored cells.
 fn into_bitmaps<C: Cell>(kept: Kept<C>) -> Result<BTreeMap<C, Bitmap>, AllocError>
     ensures { IfOk result (λ bitmaps. (cells : List C) → Keeps C.eq C.cmp kept cells
         → AreBitmaps C.eq C.cmp bitmaps cells) }
@@ -179,7 +179,7 @@ fn into_bitmaps<C: Cell>(kept: Kept<C>) -> Result<BTreeMap<C, Bitmap>, AllocErro
     }
 }
 
-/// Adds what another part keeps of the cells that come after the first `before` ones.
+/// Adds the stored cells of another part, which follow the first `before` cells.
 fn add_kept<C: Cell>(
     bitmaps: &mut BTreeMap<C, Bitmap>,
     before: u32,
@@ -198,7 +198,7 @@ fn add_kept<C: Cell>(
     }
 }
 
-/// The values and their bitmaps, one after the other.
+/// The text: each value followed by its bitmap.
 fn text_of<C: Cell>(alloc: Global, bitmaps: &BTreeMap<C, Bitmap>) -> Result<Vec<u8>, AllocError>
     ensures { IfOk result (λ out. out.items ≡ flat_map (entry_text C.bytes) bitmaps.now.entries) }
 {
@@ -209,7 +209,7 @@ fn text_of<C: Cell>(alloc: Global, bitmaps: &BTreeMap<C, Bitmap>) -> Result<Vec<
     Ok(out)
 }
 
-/// The text of the bitmaps of the cells of a column.
+/// The text of a column's bitmaps.
 fn text_of_all<C: Cell, L: Column<C>>(alloc: Global, column: &L) -> Result<Vec<u8>, AllocError>
     requires { IsShort (L.cells column.now) }
     ensures { IfOk result (λ out. out.items ≡ bitmaps_text C.bytes C.eq C.cmp (L.cells column.now)) }
@@ -218,7 +218,8 @@ fn text_of_all<C: Cell, L: Column<C>>(alloc: Global, column: &L) -> Result<Vec<u
     text_of(alloc, &bitmaps)
 }
 
-/// Columns as bitmaps: of each distinct value, ascending, the lengths of the runs of positions without and with it.
+/// The bitmap encoding: for each distinct value, ascending, the lengths of the runs of positions without it and with it
+/// (C-Store's type 2).
 pub struct Bitmaps;
 
 impl<C: Cell, L: Column<C>> ColumnEncoding<C, L> for Bitmaps {

@@ -1,4 +1,4 @@
-//! Cells as bytes: an integer in eight, in two's complement, the highest first; a text as its length and its bytes.
+//! Cells as bytes: an int in eight, two's complement, big-endian; a text as one byte of length and its bytes.
 ghost use Rattle.std.specs.Prelude.{◌≡◌, ℕ, ◌+◌, ◌≤◌, List, ◌++◌, OnOk, OnErr, IfSome, IfNone, true, length, ◌<◌, []};
 ghost use Rattle.std.specs.Int.{w64, to_be_bytes, cast_signed};
 ghost use Rattle.cs_schema.specs.declared.cells.Value.{Value};
@@ -11,26 +11,26 @@ use cs_schema::Word;
 use std::alloc::AllocError;
 use std::str;
 
-/// What a column holds: values with an order, each with bytes of its own.
+/// A cell of a column: values with an order, each with its bytes.
 pub trait Cell: Ord + Drop {
-    /// The bytes that stand for it.
+    /// The bytes of a cell.
     ghost bytes: { Self → List ℕ };
 
-    /// Holds of the values of the type.
+    /// Holds of each value of the type.
     ghost is_cell: { Self → Type 0 };
 
     /// The cell as a value of a column.
     ghost value: { Self → Value };
 
-    /// The cell that a number stands for, where the cells are such numbers.
+    /// The cell with this number, if the cells are numbers.
     ghost of_bits: { ℕ → Self };
 
-    /// Appends the cell's bytes. A refusal changes nothing.
+    /// Appends the cell's bytes. If memory is refused, nothing changes.
     fn write(&self, out: &mut Vec<u8>) -> Result<(), AllocError>
         ensures ok { OnOk result (out.new.items ≡ out.old.items ++ bytes self.now) }
         ensures err { OnErr result (out.new.items ≡ out.old.items) };
 
-    /// The cell that stands at `at`, and its end.
+    /// The cell at offset `at`, and its end.
     fn read(text: &[u8], at: usize) -> Option<(Self, usize)>
         ensures found { IfSome result (λ found. StandsAt bytes is_cell text.now at found.0 found.1) }
         ensures none { IfNone result (NoneStandsAt bytes is_cell text.now at) };
@@ -39,30 +39,30 @@ pub trait Cell: Ord + Drop {
     fn copy(&self) -> Self
         ensures { result ≡ self.now };
 
-    /// The number in the cell's bytes, where the cells are numbers of eight bytes: a part of one such cell keeps it, and
-    /// takes no memory.
+    /// The number in the cell's bytes, if the cells are numbers of eight bytes. A part of one such cell stores the
+    /// number and does not allocate.
     fn as_bits(&self) -> Option<u64>
         ensures cell { IfSome result (λ n. of_bits n ≡ self.now) }
         ensures bytes { IfSome result (λ n. bytes self.now ≡ to_be_bytes w64 n) };
 
-    /// The cell that the number stands for.
+    /// The cell with this number.
     fn from_bits(bits: u64) -> Self
         ensures { result ≡ of_bits bits };
 
-    /// Cells that compare as equal are one.
+    /// Cells that compare as equal are equal.
     ghost exact: { (x y : Self) → Self.eq x y ≡ true → x ≡ y };
 
-    /// Each cell has some bytes.
+    /// The bytes of a cell are never empty.
     ghost some_bytes: { (x : Self) → 0 < length (bytes x) };
 
-    /// No two cells begin one text.
+    /// No text begins with two different cells.
     ghost begins_one: { BeginsOne bytes is_cell };
 
     /// Bytes, equality and order of a cell are those of its value.
     ghost is_value: { IsValueOf value bytes Self.eq Self.cmp };
 }
 
-/// The int that stands at `at`, and its end.
+/// The int at offset `at`, and its end.
 #[inline]
 pub(crate) fn read_int(text: &[u8], at: usize) -> Option<(i64, usize)>
     ensures found { IfSome result (λ found. StandsAt int_cell IsInt text.now at found.0 found.1) }
@@ -116,7 +116,7 @@ impl Cell for i64 {
     ghost is_value = { ints_are_values };
 }
 
-/// The text that stands at `at`, and its end.
+/// The text at offset `at`, and its end.
 #[inline]
 pub(crate) fn read_text(text: &[u8], at: usize) -> Option<(&str, usize)>
     ensures found { IfSome result (λ found. StandsAt text_cell IsText text.now at found.0.now found.1) }
@@ -138,7 +138,7 @@ pub(crate) fn read_text(text: &[u8], at: usize) -> Option<(&str, usize)>
     Some((valid, end))
 }
 
-/// Appends the bytes of a text. A refusal changes nothing.
+/// Appends the bytes of a text. If memory is refused, nothing changes.
 #[inline]
 pub(crate) fn write_text(text: &str, out: &mut Vec<u8>) -> Result<(), AllocError>
     requires { length text.now ≤ 255 }

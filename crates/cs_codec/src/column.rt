@@ -9,56 +9,56 @@ use crate::cell::{Cell, read_text, write_text};
 use cs_schema::{Texts, Word};
 use std::alloc::{AllocError, Global};
 
-/// A list of cells, which takes no memory for each.
+/// A list of cells, without an allocation for each.
 pub trait Column<C: Cell>: Drop {
     /// The cells of the list.
     ghost cells: { Self → List C };
 
-    /// No cells.
+    /// An empty column.
     fn new(alloc: Global) -> Self
         ensures { cells result ≡ [] };
 
-    /// How many cells these are.
+    /// The number of cells.
     fn len(&self) -> usize
         ensures { result ≡ length (cells self.now) };
 
-    /// Makes room for so many more cells, of so many bytes together.
+    /// Reserves room for `more` cells of `bytes` bytes in total.
     fn reserve(&mut self, more: usize, bytes: usize) -> Result<(), AllocError>
         ensures { cells self.new ≡ cells self.old };
 
-    /// How many bytes the cells take about, as they are written.
+    /// About how many bytes the cells take when written.
     fn size(&self) -> usize;
 
-    /// How many bytes the cells at some places take about, as they are written.
+    /// About how many bytes the cells at these indices take when written.
     fn size_at(&self, places: &[u32]) -> usize
         requires { (k : ℕ) → k < length places.now → slice_index places.now k < length (cells self.now) };
 
-    /// A copy of the cell at a place.
+    /// A copy of the cell at an index.
     fn cell(&self, at: usize) -> C
         requires { at < length (cells self.now) }
         ensures { slice_get (cells self.now) at ≡ Some result };
 
-    /// Whether the cell at a place is that of another column at a place.
+    /// Whether the cell at an index equals a cell of another column.
     fn same(&self, at: usize, other: &Self, other_at: usize) -> bool
         requires here { at < length (cells self.now) }
         requires there { other_at < length (cells other.now) }
         ensures { IsTrue result ↔ (slice_get (cells self.now) at ≡ slice_get (cells other.now) other_at) };
 
-    /// Appends the bytes of the cell at a place.
+    /// Appends the bytes of the cell at an index.
     fn write(&self, at: usize, out: &mut Vec<u8>) -> Result<(), AllocError>
         requires { at < length (cells self.now) }
         ensures { OnOk result ((c : C) → slice_get (cells self.now) at ≡ Some c → out.new.items ≡ out.old.items ++ C.bytes c) };
 
-    /// Adds a cell so many times at the end.
+    /// Appends a cell `count` times.
     fn repeat(&mut self, cell: &C, count: u32) -> Result<(), AllocError>
         ensures { OnOk result (cells self.new ≡ cells self.old ++ replicate count cell.now) };
 
-    /// Adds the cell of another column at a place.
+    /// Appends a cell of another column.
     fn push_cell(&mut self, other: &Self, at: usize) -> Result<(), AllocError>
         requires { at < length (cells other.now) }
         ensures { OnOk result ((c : C) → slice_get (cells other.now) at ≡ Some c → cells self.new ≡ cells self.old ++ c ∷ []) };
 
-    /// Adds the cells of another column at some places.
+    /// Appends the cells of another column at these indices.
     fn push_at(&mut self, other: &Self, places: &[u32]) -> Result<(), AllocError>
         requires { (k : ℕ) → k < length places.now → slice_index places.now k < length (cells other.now) }
         ensures { OnOk result (cells self.new ≡ cells self.old ++ cells_at (cells other.now) places.now) };
@@ -67,17 +67,17 @@ pub trait Column<C: Cell>: Drop {
     fn append(&mut self, other: Self) -> Result<(), AllocError>
         ensures { OnOk result (cells self.new ≡ cells self.old ++ cells other) };
 
-    /// Leaves only the cells before a place.
+    /// Keeps only the first `count` cells.
     fn truncate(&mut self, count: usize)
         ensures { cells self.new ≡ take count (cells self.old) };
 
-    /// Adds the cell that stands at `at` in a text, whose end it gives.
+    /// Appends the cell at offset `at` of a text, and answers its end.
     fn read(&mut self, text: &[u8], at: usize) -> Result<Option<usize>, AllocError>
         ensures found { IfOk result (λ read. IfSome read (λ end. Reads C.bytes C.is_cell text.now at (cells self.old) (cells self.new) end)) }
         ensures none { IfOk result (λ read. IfNone read (NoneStandsAt C.bytes C.is_cell text.now at)) };
 }
 
-/// The cell's number, where there is one cell from one place up to another, and it has one.
+/// The cell's number, if the range has one cell and the cell has a number.
 #[inline]
 pub(crate) fn lone_bits<C: Cell, L: Column<C>>(column: &L, from: usize, to: usize) -> Option<u64>
     requires order { from ≤ to }
@@ -188,7 +188,7 @@ impl Column<Word> for Texts {
     }
 
     fn size(&self) -> usize {
-        // before each text stands a byte that tells its length
+        // each text is preceded by one byte with its length
         self.size().saturating_add(self.len())
     }
 

@@ -1,4 +1,4 @@
-//! Columns of ascending integers as differences.
+//! The delta encoding of ascending ints.
 ghost use Rattle.std.specs.Prelude.{◌≡◌, ◌↔◌, IsTrue, List, ◌++◌, IfOk, OnOk, IfSome, IfNone};
 ghost use Rattle.cs_codec.specs.Texts.{differences_text};
 ghost use Rattle.cs_codec.specs.Differences.{NeverFallsShort, ValueStandsAt, NoValueStandsAt};
@@ -14,11 +14,11 @@ use cs_schema::Code;
 use std::alloc::{AllocError, Global};
 use std::marker::Model;
 
-/// One position of each so many has its value in full.
+/// The first position of each block has its value in full.
 const BLOCK: u32 = 128;
 
-/// What stands for some integers of a column, none of which is below the one before it: the first one, the differences
-/// to the ones before them, the last one, and how many they are. A contract sees the integers.
+/// The encoded form of some ints of a column, none of which is less than the one before it: the first int, the
+/// differences between neighbours, the last int, and their number. Contracts see the ints.
 #[derive(Drop)]
 pub struct DifferencesPart {
     first: i64,
@@ -40,7 +40,7 @@ impl Model for DifferencesPart {
 }
 
 impl DifferencesPart {
-    /// The part that stands for these integers.
+    /// The part of these ints.
     #[inline]
     fn of(alloc: Global, cells: &[i64]) -> Result<DifferencesPart, AllocError>
         requires { NeverFallsShort cells.now }
@@ -59,16 +59,16 @@ impl DifferencesPart {
         DifferencesPart::of_many(alloc, cells)
     }
 
-    /// Makes room for so many more parts as long as this one.
+    /// Reserves room for `parts` parts as long as this one.
     pub fn reserve(&mut self, parts: u32) -> Result<(), AllocError>
         ensures { self.new ≡ self.old }
     {
-        // a part that is joined adds a gap for each of its integers
+        // joining a part adds a difference for each of its ints
         self.gaps
             .reserve((self.count as usize).saturating_mul(parts as usize))
     }
 
-    /// The part of these cells, in a function of its own so that a part of one integer stays small.
+    /// The part of these cells. It is a function of its own so that encoding one int stays small.
     #[inline(never)]
     fn of_many(alloc: Global, cells: &[i64]) -> Result<DifferencesPart, AllocError>
         requires { NeverFallsShort cells.now }
@@ -118,7 +118,7 @@ impl DifferencesPart {
         })
     }
 
-    /// Whether the other integers may come next.
+    /// Whether the ints of the other part may follow these.
     fn goes_on(&self, other: &DifferencesPart) -> bool
         ensures { IsTrue result ↔ NeverFallsShort (self.now ++ other.now) }
     {
@@ -162,7 +162,7 @@ impl DifferencesPart {
     }
 }
 
-/// Adds differences after the others.
+/// Appends differences.
 #[inline]
 fn add_gaps(gaps: &mut Vec<u64>, others: &[u64]) -> Result<(), AllocError>
     ensures { OnOk result (gaps.new.items ≡ gaps.old.items ++ others.now) }
@@ -173,7 +173,7 @@ fn add_gaps(gaps: &mut Vec<u64>, others: &[u64]) -> Result<(), AllocError>
     add_some_gaps(gaps, others)
 }
 
-/// Appends gaps, in a function of its own so that adding none stays small.
+/// Appends differences. It is a function of its own so that appending none stays small.
 #[inline(never)]
 fn add_some_gaps(gaps: &mut Vec<u64>, others: &[u64]) -> Result<(), AllocError>
     ensures { OnOk result (gaps.new.items ≡ gaps.old.items ++ others.now) }
@@ -181,7 +181,7 @@ fn add_some_gaps(gaps: &mut Vec<u64>, others: &[u64]) -> Result<(), AllocError>
     gaps.extend_from_slice(others)
 }
 
-/// The value that stands at `at` as that of a position, behind another value.
+/// The value of a position, at offset `at`, given the value before it.
 fn read_value(bytes: &[u8], at: usize, position: u32, before: i64) -> Option<(i64, usize)>
     ensures found { IfSome result (λ found. ValueStandsAt before position bytes.now at found.0 found.1) }
     ensures none { IfNone result (NoValueStandsAt before position bytes.now at) }
@@ -203,7 +203,7 @@ fn read_value(bytes: &[u8], at: usize, position: u32, before: i64) -> Option<(i6
     }
 }
 
-/// Columns of integers that never fall: the first of each 128 positions in full, the others as differences.
+/// The delta encoding: of each 128 positions the first value in full, the others as differences.
 pub struct Differences;
 
 impl ColumnEncoding<i64, Vec<i64>> for Differences {

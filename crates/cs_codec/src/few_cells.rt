@@ -1,11 +1,11 @@
-//! Cells that are so few that bitmaps of their own would cost more than they do.
+//! A few cells, for which bitmaps would take more than the cells themselves.
 ghost use Rattle.std.specs.Prelude.{◌≡◌, ◌-◌, ◌≤◌, length, take, drop, IfOk};
 
 use crate::cell::Cell;
 use crate::column::Column;
 use std::alloc::{AllocError, Global};
 
-/// At most so many cells are few.
+/// The maximum number of such cells.
 pub(crate) const FEW: usize = 16;
 
 /// A few cells.
@@ -15,7 +15,7 @@ pub(crate) struct FewCells<C> {
     ghost few: { length cells.items ≤ 16 },
 }
 
-/// The few cells of a column from one place up to another.
+/// Copies of the few cells `from..to` of a column.
 pub(crate) fn copies<C: Cell, L: Column<C>>(
     alloc: Global,
     column: &L,

@@ -1,11 +1,11 @@
-//! Numbers in groups of seven bits, the low group first.
+//! Numbers in groups of seven bits, least significant group first (LEB128).
 ghost use Rattle.std.specs.Prelude.{◌≡◌, ◌++◌, OnOk, IfSome, IfNone};
 ghost use Rattle.cs_codec.specs.Texts.{short};
 ghost use Rattle.cs_codec.specs.Differences.{GroupsStandAt, NoGroupsStandAt};
 
 use std::alloc::AllocError;
 
-/// Writes a number in groups of seven bits, the low group first.
+/// Writes a number in groups of seven bits, least significant group first.
 pub(crate) fn write_short(out: &mut Vec<u8>, n: u64) -> Result<(), AllocError>
     ensures { OnOk result (out.new.items ≡ out.old.items ++ short n) }
 {
@@ -18,7 +18,7 @@ pub(crate) fn write_short(out: &mut Vec<u8>, n: u64) -> Result<(), AllocError>
     Ok(())
 }
 
-/// The number that stands at `at` in at most `more` + 1 groups, and its end.
+/// The number at offset `at`, of at most `more` + 1 groups, and its end.
 pub(crate) fn read_groups(bytes: &[u8], at: usize, more: u32) -> Option<(u64, usize)>
     ensures found { IfSome result (λ found. GroupsStandAt more bytes.now at found.0 found.1) }
     ensures none { IfNone result (NoGroupsStandAt more bytes.now at) }

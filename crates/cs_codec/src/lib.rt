@@ -1,6 +1,6 @@
-//! Encodings of a column's cells by four codes: runs, bitmaps, differences and plain cells. A part of a column is
-//! encoded by itself and joined with the next one, and what is written of it is the one text of its list; `read`
-//! accepts just these texts.
+//! Four encodings of a column's cells: plain, runs, bitmaps and differences. A part of a column is encoded by itself
+//! and joined with the next part; the text that is written is the one text of the whole list, and `read` accepts only
+//! such texts.
 #![tactic(auto)]
 
 mod bitmap;

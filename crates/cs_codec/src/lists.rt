@@ -1,4 +1,4 @@
-//! The codes over lists of cells, by the columns that these lists are.
+//! The encodings over lists of cells, by way of columns.
 ghost use Rattle.std.specs.Prelude.{◌≡◌, IfOk};
 ghost use Rattle.cs_codec.specs.Encodings.{IsShort};
 ghost use Rattle.cs_codec.specs.Texts.{plain_text, runs_text, bitmaps_text, differences_text};

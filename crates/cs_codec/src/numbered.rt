@@ -1,4 +1,4 @@
-//! Columns as their values and the number of each row's value.
+//! Columns as distinct values and, for each row, the number of its value (dictionary encoding).
 ghost use Rattle.std.specs.Prelude.{◌≡◌, ℕ, ◌<◌, ◌≤◌, [], true, false, IsTrue, IfOk, length, slice_index_or, nat_eq};
 ghost use Rattle.std.specs.List.Sorted.{IsStrictlySortedBy};
 ghost use Rattle.cs_codec.specs.Texts.{distinct_values, bitmap_lengths, bitmaps_text};
@@ -17,7 +17,7 @@ pub(crate) struct NumberedColumn<L> {
     pub(crate) numbers: Vec<u32>,
 }
 
-/// Whether each value is above the one before it.
+/// Whether the values strictly ascend.
 fn ascend<C: Cell, L: Column<C>>(values: &L) -> bool
     ensures yes { IsTrue result → IsStrictlySortedBy C.cmp (L.cells values.now) }
     ensures no { result ≡ false → IsStrictlySortedBy C.cmp (L.cells values.now) → ⊥ }
@@ -30,7 +30,7 @@ fn ascend<C: Cell, L: Column<C>>(values: &L) -> bool
     true
 }
 
-/// So many bitmaps without ones.
+/// `count` bitmaps without ones.
 fn empty_bitmaps(alloc: Global, count: usize) -> Result<Vec<Bitmap>, AllocError>
     ensures count { IfOk result (λ bitmaps. length bitmaps.items ≡ count) }
     ensures none { IfOk result (λ bitmaps. (n : ℕ) → slice_index_or bitmaps.items n [] ≡ []) }
@@ -42,7 +42,7 @@ fn empty_bitmaps(alloc: Global, count: usize) -> Result<Vec<Bitmap>, AllocError>
     Ok(bitmaps)
 }
 
-/// The bitmap of each number below `count`, by one pass over the numbers of the rows.
+/// The bitmap of each number below `count`, by one pass over the rows' numbers.
 fn bitmaps_of_numbers(
     alloc: Global,
     numbers: &[u32],
@@ -62,8 +62,8 @@ fn bitmaps_of_numbers(
     Ok(bitmaps)
 }
 
-/// Whether the bytes are the values and their bitmaps, one after the other, and each value stands in some row. Each entry
-/// is written by itself and compared, so that no second text is kept.
+/// Whether the bytes are the values and their bitmaps, in turn, and each value occurs in some row. Each entry is
+/// written and compared by itself, so no second text is kept.
 fn are_entries<C: Cell, L: Column<C>>(
     alloc: Global,
     values: &L,
@@ -93,7 +93,7 @@ fn are_entries<C: Cell, L: Column<C>>(
     Ok(left.is_empty())
 }
 
-/// Whether the bytes are the text of the column, and its values just those of its rows, ascending.
+/// Whether the bytes are the text of the column, and its values are exactly those of its rows, ascending.
 pub(crate) fn has_text<C: Cell, L: Column<C>>(
     alloc: Global,
     column: &NumberedColumn<L>,

@@ -1,4 +1,4 @@
-//! Numbers as bytes, the highest first.
+//! Numbers as bytes, big-endian.
 ghost use Rattle.std.specs.Prelude.{◌≡◌, ℕ, ◌+◌, ◌≤◌, ◌<◌, ◌^◌, List, ◌++◌, length, take, drop, OnOk, OnErr, IfSome, IfNone, MatchOption};
 ghost use Rattle.std.specs.Int.{w32, w64, from_be_bytes, to_be_bytes};
 ghost use Rattle.cs_codec.specs.Cells.{number, NumberStandsAt};
@@ -33,7 +33,7 @@ pub(crate) fn u64_at(text: &[u8], at: usize) -> Option<u64>
     ]))
 }
 
-/// The number that stands at `at` in four bytes.
+/// The number in the four bytes at offset `at`.
 #[inline]
 pub fn read_number(text: &[u8], at: usize) -> Option<u32>
     ensures found { IfSome result (NumberStandsAt text.now at) }
@@ -42,7 +42,7 @@ pub fn read_number(text: &[u8], at: usize) -> Option<u32>
     u32_at(text, at)
 }
 
-/// Appends a number in four bytes. A refusal changes nothing.
+/// Appends a number in four bytes. If memory is refused, nothing changes.
 #[inline]
 pub fn write_number(out: &mut Vec<u8>, n: u32) -> Result<(), AllocError>
     ensures ok { OnOk result (out.new.items ≡ out.old.items ++ number n) }

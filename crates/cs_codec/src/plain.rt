@@ -1,4 +1,4 @@
-//! Columns as cells, one after the other.
+//! The plain encoding: the bytes of each cell in turn.
 ghost use Rattle.std.specs.Prelude.{◌≡◌, ℕ, ◌+◌, ◌<◌, ◌≤◌, ◌++◌, length, slice_index, IfOk, OnOk};
 ghost use Rattle.cs_codec.specs.Columns.{cells_at};
 ghost use Rattle.cs_codec.specs.Encodings.{IsShort};
@@ -14,8 +14,8 @@ use crate::encoding::{CodecFault, ColumnEncoding};
 use cs_schema::Code;
 use std::alloc::{AllocError, Global};
 
-/// What stands for some cells of a column: their bytes, and how many they are. Of one cell that a number stands for, it
-/// is the number, so that such a part takes no memory.
+/// The encoded form of some cells of a column: their bytes and their number. For one cell that is a number it is the
+/// number, and does not allocate.
 #[derive(Drop)]
 pub struct PlainPart {
     bytes: Vec<u8>,
@@ -24,7 +24,7 @@ pub struct PlainPart {
 }
 
 impl PlainPart {
-    /// Makes room for so many more parts as long as this one.
+    /// Reserves room for `parts` parts as long as this one.
     pub fn reserve(&mut self, parts: u32) -> Result<(), AllocError>
         ensures bytes { self.new.bytes.items ≡ self.old.bytes.items }
         ensures lone { self.new.lone ≡ self.old.lone }
@@ -34,7 +34,7 @@ impl PlainPart {
             .reserve(self.bytes.len().saturating_mul(parts as usize))
     }
 
-    /// The text of the list that the part stands for: its bytes, which aren't copied.
+    /// The text of the part's list: its bytes, without a copy.
     #[inline]
     pub fn into_text(self) -> Result<Vec<u8>, AllocError>
         ensures { IfOk result (λ out. out.items ≡ kept_bytes self.lone self.bytes.items) }
@@ -59,10 +59,10 @@ impl PlainPart {
     }
 }
 
-/// Columns as cells, one after the other.
+/// The plain encoding: the bytes of each cell in turn.
 pub struct Plain;
 
-/// The part that stands for the cells at some places, in the order of the places, written straight from the column.
+/// The part of the cells at these indices, in this order, written directly from the column.
 pub fn encode_at<C: Cell, L: Column<C>>(
     alloc: Global,
     column: &L,

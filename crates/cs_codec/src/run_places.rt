@@ -1,4 +1,4 @@
-//! The text of runs, written straight from the places of a column, a part of these at a time.
+//! The text of runs, written directly from cells of a column at given indices, a range of these at a time.
 ghost use Rattle.std.specs.Prelude.{◌≡◌, ◌+◌, ◌≤◌, ◌<◌, ℕ, drop, length, min, slice_get, slice_index, Some, IfOk};
 ghost use Rattle.cs_codec.specs.Columns.{cells_at};
 ghost use Rattle.cs_codec.specs.RunParts.{IsNextStart, part_text};
@@ -9,7 +9,7 @@ use crate::column::Column;
 use crate::numbers::write_number;
 use std::alloc::{AllocError, Global};
 
-/// Where the run ends that goes from one of the places on, or `stop`, where it goes further.
+/// The end of the run that begins at an index, or `stop` if it goes further.
 fn run_end<C: Cell, L: Column<C>>(column: &L, places: &[u32], start: usize, stop: usize) -> usize
     requires within { (k : ℕ) → k < length places.now → slice_index places.now k < length (L.cells column.now) }
     requires order { (start < stop) × (stop ≤ length places.now) }
@@ -24,7 +24,7 @@ fn run_end<C: Cell, L: Column<C>>(column: &L, places: &[u32], start: usize, stop
     end
 }
 
-/// The first place, from one up to another, at which a run begins, or the other where none does: no run is followed further.
+/// The first index of a range at which a run begins, or the end of the range if none does. No run is followed further.
 fn run_start<C: Cell, L: Column<C>>(column: &L, places: &[u32], from: usize, to: usize) -> usize
     requires within { (k : ℕ) → k < length places.now → slice_index places.now k < length (L.cells column.now) }
     requires order { (from ≤ to) × (to ≤ length places.now) }
@@ -36,7 +36,7 @@ fn run_start<C: Cell, L: Column<C>>(column: &L, places: &[u32], from: usize, to:
     run_end(column, places, from - 1, to)
 }
 
-/// The text of the runs that begin from one of the places up to another, in the column of the cells at all places.
+/// The text of the runs that begin within a range of the indices, in the column of the cells at all indices.
 pub fn write_part<C: Cell, L: Column<C>>(
     alloc: Global,
     column: &L,

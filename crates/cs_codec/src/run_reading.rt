@@ -10,7 +10,7 @@ use crate::encoding::CodecFault;
 use crate::numbers::read_number;
 use std::alloc::{AllocError, Global};
 
-/// The position and the length of the run that stands at `at`, whose cell is added, and the run's end.
+/// The position and length of the run at offset `at`, whose cell is appended, and the run's end.
 #[inline]
 fn read_run<C: Cell, L: Column<C>>(
     cells: &mut L,
@@ -33,7 +33,7 @@ fn read_run<C: Cell, L: Column<C>>(
     Ok(Some((position, count, end + 8)))
 }
 
-/// Whether the cell at a place is another one than the cell before it.
+/// Whether the cell at an index differs from the one before it.
 #[inline]
 fn differs<C: Cell, L: Column<C>>(cells: &L, at: usize) -> bool
     requires { at < length (L.cells cells.now) }
@@ -43,7 +43,7 @@ fn differs<C: Cell, L: Column<C>>(cells: &L, at: usize) -> bool
     at == 0 || !cells.same(at - 1, cells, at)
 }
 
-/// Adds the cell at a place so many times more at the end. Room is made for all that may come, once a cell is repeated.
+/// Appends the cell at an index `count` more times. Room for all remaining cells is reserved at the first repetition.
 #[inline]
 fn repeat_at<C: Cell, L: Column<C>>(
     cells: &mut L,
@@ -62,11 +62,11 @@ fn repeat_at<C: Cell, L: Column<C>>(
     cells.repeat(&cell, more)
 }
 
-/// The text of a run has at least so many bytes.
+/// The minimum number of bytes of a run's text.
 const LEAST_RUN: usize = 9;
 
-/// The column of so many cells that the bytes are the text of. Room is made for as many cells as there can be runs, and
-/// for the others when a run says that they come.
+/// The column of `rows` cells whose text the bytes are. Room is reserved for as many cells as the text can have runs,
+/// and for the rest once a run repeats its cell.
 pub(crate) fn read_column<C: Cell, L: Column<C>>(
     alloc: Global,
     bytes: &[u8],

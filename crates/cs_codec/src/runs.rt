@@ -1,4 +1,4 @@
-//! Runs of equal cells.
+//! The run-length encoding.
 ghost use Rattle.std.specs.Prelude.{◌≡◌, ◌+◌, ◌-◌, ◌≤◌, ◌<◌, take, drop, slice_get, Some, [], ◌∷◌, ◌++◌, length, IfOk, OnOk};
 ghost use Rattle.cs_codec.specs.Encodings.{IsShort};
 ghost use Rattle.cs_codec.specs.Texts.{runs_text};
@@ -16,8 +16,8 @@ use cs_schema::Code;
 use std::alloc::{AllocError, Global};
 use std::marker::{Model, PhantomData};
 
-/// What stands for some cells of a column: the value of each of their runs, and its length. Of one cell that a number
-/// stands for, it is the number, so that such a part takes no memory. A contract sees the cells.
+/// The encoded form of some cells of a column: the value and length of each run. For one cell that is a number it is
+/// the number, and does not allocate. Contracts see the cells.
 #[derive(Drop)]
 pub struct RunsPart<C: Cell, L: Column<C>> {
     values: L,
@@ -40,7 +40,7 @@ impl<C: Cell, L: Column<C>> Model for RunsPart<C, L> {
 }
 
 impl<C: Cell, L: Column<C>> RunsPart<C, L> {
-    /// The part that stands for the cells from one place up to another.
+    /// The part of the cells `from..to`.
     fn of(alloc: Global, column: &L, from: usize, to: usize) -> Result<Self, AllocError>
         requires order { from ≤ to }
         requires within { to ≤ length (L.cells column.now) }
@@ -70,7 +70,7 @@ impl<C: Cell, L: Column<C>> RunsPart<C, L> {
         })
     }
 
-    /// Makes room for so many more parts with as many runs as this one.
+    /// Reserves room for `parts` parts with as many runs as this one.
     pub fn reserve(&mut self, parts: u32) -> Result<(), AllocError>
         ensures { self.new ≡ self.old }
     {
@@ -79,7 +79,7 @@ impl<C: Cell, L: Column<C>> RunsPart<C, L> {
         self.counts.reserve(more)
     }
 
-    /// The values and the lengths of the part's runs.
+    /// The values and lengths of the part's runs.
     #[inline]
     fn into_runs(self) -> Result<(L, Vec<u32>), AllocError>
         ensures cells { IfOk result (λ runs. expand (zip_runs (L.cells runs.0) runs.1.items) ≡ self) }
@@ -95,7 +95,7 @@ impl<C: Cell, L: Column<C>> RunsPart<C, L> {
         Ok((values, counts))
     }
 
-    /// Adds the cells of the part after those of some runs.
+    /// Appends the part's cells to some runs.
     #[inline]
     fn append_to(self, values: &mut L, counts: &mut Vec<u32>) -> Result<(), AllocError>
         requires short { length (expand (zip_runs (L.cells values.old) counts.old.items)) + length self ≤ 1048576 }
@@ -148,7 +148,7 @@ fn write_lone<C: Cell>(alloc: Global, value: &C) -> Result<Vec<u8>, AllocError>
     Ok(out)
 }
 
-/// The text of the cells of some runs.
+/// The text of some runs.
 fn write_runs<C: Cell, L: Column<C>>(
     alloc: Global,
     values: &L,
@@ -170,7 +170,7 @@ fn write_runs<C: Cell, L: Column<C>>(
     Ok(out)
 }
 
-/// Moves runs after the others. Where the first of them has the value of the last one, the two become one.
+/// Appends runs to others. If the first has the value of the last one before it, the two become one.
 fn append_runs<C: Cell, L: Column<C>>(
     values: &mut L,
     counts: &mut Vec<u32>,
@@ -196,7 +196,7 @@ fn append_runs<C: Cell, L: Column<C>>(
     Ok(())
 }
 
-/// Adds a cell of a column after the others, to the last run if that has the value.
+/// Appends a cell of a column, to the last run if that has its value.
 #[inline]
 fn push_run<C: Cell, L: Column<C>>(
     values: &mut L,
@@ -220,7 +220,7 @@ fn push_run<C: Cell, L: Column<C>>(
     Ok(())
 }
 
-/// Adds a cell after the others, to the last run if that has the value.
+/// Appends a cell, to the last run if that has its value.
 #[inline]
 fn push_cell<C: Cell, L: Column<C>>(
     values: &mut L,
@@ -242,7 +242,7 @@ fn push_cell<C: Cell, L: Column<C>>(
     Ok(())
 }
 
-/// Columns as runs of equal cells: of each run the cell, its first position, from 1, and its length.
+/// The run-length encoding: for each run its cell, its first position (from 1), and its length (C-Store's type 1).
 pub struct Runs;
 
 impl<C: Cell, L: Column<C>> ColumnEncoding<C, L> for Runs {

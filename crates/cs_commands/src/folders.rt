@@ -1,4 +1,4 @@
-//! Places that are folders of the system. No contract is told what they hold.
+//! Folders of the system as places. Their contracts say nothing of what folders hold.
 ghost use Rattle.std.specs.Prelude.{⊤};
 
 use crate::places::Places;
@@ -9,7 +9,7 @@ use std::alloc::Global;
 use std::marker::Sync;
 use std::rt::Files;
 
-/// The folders of the system, with the number of faults that were met in finding and making them.
+/// The folders of the system, with the number of faults in finding and making them.
 #[derive(Drop)]
 pub struct Folders<R> {
     alloc: Global,
@@ -19,7 +19,7 @@ pub struct Folders<R> {
 }
 
 impl<R> Folders<R> {
-    /// The system's folders; no fault was met.
+    /// The system's folders; no fault has occurred.
     pub fn new(alloc: Global, rt: R) -> Self {
         Self {
             alloc,

@@ -1,6 +1,7 @@
-//! The commands of the recovery tool that scripts rely on: it recovers what a loss takes from a store, and checks a store.
+//! The commands of the recovery tool for scripts: `recover` and `check`.
 //!
-//! The work is the library's; here are the words of the command line, where stores are found, the texts and the statuses.
+//! The library does the work; this crate has the words of the command line, finds stores, and has the texts and
+//! statuses.
 #![tactic(auto)]
 
 mod folders;

@@ -8,34 +8,34 @@ use cs_parallel_io::{BatchSink, SharedSource};
 use cs_store::{Source, StoreFault};
 use std::marker::Sync;
 
-/// Stores and outputs by path. Places in memory can say by their ghost members what they found and made; those over
-/// folders say nothing.
+/// Stores and outputs by path. The ghost members of places in memory say what they found and made; those of folders say
+/// nothing.
 pub trait Places {
-    /// A store's files, which are read side by side.
+    /// A store's files, which are read in parallel.
     type Store: Source + SharedSource + Drop;
 
-    /// What takes the files of a recovery, which are written side by side where it can.
+    /// Takes the files of a recovery, in parallel if it can.
     type Output: BatchSink + Drop;
 
-    /// What is told of the pieces of a command's work.
+    /// Observes the pieces of a command's work.
     type Watch: Gate + Sync;
 
-    /// One store that was found: the state before, the path, the bytes of the catalog, the store, and the state after.
+    /// A store that was found: the state before, the path, the bytes of the catalog, the store, and the state after.
     ghost finds: { Self → List ℕ → List ℕ → Self.Store → Self → Type 0 };
 
-    /// One output that was made: the state before, the path, the output, and the state after.
+    /// An output that was made: the state before, the path, the output, and the state after.
     ghost makes: { Self → List ℕ → Self.Output → Self → Type 0 };
 
-    /// One store that was not found: the state before, the path, why, and the state after.
+    /// A store that was not found: the state before, the path, why, and the state after.
     ghost misses: { Self → List ℕ → StoreFault → Self → Type 0 };
 
-    /// One output that was not made: the state before, the path, why, and the state after.
+    /// An output that was not made: the state before, the path, why, and the state after.
     ghost denies: { Self → List ℕ → StoreFault → Self → Type 0 };
 
-    /// How many faults of the device it has met.
+    /// The number of faults of the device so far.
     ghost fault_count: { Self → ℕ };
 
-    /// The bytes of the catalog of the store at this path, and the store. It fails where the catalog can't be read.
+    /// The bytes of the catalog of the store at this path, and the store. Fails if the catalog cannot be read.
     fn store(&mut self, path: &str) -> Result<(Vec<u8>, Self::Store), StoreFault>
         ensures ok { IfOk result (λ found. finds self.old path.now found.0.items found.1 self.new) }
         ensures err { IfErr result (λ fault. misses self.old path.now fault self.new) }
@@ -43,7 +43,7 @@ pub trait Places {
             → CountsFault (fault_count self.old) (fault_count self.new) }
         ensures counted { fault_count self.old ≤ fault_count self.new };
 
-    /// Makes the output at this path, where nothing may be yet.
+    /// Makes the output at this path, where nothing may exist yet.
     fn output(&mut self, path: &str) -> Result<Self::Output, StoreFault>
         ensures ok { IfOk result (λ output. makes self.old path.now output self.new) }
         ensures err { IfErr result (λ fault. denies self.old path.now fault self.new) }
@@ -51,10 +51,10 @@ pub trait Places {
             → CountsFault (fault_count self.old) (fault_count self.new) }
         ensures counted { fault_count self.old ≤ fault_count self.new };
 
-    /// What is told of each piece as it is begun.
+    /// Observes each piece as it begins.
     fn watch(&self) -> &Self::Watch;
 
-    /// How many faults of the device it has met.
+    /// The number of faults of the device so far.
     fn faults(&self) -> u64
         ensures { result ≡ fault_count self.now };
 }

@@ -19,14 +19,14 @@ use std::io::Write;
 use std::marker::Sync;
 use std::thread::Threads;
 
-/// What a command did. Its text is what standard output gets.
+/// What a command did. Its text goes to standard output.
 #[derive(Drop)]
 pub enum Answer {
     /// The sample was rebuilt: these are its files.
     Sample(FileSet),
     /// The store is sound and safe.
     Checked { rows: u64, k: u8 },
-    /// So many files were written.
+    /// This many files were written.
     Recovered { files: usize },
 }
 
@@ -48,8 +48,8 @@ impl fmt::Display for Answer {
     }
 }
 
-/// Runs the command that the words ask for, prints its answer, and gives its status: 0 done, 1 the store was refused,
-/// 2 usage, 3 want of memory, 4 a file, a folder or a stream failed. Without words it rebuilds the sample.
+/// Runs the command that the words ask for, prints its answer, and returns its status: 0 done, 1 the store was refused,
+/// 2 usage error, 3 out of memory, 4 a file, a folder or a stream failed. Without words it rebuilds the sample.
 pub fn run<R: Threads + Sync, P: Places, W: Write, E: Write>(
     rt: &R,
     alloc: Global,
@@ -61,7 +61,7 @@ pub fn run<R: Threads + Sync, P: Places, W: Write, E: Write>(
     ensures status { result ≤ 4 }
     ensures done { result ≡ DONE → (answer : Answer) × Performs P.finds (standing P.Store.answers) P.makes
         P.Output.takes P.Output.marks (length words.now) places.old places.new answer }
-    // where all was done, the answer could not be printed
+    // if everything was done, the answer could not be printed
     ensures stopped { result ≢ DONE
         → Stops P.finds (standing P.Store.answers) P.makes P.misses P.denies places.old places.new
         ⊎ ((answer : Answer) × Performs P.finds (standing P.Store.answers) P.makes P.Output.takes P.Output.marks
@@ -104,7 +104,7 @@ fn perform<R: Threads + Sync, P: Places>(
     }
 }
 
-/// Rebuilds what the sample has lost.
+/// Rebuilds what the sample store has lost.
 fn rebuild_sample<R: Threads + Sync>(rt: &R, alloc: Global) -> Result<FileSet, Stop> {
     let catalog = read_catalog(alloc, sample::CATALOG.as_bytes()).map_err(Stop::Catalog)?;
     let files = sample::survivors(alloc).map_err(|_| Stop::Memory)?;
@@ -112,7 +112,7 @@ fn rebuild_sample<R: Threads + Sync>(rt: &R, alloc: Global) -> Result<FileSet, S
     rebuild(rt, alloc, &catalog, &files, loss, ONE_WORKER, DEFAULT_CUT).map_err(Stop::Store)
 }
 
-/// Checks the store at this path, and gives its number of rows.
+/// Checks the store at this path and returns its number of rows.
 fn check_store<R: Threads + Sync, P: Places>(
     rt: &R,
     alloc: Global,
@@ -141,8 +141,8 @@ fn check_store<R: Threads + Sync, P: Places>(
     }
 }
 
-/// Recovers what a store has lost, and gives the number of files that it wrote. The output is made only after the store
-/// was accepted, and marked last.
+/// Recovers what a store has lost and returns the number of files that it wrote. The output is made only after the
+/// store was accepted, and marked last.
 fn recover_store<R: Threads + Sync, P: Places>(
     rt: &R,
     alloc: Global,

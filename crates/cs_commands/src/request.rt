@@ -7,13 +7,13 @@ use clap::{Arg, ArgMatches, Command};
 use cs_schema::Loss;
 use std::alloc::Global;
 
-/// The workers of a command that is given no number of them.
+/// The number of workers if none is given.
 pub const ONE_WORKER: u32 = 1;
 
-/// The rows of a piece of work, for a command that is given no number of them.
+/// The number of rows of a task if none is given.
 pub const DEFAULT_CUT: u32 = 65_536;
 
-/// A command, with its arguments.
+/// A command with its arguments.
 #[derive(Drop)]
 pub enum Request<'a> {
     /// Whether a store is sound, and safe for losses of at most `k` sites.
@@ -22,33 +22,33 @@ pub enum Request<'a> {
     Recover(Recovery<'a>),
 }
 
-/// What to recover, from where, to where, and by how many workers.
+/// What to recover, from where, to where, and with how many workers.
 #[derive(Clone, Copy)]
 pub struct Recovery<'a> {
-    /// How many workers there are.
+    /// The number of workers.
     pub workers: u32,
-    /// How many rows a piece of work has.
+    /// The number of rows of a task.
     pub cut: u32,
     /// The folder of the store.
     pub store: &'a str,
-    /// The folder to make for the files.
+    /// The folder to make for the recovered files.
     pub output: &'a str,
-    /// The sites that are lost.
+    /// The lost sites.
     pub loss: Loss,
     ghost workers_in_limits: { (1 ≤ workers) × (workers ≤ 64) },
     ghost cut_in_limits: { (1 ≤ cut) × (cut ≤ 1048576) },
 }
 
-/// Why the words ask for nothing.
+/// Why the words are no request.
 #[derive(Debug, Clone, Copy, PartialEq, Eq)]
 pub enum WordsFault {
-    /// Want of memory.
+    /// Out of memory.
     Memory,
-    /// They are no command.
+    /// They are not a command.
     Usage,
 }
 
-/// Reads the words, which are at least one.
+/// Reads the words, at least one.
 pub fn parse<'a>(alloc: Global, words: &'a [String]) -> Result<Request<'a>, WordsFault> {
     let command = match commands(alloc) {
         Ok(command) => command,
@@ -69,7 +69,7 @@ pub fn parse<'a>(alloc: Global, words: &'a [String]) -> Result<Request<'a>, Word
     }
 }
 
-/// Tells want of memory from words that are no command.
+/// Distinguishes out of memory from words that are not a command.
 fn words_fault(e: &clap::Error) -> WordsFault {
     if e.kind() == ErrorKind::OutOfMemory {
         WordsFault::Memory
@@ -82,9 +82,9 @@ fn words_fault(e: &clap::Error) -> WordsFault {
 #[derive(Clone, Copy)]
 enum ValueKind {
     Folder,
-    /// A number from the first to the second.
+    /// A number between two bounds, inclusive.
     Number(i64, i64),
-    /// An option with a number from the first to the second.
+    /// An option with a number between two bounds, inclusive.
     Setting(i64, i64),
     /// One or more sites, each a word.
     Sites,
@@ -143,14 +143,14 @@ fn command_of<'a>(
     Ok(command)
 }
 
-/// The arguments of `check`, if all are there.
+/// The arguments of `check`, if all are present.
 fn check_of<'a>(found: &ArgMatches<'a>) -> Option<Request<'a>> {
     let k = found.get_one::<u8>("k")?;
     let store = found.get_str("store")?;
     Some(Request::Check { k, store })
 }
 
-/// The arguments of `recover`, if all are there and within their limits.
+/// The arguments of `recover`, if all are present and within their bounds.
 fn recover_of<'a>(found: &ArgMatches<'a>) -> Option<Request<'a>> {
     let workers = found.get_one::<u32>("workers").unwrap_or(ONE_WORKER);
     let cut = found.get_one::<u32>("cut").unwrap_or(DEFAULT_CUT);
@@ -169,7 +169,7 @@ fn recover_of<'a>(found: &ArgMatches<'a>) -> Option<Request<'a>> {
     }))
 }
 
-/// The sites, if each is a site's number. One may stand more than once.
+/// The sites, if each is the number of a site. One may occur more than once.
 fn loss_of(found: &ArgMatches<'_>) -> Option<Loss> {
     let mut loss = Loss::none();
     for site in found.get_many::<u8>("sites")? {

@@ -1,4 +1,4 @@
-//! What survives of a small store, for the run without words.
+//! The survivors of a small store, for the run without words.
 use cs_delta::write_empty_delta;
 use cs_schema::FileName;
 use cs_schema::samples::TWO_ORDERS;
@@ -9,10 +9,10 @@ use std::alloc::{AllocError, Global};
 /// The catalog of a store of two projections on two sites.
 pub const CATALOG: &str = TWO_ORDERS;
 
-/// The site that is lost: that of the first projection.
+/// The lost site: that of the first projection.
 pub const LOST_SITE: u8 = 1;
 
-/// How many rows the store has.
+/// The number of rows of the store.
 const ROWS: u32 = 4;
 
 /// The code of a plain column and the kind of ints, as a segment's file names them.

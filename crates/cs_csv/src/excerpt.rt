@@ -1,4 +1,4 @@
-//! What a fault shows of a text.
+//! The part of a text that a fault shows.
 ghost use Rattle.std.specs.Prelude.{◌≡◌};
 ghost use Rattle.cs_csv.specs.Shown.{shown};
 
@@ -6,10 +6,10 @@ use arrayvec::ArrayVec;
 use std::fmt;
 use std::marker::Model;
 
-/// How many bytes of a text a fault shows at most.
+/// The maximum number of bytes shown.
 const SHOWN: usize = 40;
 
-/// The first bytes of a field. In words they are escaped, so that they stand on one line. A contract sees the bytes.
+/// The first bytes of a field. `Display` escapes them, so that they fit on one line. Contracts see the bytes.
 #[derive(Debug, Drop)]
 pub struct Excerpt {
     bytes: ArrayVec<u8, 40>,

@@ -1,4 +1,4 @@
-//! The header of a text: where the field of each column stands.
+//! The header of a text: which field belongs to which column.
 ghost use Rattle.std.specs.Prelude.{◌≡◌, ◌≢◌, ◌<◌, ◌≤◌, ℕ, length, slice_index, IfSome, IfNone, IfOk, IfErr, OnOk, true, false};
 ghost use Rattle.csv.specs.Records.{fields_of};
 ghost use Rattle.cs_csv.specs.Columns.{NamesDiffer, column};
@@ -23,7 +23,7 @@ fn name_of(columns: &[Column], c: usize) -> &[u8]
     column.name.as_str().as_bytes()
 }
 
-/// The number of the column of this name.
+/// The number of the column with this name.
 fn find_column(columns: &[Column], name: &[u8]) -> Option<usize>
     ensures found { IfSome result (λ c. (c < length columns.now) × ((column columns.now c).name ≡ name.now)) }
     ensures none { IfNone result ((c : ℕ) → c < length columns.now → (column columns.now c).name ≢ name.now) }
@@ -36,7 +36,7 @@ fn find_column(columns: &[Column], name: &[u8]) -> Option<usize>
     None
 }
 
-/// The place of the first field that is this name.
+/// The index of the first field with this name.
 fn find_field(header: &ByteRecord, name: &[u8]) -> Option<usize>
     ensures found { IfSome result (λ i. (i < length (fields_of header.now)) × (field (fields_of header.now) i ≡ name.now)) }
     ensures first { IfSome result (λ i. (j : ℕ) → j < i → field (fields_of header.now) j ≢ name.now) }
@@ -50,7 +50,7 @@ fn find_field(header: &ByteRecord, name: &[u8]) -> Option<usize>
     None
 }
 
-/// Whether a field is not the first of its name.
+/// Whether the field's name occurs before it.
 fn stands_before(header: &ByteRecord, place: usize) -> bool
     requires { place < length (fields_of header.now) }
     ensures yes { result ≡ true → (i : ℕ) × (i < place) × (field (fields_of header.now) i ≡ field (fields_of header.now) place) }
@@ -62,7 +62,7 @@ fn stands_before(header: &ByteRecord, place: usize) -> bool
     }
 }
 
-/// Checks that each field is a column's name, and the first that is.
+/// Checks that each field is the name of a column, and the first with that name.
 fn check_names(columns: &[Column], header: &ByteRecord) -> Result<(), CsvFault>
     ensures ok { OnOk result (AreNamesBefore columns.now (fields_of header.now) (length (fields_of header.now))) }
     ensures err { IfErr result (λ fault. IsHeaderFault columns.now (fields_of header.now) fault) }
@@ -81,7 +81,7 @@ fn check_names(columns: &[Column], header: &ByteRecord) -> Result<(), CsvFault>
     Ok(())
 }
 
-/// For each column its field of a header whose fields are names.
+/// For each column the index of its field, in a header whose fields are names of columns.
 fn find_places(
     alloc: Global,
     columns: &[Column],
@@ -103,7 +103,7 @@ fn find_places(
     Ok(places)
 }
 
-/// For each column its field of a header.
+/// For each column the index of its field in the header.
 pub(crate) fn read_header(
     alloc: Global,
     columns: &[Column],

@@ -1,4 +1,4 @@
-//! What the crate keeps as a whole.
+//! Laws of the crate.
 ghost use Rattle.std.specs.Prelude.{◌≡◌, map, IfOk, IfErr};
 ghost use Rattle.cs_schema.specs.Values.{values};
 ghost use Rattle.cs_csv.specs.Writing.{AreEven, row_count};
@@ -10,7 +10,7 @@ use crate::write::write_rows;
 use cs_schema::{Catalog, Cells};
 use std::alloc::Global;
 
-/// What `write_rows` writes, `read_rows` reads as the same rows, unless there are more than a table can have.
+/// `read_rows` reads what `write_rows` wrote as the same rows, unless there are more than a table can have.
 pub fn write_and_read(
     alloc: Global,
     catalog: &Catalog,

@@ -1,4 +1,4 @@
-//! The rows of a table, read from CSV and written as CSV.
+//! The rows of a table, read from CSV and written as CSV (RFC 4180).
 #![tactic(auto)]
 
 mod columns;

@@ -1,4 +1,4 @@
-//! The rows of a table from CSV.
+//! Reading a table's rows from CSV.
 ghost use Rattle.std.specs.Prelude.{◌≡◌, ◌<◌, ◌≤◌, ◌+◌, ℕ, List, Option, [], ◌∷◌, ◌++◌, length, slice_index, IfOk, IfErr, OnOk, Ok, true, false};
 ghost use Rattle.csv.specs.Records.{fields_of};
 ghost use Rattle.cs_schema.specs.CatalogData.{ColumnData};
@@ -21,10 +21,11 @@ use csv::{ByteRecord, Reader};
 use std::alloc::Global;
 use std::io::Read;
 
-/// How many rows a table has at most: every projection has 16 ranges at most, each of at most 1,048,576 rows.
+/// The maximum number of rows of a table: a projection has at most 16 segments of at most 1,048,576 rows.
 const MOST_ROWS: u64 = 16_777_216;
 
-/// Reads record `n` after the header into columns, whose fields stand at these places, and says whether there was one.
+/// Appends record `n` after the header to the columns, given the index of each column's field, and says whether there
+/// was one.
 fn read_row<R: Read>(
     alloc: Global,
     records: &mut Reader<R>,
@@ -65,7 +66,7 @@ fn read_row<R: Read>(
     }
 }
 
-/// Reads the records after a header into columns.
+/// Appends the records after the header to the columns.
 fn read_body<R: Read>(
     alloc: Global,
     records: &mut Reader<R>,
@@ -90,7 +91,7 @@ fn read_body<R: Read>(
     unreachable!()
 }
 
-/// Reads the header: for each column the place of its field.
+/// Reads the header: for each column the index of its field.
 fn read_places<R: Read>(
     alloc: Global,
     columns: &[Column],
@@ -111,7 +112,7 @@ fn read_places<R: Read>(
     read_header(alloc, columns, row)
 }
 
-/// Reads a table's rows from records of which none was read.
+/// Reads a table's rows from a reader at its start.
 fn read_table<R: Read>(
     alloc: Global,
     columns: &[Column],
@@ -137,7 +138,7 @@ fn read_table<R: Read>(
     }
 }
 
-/// The columns of a table from a text whose first record names each column once.
+/// The columns of a table, from a text whose header names each column once.
 fn read_columns<R: Read + Drop>(
     alloc: Global,
     columns: &[Column],
@@ -153,14 +154,14 @@ fn read_columns<R: Read + Drop>(
     read_table(alloc, columns, &mut records, &mut row)
 }
 
-/// The rows of a catalog's table, column by column, from a text whose first record names each column once, in any order.
+/// The rows of a catalog's table, column by column, from a text whose header names each column once, in any order.
 ///
-/// A byte order mark is skipped, and so are empty lines. Each record after the header has a cell for each column: an int
-/// as `i64`'s `FromStr` takes it, or UTF-8 of at most 255 bytes. There are at most 16,777,216 of them.
+/// A byte order mark and empty lines are skipped. Each record after the header has a cell for each column: an int as
+/// `i64`'s `FromStr` accepts it, or UTF-8 of at most 255 bytes. There are at most 16,777,216 records.
 ///
-/// Of several faults that of the least record comes: in the header that of the first field that is no column's name or names
-/// one again, and else the first column without a name; in a record after it its number of fields, and else the first column
-/// whose field is no cell. `Memory` and `Device` may take the place of any answer.
+/// Of several faults, that of the first record is answered. In the header: the first field that is not the name of a
+/// column or repeats one, otherwise the first column without a field. In a later record: its number of fields,
+/// otherwise the first column whose field is not a cell. `Memory` and `Device` may take the place of any answer.
 pub fn read_rows<R: Read + Drop>(
     alloc: Global,
     catalog: &Catalog,

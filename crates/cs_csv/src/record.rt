@@ -1,4 +1,4 @@
-//! From the fields of a record to cells.
+//! Cells from the fields of a record.
 ghost use Rattle.std.specs.Prelude.{◌≡◌, ◌<◌, ℕ, [], ◌∷◌, ◌++◌, length, slice_index, OnOk, IfErr};
 ghost use Rattle.csv.specs.Records.{fields_of};
 ghost use Rattle.cs_schema.specs.Values.{kind_of, values};
@@ -11,7 +11,7 @@ use cs_schema::Cells;
 use csv::ByteRecord;
 use std::str;
 
-/// The field of a record at a place.
+/// The field of a record at an index.
 pub(crate) fn field_at(row: &ByteRecord, place: usize) -> &[u8]
     requires { place < length (fields_of row.now) }
     ensures { result.now ≡ field (fields_of row.now) place }
@@ -22,7 +22,7 @@ pub(crate) fn field_at(row: &ByteRecord, place: usize) -> &[u8]
     }
 }
 
-/// Adds the cell that a field is.
+/// Appends the cell that a field is.
 fn push_field(text: &[u8], cells: &mut Cells) -> Result<(), FieldFault>
     ensures kind { kind_of cells.new ≡ kind_of cells.old }
     ensures fits { OnOk result (IsCellOf (kind_of cells.old) text.now) }
@@ -61,7 +61,7 @@ fn push_field(text: &[u8], cells: &mut Cells) -> Result<(), FieldFault>
     Ok(())
 }
 
-/// Adds the cells that the fields of a record are: each column's field stands at its place.
+/// Appends the cells of a record, given the index of each column's field.
 pub(crate) fn push_record(
     row: &ByteRecord,
     places: &[usize],

@@ -1,11 +1,10 @@
-//! Faults of a text in words.
+//! Descriptions of faults of a CSV text.
 
 use crate::fault::CsvFault;
 use cs_schema::Catalog;
 use std::fmt;
 
-/// A fault of a text for the table of this catalog, as one line without its end: the record, the column, and what is wrong.
-/// The header is record 0.
+/// Displays a fault as one line without its end: the record, the column, and what is wrong. The header is record 0.
 #[derive(Clone, Copy)]
 pub struct CsvWords<'a> {
     pub catalog: &'a Catalog,
@@ -42,7 +41,7 @@ impl CsvWords<'_> {
         }
     }
 
-    /// What is wrong with the record of this number.
+    /// What is wrong with record number `n`.
     fn write_record<W: fmt::Write>(
         &self,
         f: &mut fmt::Formatter<W>,
@@ -54,7 +53,7 @@ impl CsvWords<'_> {
         self.write_cell(f)
     }
 
-    /// A record of another width than the table's.
+    /// A record whose width is not the table's.
     fn write_width<W: fmt::Write>(
         &self,
         f: &mut fmt::Formatter<W>,

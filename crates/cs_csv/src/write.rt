@@ -1,4 +1,4 @@
-//! The rows of a table as CSV.
+//! Writing a table's rows as CSV.
 ghost use Rattle.std.specs.Prelude.{◌≡◌, ◌<◌, ℕ, [], ◌∷◌, ◌++◌, length, IfOk, IfErr, OnOk};
 ghost use Rattle.std.specs.Io.KnownBytes.{Appends};
 ghost use Rattle.csv.specs.Records.{fields_of, partial_of};
@@ -16,7 +16,7 @@ use itoa::Buffer;
 use std::alloc::{AllocError, Global};
 use std::io::Write;
 
-/// Adds a cell as a field.
+/// Appends a cell as a field.
 fn push_cell(row: &mut ByteRecord, cells: &Cells, n: usize) -> Result<(), AllocError>
     requires there { n < length (values cells.now) }
     requires whole { partial_of row.old ≡ [] }
@@ -92,7 +92,7 @@ fn write_body<W: Write + Drop>(
     Ok(())
 }
 
-/// How many rows columns have.
+/// The number of rows of the columns.
 fn count_rows(cells: &[Cells]) -> usize
     ensures { result ≡ row_count cells.now }
 {
@@ -124,7 +124,7 @@ fn write_table<W: Write + Drop>(
     write_body(writer, &mut row, cells, count_rows(cells))
 }
 
-/// Writes the names of columns as a header, and then their rows.
+/// Writes the names of columns as a header, then their rows.
 fn write_columns<W: Write + Drop>(
     alloc: Global,
     columns: &[Column],
@@ -146,7 +146,7 @@ fn write_columns<W: Write + Drop>(
     }
 }
 
-/// Writes the names of a catalog's columns as a header, and then their rows in the order given.
+/// Writes the names of a catalog's columns as a header, then the rows in the given order.
 pub fn write_rows<W: Write + Drop>(
     alloc: Global,
     catalog: &Catalog,

@@ -16,11 +16,11 @@ pub(crate) fn safe_with(catalog: &Catalog, lost: Loss, loss: Loss) -> bool
     safe(catalog, either(lost, loss))
 }
 
-/// The losses of further sites that must not come, beside what is `lost` already: each is unsafe together with it, none
-/// holds another, and every loss that is unsafe together with it holds one of them. In the order of losses: fewer sites
-/// first, then number by number. Where `lost` itself is unsafe it is the empty loss alone.
+/// The minimal losses of further sites that would be fatal besides what is `lost` already: each is unsafe together with
+/// it, none contains another, and every loss that is unsafe together with it contains one of them. Fewer sites come
+/// first, then by site numbers. If `lost` itself is unsafe, the empty loss alone.
 ///
-/// Tries each loss of further sites that holds none found before it, 65,536 at most.
+/// Tries each loss of further sites that contains none of those found before, at most 65,536.
 pub fn fatal_losses(alloc: Global, catalog: &Catalog, lost: Loss) -> Result<Vec<Loss>, AllocError>
     ensures { IfOk result (λ fatal. AreFatalLosses catalog.now lost fatal.items) }
 {

@@ -1,4 +1,4 @@
-//! How many sites may fail, whatever they are.
+//! How many sites may fail, whichever they are.
 ghost use Rattle.std.specs.Prelude.{◌≡◌, ℕ, ◌+◌, ◌<◌, ◌≤◌, IsTrue, MatchBool};
 ghost use Rattle.cs_schema.specs.Lists.{member};
 ghost use Rattle.cs_design.specs.Fatal.{IsGreatestK};
@@ -9,7 +9,8 @@ use crate::order::site_count;
 use cs_safety::safe;
 use cs_schema::{Catalog, Loss};
 
-/// Whether some loss that adds `count` sites from `from` on to the chosen ones is unsafe, with what is lost already.
+/// Whether some loss that adds `count` sites, from `from` on, to the chosen ones is unsafe together with what is lost
+/// already.
 fn has_unsafe(catalog: &Catalog, lost: Loss, chosen: Loss, from: u8, count: u8) -> bool
     requires low { 1 ≤ from }
     requires high { from ≤ catalog.now.sites + 1 }
@@ -27,8 +28,8 @@ fn has_unsafe(catalog: &Catalog, lost: Loss, chosen: Loss, from: u8, count: u8) 
     false
 }
 
-/// The greatest number such that every loss of at most so many sites is safe together with what is `lost` already; none
-/// where that is unsafe itself. Takes no memory.
+/// The greatest number such that every loss of at most that many sites is safe together with what is `lost` already;
+/// `None` if that is unsafe itself. Does not allocate.
 pub fn greatest_k(catalog: &Catalog, lost: Loss) -> Option<u8>
     ensures { IsGreatestK catalog.now lost result }
 {

@@ -1,7 +1,8 @@
-//! What a catalog alone says of losses: which further sites must not fail, how many of any may, and what stands on each.
+//! What a catalog alone says about losses: which further sites must not fail, how many of any may, and which files each
+//! has.
 //!
-//! An operator asks it of a layout before a row is stored, and of a store that has lost sites already: there a loss
-//! counts together with what is lost.
+//! Use it on a layout before any row is stored, and on a store that has lost sites: a loss then counts together with
+//! what is lost already.
 #![tactic(auto)]
 
 mod fatal;

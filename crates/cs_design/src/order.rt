@@ -1,4 +1,4 @@
-//! The losses of a catalog, in their order: fewer sites first, then number by number.
+//! The losses of a catalog in their order: fewer sites first, then by site numbers.
 ghost use Rattle.std.specs.Prelude.{◌≡◌, ℕ, ◌+◌, ◌<◌, ◌≤◌, ◌++◌, IsTrue, IfOk, OnOk};
 ghost use Rattle.cs_schema.specs.Lists.{member};
 ghost use Rattle.cs_schema.specs.CatalogRules.{IsCatalog};
@@ -7,7 +7,7 @@ ghost use Rattle.cs_design.specs.Order.{losses_from, AreAllLosses};
 use cs_schema::{Catalog, Loss};
 use std::alloc::{AllocError, Global};
 
-/// Adds the losses that add `count` sites from `from` on to the chosen ones.
+/// Appends the losses that add `count` sites, from `from` on, to the chosen ones.
 fn add_losses(
     losses: &mut Vec<Loss>,
     sites: u8,
@@ -31,7 +31,7 @@ fn add_losses(
     Ok(())
 }
 
-/// The losses of at most so many of the catalog's sites.
+/// The losses of at most `at_most` of the catalog's sites.
 pub fn all_losses(alloc: Global, catalog: &Catalog, at_most: u8) -> Result<Vec<Loss>, AllocError>
     requires { at_most ≤ 16 }
     ensures { IfOk result (λ losses. AreAllLosses catalog.now at_most losses.items) }

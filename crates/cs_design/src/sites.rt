@@ -1,4 +1,4 @@
-//! What stands on a site.
+//! The files of a site.
 ghost use Rattle.std.specs.Prelude.{ℕ, ◌≡◌, ◌≤◌, ◌==◌, not, IfOk};
 ghost use Rattle.cs_schema.specs.Lists.{member};
 ghost use Rattle.cs_design.specs.Fatal.{AreFilesOfSite};
@@ -7,7 +7,7 @@ use crate::order::site_count;
 use cs_schema::{Catalog, FileName, Loss};
 use std::alloc::{AllocError, Global};
 
-/// All of the sites but one.
+/// All sites but one.
 fn all_but(sites: u8, site: u8) -> Loss
     requires { sites ≤ 16 }
     ensures { (x : ℕ) → 1 ≤ x → x ≤ sites → member result x ≡ not (x == site) }
@@ -21,7 +21,7 @@ fn all_but(sites: u8, site: u8) -> Loss
     loss
 }
 
-/// The names of the files that stand on a site, in their order: what survives the loss of all other sites.
+/// The names of a site's files, in their order: what survives the loss of all other sites.
 pub fn files_of_site(
     alloc: Global,
     catalog: &Catalog,

@@ -1,11 +1,11 @@
-//! Losses as sets: within another, apart from another, and together with another.
+//! Losses as sets: contained in another, sharing a site, united.
 ghost use Rattle.std.specs.Prelude.{◌≡◌, ◌↔◌, IsTrue, MatchBool};
 ghost use Rattle.cs_safety.specs.Within.{IsWithin};
 ghost use Rattle.cs_design.specs.Fatal.{either, HoldsOne, SharesSite, IsApart};
 
 use cs_schema::Loss;
 
-/// Whether each site of a loss is one of another.
+/// Whether a loss is contained in another.
 pub fn is_within(loss: Loss, other: Loss) -> bool
     ensures { IsTrue result ↔ IsWithin loss other }
 {
@@ -17,7 +17,7 @@ pub fn is_within(loss: Loss, other: Loss) -> bool
     true
 }
 
-/// Whether some site is in both losses.
+/// Whether two losses share a site.
 pub fn shares_site(loss: Loss, other: Loss) -> bool
     ensures { MatchBool result (SharesSite loss other) (IsApart loss other) }
 {
@@ -29,7 +29,7 @@ pub fn shares_site(loss: Loss, other: Loss) -> bool
     false
 }
 
-/// Whether a loss holds one of these.
+/// Whether a loss contains one of these.
 pub fn holds_one(losses: &[Loss], loss: Loss) -> bool
     ensures { IsTrue result ↔ HoldsOne losses.now loss }
 {
@@ -41,7 +41,7 @@ pub fn holds_one(losses: &[Loss], loss: Loss) -> bool
     false
 }
 
-/// The sites of either loss.
+/// The union of two losses.
 pub fn either(first: Loss, second: Loss) -> Loss
     ensures { result ≡ either first second }
 {

@@ -9,7 +9,7 @@ use std::alloc::AllocError;
 use std::marker::Sync;
 use std::thread::Threads;
 
-/// The table to which the survivors of a loss lead, in its orders, and with what it is in conflict.
+/// The table to which the survivors of a loss lead, with its orders and its conflicts.
 #[derive(Drop)]
 pub struct Candidate<'a> {
     pub store: OrderedStore<'a>,
@@ -22,8 +22,8 @@ impl Candidate<'_> {
     ghost use Rattle.cs_recovery.specs.Columns.{AreColumnsOf};
     ghost use Rattle.cs_rebuild.specs.OnStore.{table_on};
 
-    /// The rows of the table by primary key, as a column of cells for each column of the table. Its orders are let go of first,
-    /// and what was walked of a column once it is copied.
+    /// The rows of the table by primary key: a column of cells for each column of the table. Its orders are freed
+    /// first, and each walked column once it is copied.
     pub fn columns<R: Threads + Sync, G>(
         self,
         run: &Run<'_, R, G>,

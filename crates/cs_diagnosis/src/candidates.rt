@@ -17,7 +17,7 @@ use std::alloc::AllocError;
 use std::marker::Sync;
 use std::thread::Threads;
 
-/// A store as far as it survives a first loss: what was read of it once, for all losses around that one.
+/// A store as far as it survives a first loss: it is read once, for all losses that contain that one.
 #[derive(Drop)]
 pub struct Remains<'a> {
     pub catalog: &'a Catalog,
@@ -27,7 +27,7 @@ pub struct Remains<'a> {
     pub ghost rules: { IsCatalog catalog.now } by { IsCatalog-prop catalog.now },
 }
 
-/// The table to which the survivors of a safe loss lead, with its conflicts; or none, where they lead to no table.
+/// The table to which the survivors of a safe loss lead, with its conflicts; `None` if they lead to no table.
 pub fn find_candidate<'a, R: Threads + Sync, G: Gate + Sync>(
     run: &Run<'_, R, G>,
     remains: &Remains<'a>,

@@ -7,7 +7,7 @@ ghost use Rattle.cs_diagnosis.specs.Next.{IsNext};
 use cs_schema::{Catalog, Cells};
 use std::cmp::Ordering;
 
-/// How many rows a table has.
+/// The number of rows of a table.
 pub fn row_count(catalog: &Catalog, columns: &[Cells]) -> usize
     requires { IsTableIn catalog.now columns.now }
     ensures { result ≡ count_of columns.now }
@@ -25,7 +25,7 @@ fn key_column(catalog: &Catalog) -> usize
     catalog.key as usize
 }
 
-/// How the keys of two rows stand to each other.
+/// Compares the keys of two rows.
 fn key_order(catalog: &Catalog, first: &[Cells], i: usize, second: &[Cells], j: usize) -> Ordering
     requires first { IsTableIn catalog.now first.now }
     requires second { IsTableIn catalog.now second.now }
@@ -37,7 +37,7 @@ fn key_order(catalog: &Catalog, first: &[Cells], i: usize, second: &[Cells], j: 
     first[key].compare_cell(i, &second[key], j)
 }
 
-/// Which of two tables has the next key, from a place in each.
+/// Which of two tables has the next key, from an index in each.
 pub fn next_of(catalog: &Catalog, first: &[Cells], i: usize, second: &[Cells], j: usize) -> Ordering
     requires first { IsTableIn catalog.now first.now }
     requires second { IsTableIn catalog.now second.now }
@@ -53,7 +53,7 @@ pub fn next_of(catalog: &Catalog, first: &[Cells], i: usize, second: &[Cells], j
     key_order(catalog, first, i, second, j)
 }
 
-/// Whether two tables have the same row at these places.
+/// Whether two tables have the same row at these indices.
 pub fn same_row(catalog: &Catalog, first: &[Cells], i: usize, second: &[Cells], j: usize) -> bool
     requires first { IsTableIn catalog.now first.now }
     requires second { IsTableIn catalog.now second.now }

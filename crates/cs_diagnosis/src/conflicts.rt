@@ -4,11 +4,12 @@ ghost use Rattle.cs_diagnosis.specs.Pairs.{AreKeptOnce};
 use cs_design::within::is_within;
 use cs_schema::Loss;
 
-/// With which pairs of sites a table is in conflict: a loss that is accepted with it has a site of each.
+/// The pairs of sites with which a table is in conflict. A loss that is accepted with the table contains a site of
+/// each.
 #[derive(Clone, Copy)]
 pub struct Conflicts {
-    /// For each site from 1 to 16 those from it on with whose files its own are in conflict: itself where one of its files
-    /// contradicts the table alone. So each pair is kept once, and there are 136 at most.
+    /// For each site from 1 to 16, the sites from it on that conflict with it: itself if one of its files contradicts
+    /// the table alone. So each pair is stored once; there are at most 136.
     pub with: [Loss; 16],
     pub ghost once: { AreKeptOnce with },
 }
@@ -28,7 +29,7 @@ impl Conflicts {
         }
     }
 
-    /// These conflicts, and one of two sites or of a single one.
+    /// These conflicts and one more, of two sites or of a single one.
     pub(crate) fn with_pair(&self, first: u8, second: u8) -> Self
         requires first { (1 ≤ first) × (first ≤ 16) }
         requires second { (1 ≤ second) × (second ≤ 16) }
@@ -45,7 +46,7 @@ impl Conflicts {
         Conflicts { with }
     }
 
-    /// Whether a loss has a site of each conflict.
+    /// Whether a loss contains a site of each conflict.
     pub fn are_hit(&self, loss: Loss) -> bool
         ensures { IsTrue result ↔ AreAllHit self.now loss }
     {

@@ -31,18 +31,18 @@ use std::thread::Threads;
 pub struct Diagnosis {
     /// The bad files, in the order of their names.
     pub bad: Vec<(FileName, Badness)>,
-    /// Their sites: each explanation holds them.
+    /// Their sites. Each explanation contains them.
     pub forced: Loss,
-    /// How many sites a loss has that was tried, and for how many changed sites that is certain.
+    /// The number of sites of the losses that were tried, and the number of changed sites for which that is certain.
     pub reach: Reach,
-    /// The least accepted losses, fewest sites first, each with the place of its table.
+    /// The minimal accepted losses, fewest sites first, each with the index of its table.
     pub explanations: Vec<Explanation>,
-    /// The tables of the explanations, no two of them equal, as they first come.
+    /// The distinct tables of the explanations, in the order in which they were found.
     pub tables: Vec<FoundTable>,
     pub verdict: Verdict,
 }
 
-/// What explains a store of which the bad files are known, and the others were read.
+/// The explanations of a store whose bad files are known and whose other files were read.
 fn diagnose_read<R: Threads + Sync, G: Progress + Sync>(
     run: &Run<'_, R, G>,
     remains: &Remains<'_>,
@@ -69,7 +69,7 @@ fn diagnose_read<R: Threads + Sync, G: Progress + Sync>(
     }
 }
 
-/// What explains a store of which the bad files are known.
+/// The explanations of a store whose bad files are known.
 fn diagnose_bad<R: Threads + Sync, G: Progress + Sync>(
     run: &Run<'_, R, G>,
     catalog: &Catalog,
@@ -98,8 +98,8 @@ fn diagnose_bad<R: Threads + Sync, G: Progress + Sync>(
     }
 }
 
-/// What is wrong with a store of which every file beside the missing ones' sites is good, and was read: only the files of these
-/// sites are looked at once more.
+/// The diagnosis of a store whose files are all good and read, except those of the sites with missing files: only the
+/// files of these sites are inspected again.
 fn diagnose_beside<R: Threads + Sync, G: Progress + Sync>(
     run: &Run<'_, R, G>,
     remains: &Remains<'_>,
@@ -120,10 +120,11 @@ fn diagnose_beside<R: Threads + Sync, G: Progress + Sync>(
     }
 }
 
-/// What is wrong with a store: its bad files, which losses of at most so many sites explain the rest, and whether these agree
-/// on one table. Without a number, losses of as many sites are tried as are certain to tell it, and of one at least.
+/// Diagnoses a store: its bad files, the losses of at most `at_most` sites that explain the rest, and whether these
+/// agree on one table. Without a number, losses of as many sites are tried as can be told with certainty, and of at
+/// least one.
 ///
-/// No file stands under an unreadable name.
+/// No unreadable name is among the files.
 pub fn diagnose<R: Threads + Sync, G: Progress + Sync>(
     run: &Run<'_, R, G>,
     catalog: &Catalog,
@@ -153,7 +154,7 @@ pub fn diagnose<R: Threads + Sync, G: Progress + Sync>(
     }
 }
 
-/// Diagnoses a store with a damaged file: each file is looked at by itself.
+/// Diagnoses a store with a damaged file: each file is inspected by itself.
 fn diagnose_damaged<R: Threads + Sync, G: Progress + Sync>(
     run: &Run<'_, R, G>,
     catalog: &Catalog,

@@ -11,7 +11,7 @@ use crate::{Disputes, find_disputes};
 use cs_schema::Catalog;
 use std::alloc::{AllocError, Global};
 
-/// Where two tables of a diagnosis differ: the places of the tables, and rows by theirs.
+/// Where two tables of a diagnosis differ: the indices of the tables, and the rows by theirs.
 #[derive(Drop)]
 pub struct TableDisputes {
     pub first: usize,
@@ -43,7 +43,7 @@ fn disputes_of(
     )
 }
 
-/// Adds where a table differs from one before it.
+/// Appends where a table differs from each one before it.
 fn add_disputes(
     found: &mut Vec<TableDisputes>,
     catalog: &Catalog,
@@ -68,7 +68,7 @@ fn add_disputes(
     Ok(())
 }
 
-/// Where each two tables of a diagnosis differ: how many rows, and at most so many of them, the first by key.
+/// Where any two tables of a diagnosis differ: the number of rows, and at most `at_most` of them, the first by key.
 pub fn disputed_rows(
     alloc: Global,
     catalog: &Catalog,

@@ -1,4 +1,4 @@
-//! Which losses are explained by those that were found.
+//! Which losses the known explanations cover.
 ghost use Rattle.std.specs.Prelude.{◌↔◌, IsTrue};
 ghost use Rattle.cs_safety.specs.Within.{IsWithin};
 ghost use Rattle.cs_diagnosis.specs.Findings.{IsExplained, IsFound};
@@ -7,7 +7,7 @@ use crate::findings::Explanation;
 use cs_design::within::is_within;
 use cs_schema::Loss;
 
-/// Whether some explanation lies within a loss.
+/// Whether a loss contains some explanation.
 pub fn is_explained(found: &[Explanation], loss: Loss) -> bool
     ensures { IsTrue result ↔ IsExplained found.now loss }
 {

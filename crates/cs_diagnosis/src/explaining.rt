@@ -1,4 +1,4 @@
-//! The search for what explains a store: its files say which losses are accepted.
+//! The search for explanations: a store's files say which losses are accepted.
 ghost use Rattle.std.specs.Prelude.{◌≡◌, ◌≤◌, ◌++◌, ◌∷◌, [], IfOk, OnOk, Option};
 ghost use Rattle.cs_schema.specs.FileNames.{FileContents};
 ghost use Rattle.cs_schema.specs.Rows.{IsTable};
@@ -28,7 +28,7 @@ use std::alloc::AllocError;
 use std::marker::Sync;
 use std::thread::Threads;
 
-/// Keeps a loss that explains the store by a table that was found before.
+/// Adds a loss that explains the store by a known table.
 fn keep_known(
     findings: &mut Findings<FoundTable>,
     loss: Loss,
@@ -40,7 +40,7 @@ fn keep_known(
     Ok(())
 }
 
-/// Keeps a loss that explains the store by a table that wasn't found before, and the conflicts of that table.
+/// Adds a loss that explains the store by a new table, and the conflicts of that table.
 fn keep_new(
     findings: &mut Findings<FoundTable>,
     known: &mut Known,
@@ -71,8 +71,8 @@ fn table_of<R: Threads + Sync, G>(
     }
 }
 
-/// Walks what survives a loss, and keeps what came of its plan: where the loss is accepted, it explains the store by a table that
-/// wasn't found before.
+/// Walks what survives a loss and stores the result for its plan. If the loss is accepted, it explains the store by a
+/// new table.
 fn walk_loss<R: Threads + Sync, G: Progress + Sync>(
     findings: &mut Findings<FoundTable>,
     known: &mut Known,
@@ -108,8 +108,8 @@ fn walk_loss<R: Threads + Sync, G: Progress + Sync>(
     }
 }
 
-/// Tries one loss: where it is accepted, it is a new explanation. It is walked only where no table that was found tells, and
-/// nothing that came of its plan.
+/// Tries one loss. If it is accepted, it is a new explanation. It is walked only if neither a known table nor the
+/// result of its plan decides.
 fn try_loss<R: Threads + Sync, G: Progress + Sync>(
     findings: &mut Findings<FoundTable>,
     known: &mut Known,
@@ -137,8 +137,8 @@ fn try_loss<R: Threads + Sync, G: Progress + Sync>(
     }
 }
 
-/// Every explanation of at most so many sites, in the order of losses, each with the place of its table, by what was read of
-/// the files that survive the loss of the forced sites.
+/// Each explanation of at most `at_most` sites, in the order of losses, with the index of its table, by what was read
+/// of the files that survive the loss of the forced sites.
 pub fn explain<R: Threads + Sync, G: Progress + Sync>(
     run: &Run<'_, R, G>,
     remains: &Remains<'_>,

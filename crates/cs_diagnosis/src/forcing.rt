@@ -1,4 +1,4 @@
-//! The sites that every accepted loss holds: those of the bad files.
+//! The sites that every accepted loss contains: those of the bad files.
 ghost use Rattle.std.specs.Prelude.{◌≡◌, ℕ, ◌↔◌, IsTrue};
 ghost use Rattle.cs_schema.specs.CatalogRules.{IsCatalog};
 ghost use Rattle.cs_schema.specs.FileNames.{HasName};
@@ -11,7 +11,7 @@ ghost use Rattle.cs_diagnosis.specs.Forced.{IsBadSite};
 use cs_inspection::Badness;
 use cs_schema::{Catalog, FileName, Loss};
 
-/// The site on which a file stands.
+/// The site of a file.
 fn site_of(catalog: &Catalog, name: FileName) -> u8
     requires { HasName catalog.now name }
     ensures site { result ≡ site_of catalog.now name }
@@ -20,7 +20,7 @@ fn site_of(catalog: &Catalog, name: FileName) -> u8
     catalog.projection(name.projection()).sites[name.segment() as usize]
 }
 
-/// The sites on which bad files stand.
+/// The sites of bad files.
 pub fn bad_sites(catalog: &Catalog, bad: &[(FileName, Badness)]) -> Loss
     requires { (b : NameData × BadnessData) → IsIn b bad.now → HasName catalog.now b.0 }
     ensures { (x : ℕ) → IsTrue (member result x) ↔ IsBadSite catalog.now bad.now x }

@@ -7,7 +7,7 @@ ghost use Rattle.cs_diagnosis.specs.Conflicts.{AreAllHit};
 use crate::conflicts::Conflicts;
 use cs_schema::Loss;
 
-/// These conflicts and those of a file, by the site on which it stands.
+/// These conflicts and those of a file, given its site.
 fn with_file(conflicts: &Conflicts, site: u8, others: Loss) -> Conflicts
     requires { (1 ≤ site) × (site ≤ 16) }
     ensures { (L : Sites) → AreAllHit result L ↔ (AreAllHit conflicts.now L × IsHit L (site, others)) }

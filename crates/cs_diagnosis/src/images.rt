@@ -28,7 +28,7 @@ fn image_conflict<R: Threads>(rt: &R, store: &OrderedStore<'_>, p: u16, s: u16) 
     }
 }
 
-/// The comparing of some images with the table's rows.
+/// Compares some images with the table's rows.
 #[derive(Drop)]
 struct ImagesWork<'a, R> {
     rt: &'a R,
@@ -59,7 +59,7 @@ impl<R: Threads> Tasks for ImagesWork<'_, R> {
     ghost one_fault = { λ work i f g below a b. a ∙ sym b };
 }
 
-/// The conflicts of each of some images.
+/// The conflicts of each of these images.
 pub fn images_conflicts<R: Threads + Sync, G: Gate + Sync>(
     run: &Run<'_, R, G>,
     store: &OrderedStore<'_>,

@@ -21,8 +21,8 @@ use std::alloc::AllocError;
 use std::marker::Sync;
 use std::thread::Threads;
 
-/// With which site the entry at a key is in conflict, if with any: with that of the row's segment where its key is another
-/// one, with its own where no key would do.
+/// The site with which the entry at a key conflicts, if any: that of the row's segment if its key is another one, its
+/// own if no key would do.
 fn key_conflict(entries: &Entries<'_>, site: u8, entry: (u16, u32), key: u32) -> Option<u8>
     requires survives { Survives entries.now.store.now.catalog.now entries.now.store.now.loss (NameData.Jix entries.now.p entries.now.s entries.now.q) }
     requires site { site ≡ site_of entries.now.store.now.catalog.now (NameData.Seg entries.now.p entries.now.s) }
@@ -63,7 +63,7 @@ fn join_conflict(store: &OrderedStore<'_>, p: u16, s: u16, q: u16) -> (u8, Loss)
     }
 }
 
-/// The sites with which the entries of a join index are in conflict.
+/// The sites with which the entries of a join index conflict.
 fn others_of(store: &OrderedStore<'_>, p: u16, s: u16, q: u16, join: &JoinIndex, site: u8) -> Loss
     requires survives { Survives store.now.catalog.now store.now.loss (NameData.Jix p s q) }
     requires join { join.now ≡ (held_on store.now).join p s q }
@@ -92,7 +92,7 @@ fn others_of(store: &OrderedStore<'_>, p: u16, s: u16, q: u16, join: &JoinIndex,
     others
 }
 
-/// The comparing of some join indexes with the places of the table's rows.
+/// Compares some join indexes with the places of the table's rows.
 #[derive(Drop)]
 struct JoinsWork<'a> {
     store: &'a OrderedStore<'a>,
@@ -122,7 +122,7 @@ impl Tasks for JoinsWork<'_> {
     ghost one_fault = { λ work i f g below a b. a ∙ sym b };
 }
 
-/// The conflicts of each of some join indexes.
+/// The conflicts of each of these join indexes.
 pub fn joins_conflicts<R: Threads + Sync, G: Gate + Sync>(
     run: &Run<'_, R, G>,
     store: &OrderedStore<'_>,

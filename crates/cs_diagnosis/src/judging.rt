@@ -1,4 +1,4 @@
-//! One pass over all files for the conflicts of a table.
+//! One pass over all files that finds the conflicts of a table.
 ghost use Rattle.std.specs.Prelude.{IfOk};
 ghost use Rattle.cs_schema.specs.FileNames.{FileContents};
 ghost use Rattle.cs_rebuild.specs.OnStore.{table_on};

@@ -13,7 +13,7 @@ use crate::walks::Walks;
 use cs_schema::Loss;
 use std::alloc::Global;
 
-/// What is known while losses are tried: the conflicts of each table that was found, and what plans came to.
+/// What is known while losses are tried: the conflicts of each table that was found, and the results of plans.
 #[derive(Drop)]
 pub struct Known {
     pub conflicts: Vec<Conflicts>,
@@ -31,7 +31,7 @@ impl Known {
         }
     }
 
-    /// The place of a table that what survives a loss holds, among those that were found.
+    /// The index of a known table that the survivors of a loss hold.
     pub fn table_of(&self, loss: Loss) -> Option<usize>
         ensures { MatchOption result ((n : ℕ) (c : ConflictsData) → slice_get self.now.conflicts.items n ≡ Some c → ¬ AreAllHit c loss)
             (λ n. (c : ConflictsData) × (slice_get self.now.conflicts.items n ≡ Some c) × AreAllHit c loss) }

@@ -1,13 +1,13 @@
-//! What explains a store that may be broken: which files are bad, which losses of sites explain the rest, whether these agree
-//! on one table, and where two tables differ.
+//! What explains a store that may be broken: which files are bad, which losses of sites explain the rest, whether these
+//! agree on one table, and where two tables differ.
 //!
-//! A loss is accepted if it is safe and what survives it holds a table; an accepted loss of which no smaller part is
-//! accepted explains the store. If files were changed under valid digests, it is the sites that lie that explain it.
+//! A loss is accepted if it is safe and what survives it holds a table. A minimal accepted loss explains the store. If
+//! files were changed under valid digests, the explanation is the sites that lie.
 //!
-//! The survivors of a loss are read once. Every larger loss is then judged by them: those it leaves are walked to the rows of
-//! a table, and one pass over all files finds with which pairs of sites that table is in conflict. From then on a loss is
-//! accepted with the table exactly if it has a site of each of these pairs, and no file is looked at again. Of 16 sites there
-//! are 136 pairs at most, those of a site with itself among them, however many files are in conflict.
+//! The survivors of a loss are read once, and every larger loss is judged by them: what it leaves is walked to the rows
+//! of a table, and one pass over all files finds the pairs of sites with which that table is in conflict. From then on
+//! a loss is accepted with the table exactly if it contains a site of each of these pairs, and no file is read again.
+//! 16 sites have at most 136 pairs, a site with itself included, however many files are in conflict.
 #![tactic(auto)]
 
 mod absent;

@@ -10,21 +10,21 @@ use cs_schema::{Catalog, Cells};
 use std::alloc::{AllocError, Global};
 use std::cmp::Ordering;
 
-/// A key at which two tables differ: the places of the rows that have it, one of them or both.
+/// A key at which two tables differ: the indices of the rows with that key, in one table or in both.
 #[derive(Clone, Copy, Debug)]
 pub struct Dispute {
     pub first: Option<usize>,
     pub second: Option<usize>,
 }
 
-/// How many disputes two tables have, and the first of them by key.
+/// The number of disputes of two tables, and the first of them by key.
 #[derive(Drop)]
 pub struct Disputes {
     pub count: u64,
     pub rows: Vec<Dispute>,
 }
 
-/// Counts a dispute, and keeps it where there are fewer than so many.
+/// Counts a dispute, and keeps it if fewer than `at_most` are kept.
 fn keep(found: &mut Disputes, dispute: Dispute, at_most: usize) -> Result<(), AllocError>
     requires { found.old.count < 2 ^ 64 - 1 }
     ensures count { OnOk result (found.new.count ≡ found.old.count + 1) }
@@ -37,9 +37,9 @@ fn keep(found: &mut Disputes, dispute: Dispute, at_most: usize) -> Result<(), Al
     Ok(())
 }
 
-/// The rows in which two tables of one catalog differ, by key: how many they are, and the first `at_most` of them.
+/// The rows in which two tables of one catalog differ, by key: their number, and the first `at_most` of them.
 ///
-/// Time grows with the rows of both, memory with `at_most` alone.
+/// Takes time linear in the rows of both, and memory for `at_most` rows.
 pub fn find_disputes(
     alloc: Global,
     catalog: &Catalog,

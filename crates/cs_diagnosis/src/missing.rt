@@ -1,4 +1,4 @@
-//! The names of a store under which no file stands, and the sites beside others.
+//! The missing files of a store, and the complement of a loss.
 ghost use Rattle.std.specs.Prelude.{◌≡◌, ◌≤◌, ℕ, not, None, IfOk};
 ghost use Rattle.cs_schema.specs.FileNames.{HasName};
 ghost use Rattle.cs_schema.specs.Lists.{member, IsIn};
@@ -11,7 +11,7 @@ use cs_schema::{Catalog, FileName, Loss};
 use cs_store::FileSet;
 use std::alloc::{AllocError, Global};
 
-/// The names of a catalog under which no file stands.
+/// The names of a catalog without a file.
 pub fn missing_files(
     alloc: Global,
     catalog: &Catalog,

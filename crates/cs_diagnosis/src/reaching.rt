@@ -1,4 +1,4 @@
-//! How far a diagnosis looks, and how many sites may have changed for it to be certain.
+//! How far a diagnosis looks, and for how many changed sites it is certain.
 ghost use Rattle.std.specs.Prelude.{◌≡◌, ℕ, ◌+◌, ◌<◌, ◌≤◌, Some, None, IfSome, MatchOption, length};
 ghost use Rattle.cs_schema.specs.Losses.{IsLoss};
 ghost use Rattle.cs_diagnosis.specs.Reach.{IsGreatestCorrected, IsReach};
@@ -9,13 +9,13 @@ use cs_schema::{Catalog, Loss};
 /// How far a diagnosis looks.
 #[derive(Clone, Copy, Debug, PartialEq, Eq)]
 pub struct Reach {
-    /// The greatest number of sites of a loss that is tried.
+    /// The maximum number of sites of a loss that is tried.
     pub at_most: u8,
-    /// How many sites may have changed beside the forced ones where one table is certain; none where it never is.
+    /// How many sites besides the forced ones may have changed if one table is certain; `None` if it never is.
     pub certain: Option<u8>,
 }
 
-/// How many sites may have changed beside so many forced ones, such that the table can be told.
+/// How many sites besides `forced` forced ones may have changed such that the table can still be told.
 fn corrected(catalog: &Catalog, forced: u8) -> Option<u8>
     ensures greatest { IsGreatestCorrected catalog.now forced result }
     ensures few { IfSome result (λ most. forced + most ≤ 16) }
@@ -33,7 +33,7 @@ fn corrected(catalog: &Catalog, forced: u8) -> Option<u8>
     }
 }
 
-/// How many sites a loss has that is tried: as many as are asked for, or all of these, and one at least.
+/// The number of sites of the largest loss to try: as many as asked for, or as can be told, and at least one.
 fn tried(forced: u8, most: u8, asked: Option<u8>) -> u8
     requires sites { forced + most ≤ 16 }
     requires asked { IfSome asked (λ n. n ≤ 16) }
@@ -48,7 +48,7 @@ fn tried(forced: u8, most: u8, asked: Option<u8>) -> u8
     }
 }
 
-/// How many changed sites, of those that can be corrected, losses of so many sites can correct.
+/// How many changed sites losses of at most `at_most` sites can correct, of those that can be corrected at all.
 fn certain_by(forced: u8, most: u8, at_most: u8) -> Option<u8>
     ensures { MatchOption result (at_most < forced) (λ m. (m ≤ most) × (forced + m ≤ at_most) × ((n : ℕ) → n ≤ most → forced + n ≤ at_most → n ≤ m)) }
 {
@@ -62,8 +62,8 @@ fn certain_by(forced: u8, most: u8, at_most: u8) -> Option<u8>
     }
 }
 
-/// How far to look beside forced sites: as far as is asked for, or as far as the table can be told, and to losses of one site
-/// at least.
+/// How far to look besides the forced sites: as far as asked for, or as far as the table can be told, and at least at
+/// losses of one site.
 pub fn reach_of(catalog: &Catalog, forced: Loss, asked: Option<u8>) -> Reach
     requires forced { IsLoss catalog.now forced }
     requires asked { IfSome asked (λ n. n ≤ 16) }

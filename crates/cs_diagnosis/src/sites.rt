@@ -8,7 +8,7 @@ ghost use Rattle.cs_recovery.specs.Conflicts.{site_of};
 
 use cs_schema::{Catalog, Loss};
 
-/// The site of a segment, as the catalog has it.
+/// The site of a segment according to the catalog.
 fn site_at(catalog: &Catalog, p: u16, s: u16) -> u8
     requires { HasSegment catalog.now p s }
     ensures site { result ≡ site_of catalog.now (NameData.Seg p s) }
@@ -18,7 +18,7 @@ fn site_at(catalog: &Catalog, p: u16, s: u16) -> u8
     catalog.projection(p).sites[s as usize]
 }
 
-/// The site on which a segment stands, with its delta and its join indexes.
+/// The site of a segment, with its delta and join indexes.
 pub fn site_of(catalog: &Catalog, p: u16, s: u16) -> u8
     requires { HasSegment catalog.now p s }
     ensures site { result ≡ site_of catalog.now (NameData.Seg p s) }

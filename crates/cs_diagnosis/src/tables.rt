@@ -4,7 +4,7 @@ ghost use Rattle.cs_rows.specs.WalkedView.{AreColumns, count_of};
 
 use cs_schema::Cells;
 
-/// How many rows columns have.
+/// The number of rows of the columns.
 fn row_count(columns: &[Cells]) -> usize
     requires { AreColumns columns.now }
     ensures { result ≡ count_of columns.now }
@@ -23,7 +23,7 @@ impl FoundTable {
     ghost use Rattle.std.specs.Prelude.{◌≡◌, length};
     ghost use Rattle.cs_diagnosis.specs.Diagnoses.{rows_found};
 
-    /// How many rows it has.
+    /// The number of rows.
     pub fn rows(&self) -> u64
         ensures { result ≡ length (rows_found self.now) }
     {

@@ -1,4 +1,4 @@
-//! The plans that were walked, and what each came to.
+//! The plans that were walked, with their results.
 ghost use Rattle.std.specs.Prelude.{◌≡◌, ◌↔◌, List, [], Some, IsTrue, OnOk};
 ghost use Rattle.cs_schema.specs.CatalogData.{CatalogData};
 ghost use Rattle.cs_schema.specs.FileNames.{FileContents};
@@ -18,14 +18,14 @@ use cs_safety::{Plan, plan};
 use cs_schema::{Catalog, Loss, Safety};
 use std::alloc::{AllocError, Global};
 
-/// A plan that was walked, and the conflicts of the table to which it leads, if it leads to one.
+/// A plan that was walked, and the conflicts of the table to which it leads, if any.
 #[derive(Drop)]
 pub struct WalkedPlan {
     pub plan: Plan,
     pub conflicts: Option<Conflicts>,
 }
 
-/// The plans that were walked. By rows each loss has a walk of its own, and none is kept.
+/// The plans that were walked. By rows each loss has a walk of its own, and none is stored.
 #[derive(Drop)]
 pub struct Walks {
     pub plans: Vec<WalkedPlan>,
@@ -44,7 +44,7 @@ fn is_same(plan: &Plan, other: &Plan) -> bool
     plan.source.as_slice() == other.source.as_slice()
 }
 
-/// Whether a loss has a site of each conflict, if there is a table at all.
+/// Whether there is a table, and a loss contains a site of each of its conflicts.
 fn is_hit(conflicts: &Option<Conflicts>, loss: Loss) -> bool
     ensures { IsTrue result ↔ ((c : ConflictsData) × (conflicts.now ≡ Some c) × AreAllHit c loss) }
 {
@@ -55,7 +55,7 @@ fn is_hit(conflicts: &Option<Conflicts>, loss: Loss) -> bool
 }
 
 impl Walks {
-    /// Nothing was walked.
+    /// No plan was walked.
     pub fn new(alloc: Global) -> Self
         ensures empty { result.plans.items ≡ [] }
         ensures walks { (C : CatalogData) (F : FileContents) (first : Sites) → AreWalks C F first result }
@@ -65,7 +65,7 @@ impl Walks {
         }
     }
 
-    /// Whether a plan leads to no table, or to one of which a loss misses a conflict.
+    /// Whether a plan leads to no table, or to one with a conflict that a loss misses.
     fn refutes_plan(&self, plan: &Plan, loss: Loss) -> bool
         ensures { IsTrue result ↔ ((k : WalkedPlanData) × IsIn k self.now.plans.items × (k.plan ≡ plan.now) × ((c : ConflictsData) → k.conflicts ≡ Some c → ¬ AreAllHit c loss)) }
     {
@@ -91,7 +91,7 @@ impl Walks {
         }
     }
 
-    /// Keeps what the walk of a loss came to.
+    /// Stores the result of the walk of a loss.
     pub fn keep(
         &mut self,
         catalog: &Catalog,

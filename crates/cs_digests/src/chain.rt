@@ -1,15 +1,15 @@
-//! One message, of which some blocks are taken in.
+//! A message of which some blocks have been hashed.
 ghost use Rattle.std.specs.Prelude.{◌≡◌, ◌*◌, ◌+◌, ◌-◌, ◌/◌, ◌≤◌, length};
 ghost use Rattle.sha2.specs.Sha256.{hash_after, initial_hash_256, sha256};
 
 use crate::constants::INITIAL_HASH;
 use crate::finishing::{BLOCK, finish};
 
-/// A message, and the hash value after some of its blocks.
+/// A message and the hash value after some of its blocks.
 #[derive(Clone, Copy, Drop)]
 pub struct Chain<'a> {
     pub text: &'a [u8],
-    /// How many blocks are taken in.
+    /// The number of blocks that have been hashed.
     pub done: usize,
     /// The hash value after them.
     pub hash: [u32; 8],
@@ -18,7 +18,7 @@ pub struct Chain<'a> {
 }
 
 impl<'a> Chain<'a> {
-    /// A message of which nothing is taken in.
+    /// A message of which nothing has been hashed.
     pub fn new(text: &'a [u8]) -> Self
         ensures { result.text.now ≡ text.now }
     {
@@ -29,14 +29,14 @@ impl<'a> Chain<'a> {
         }
     }
 
-    /// How many whole blocks are left.
+    /// The number of whole blocks that are left.
     pub fn left(&self) -> usize
         ensures { result ≡ length self.now.text.now / 64 - self.now.done }
     {
         self.text.len() / BLOCK - self.done
     }
 
-    /// The message with so many blocks more taken in, and the hash value after them.
+    /// The message after `blocks` more blocks, with the hash value after them.
     pub fn after(self, blocks: usize, hash: [u32; 8]) -> Self
         requires within { (self.done + blocks) * 64 ≤ length self.text.now }
         requires taken { hash ≡ hash_after initial_hash_256 self.text.now (self.done + blocks) }

@@ -1,4 +1,4 @@
-//! The digests of any number of messages, four side by side at a time.
+//! The digests of any number of messages, four at a time.
 ghost use Rattle.std.specs.Prelude.{◌≡◌, ◌<◌, ◌≤◌, length, map, IfOk};
 ghost use Rattle.sha2.specs.Sha256.{sha256};
 
@@ -6,10 +6,10 @@ use crate::chain::Chain;
 use crate::four::{Four, advance};
 use std::alloc::{AllocError, Global};
 
-/// How many messages go side by side.
+/// The number of messages that are hashed at once.
 const FOUR: usize = 4;
 
-/// The messages, with nothing taken in.
+/// The messages, with nothing hashed.
 fn chains_of<'a>(alloc: Global, texts: &[&'a [u8]]) -> Result<Vec<Chain<'a>>, AllocError>
     ensures { IfOk result (λ chains. map (λ c. c.text.now) chains.items ≡ map (λ t. t.now) texts.now) }
 {
@@ -20,8 +20,8 @@ fn chains_of<'a>(alloc: Global, texts: &[&'a [u8]]) -> Result<Vec<Chain<'a>>, Al
     Ok(chains)
 }
 
-/// How many messages at the front are each longer than half of all those behind: beside these they would leave lanes idle, and
-/// what it takes for four would be spent on one.
+/// The number of messages at the front that are each longer than half of all those behind them. Hashed beside those,
+/// they would leave lanes idle, at the cost of four for one.
 fn count_apart(chains: &[Chain<'_>]) -> usize
     ensures { result ≤ length chains.now }
 {
@@ -39,7 +39,7 @@ fn count_apart(chains: &[Chain<'_>]) -> usize
     chains.len()
 }
 
-/// Of two places of messages, the one with more blocks left.
+/// Of two indices of messages, the one with more blocks left.
 fn longer(chains: &[Chain<'_>], a: usize, b: usize) -> usize
     requires { (a < length chains.now) × (b < length chains.now) }
     ensures { result < length chains.now }
@@ -51,8 +51,8 @@ fn longer(chains: &[Chain<'_>], a: usize, b: usize) -> usize
     }
 }
 
-/// The place of the message for a lane: the one that it has while blocks of it are left, then the next, and where there is none
-/// another that has some, once more.
+/// The message for a lane: the one that it has while blocks of it are left, then the next one; if there is none,
+/// another with blocks left, a second time.
 fn message_for(chains: &[Chain<'_>], place: usize, next: &mut usize, other: usize) -> usize
     requires { (place < length chains.now) × (other < length chains.now) }
     ensures { result < length chains.now }
@@ -68,7 +68,7 @@ fn message_for(chains: &[Chain<'_>], place: usize, next: &mut usize, other: usiz
     other
 }
 
-/// The places of the messages for all lanes.
+/// The messages for all four lanes.
 fn messages_for(chains: &[Chain<'_>], four: Four, next: &mut usize) -> Four
     requires { (four.0 < length chains.now) × (four.1 < length chains.now) × (four.2 < length chains.now) × (four.3 < length chains.now) }
     ensures { (result.0 < length chains.now) × (result.1 < length chains.now) × (result.2 < length chains.now) × (result.3 < length chains.now) }
@@ -83,7 +83,7 @@ fn messages_for(chains: &[Chain<'_>], four: Four, next: &mut usize) -> Four
     )
 }
 
-/// Takes in blocks of the messages that don't stand apart, four messages at a time, as long as there are two.
+/// Hashes blocks of the messages that are not set apart, four messages at a time, as long as two have blocks left.
 fn advance_all(chains: &mut [Chain<'_>])
     ensures { map (λ c. c.text.now) chains.new ≡ map (λ c. c.text.now) chains.old }
 {
@@ -119,8 +119,8 @@ fn finish_each(alloc: Global, chains: &[Chain<'_>]) -> Result<Vec<[u8; 32]>, All
     Ok(digests)
 }
 
-/// The digests of messages, in their order. Where the longest stand first, in about half the time that they take one after the
-/// other, but for those that are longer than half of all others.
+/// The digests of messages, in their order. If the longest come first, this takes about half the time of hashing one
+/// after the other, except for messages that are longer than half of all others.
 pub fn digests_of(alloc: Global, texts: &[&[u8]]) -> Result<Vec<[u8; 32]>, AllocError>
     ensures { IfOk result (λ digests. digests.items ≡ map (λ t. sha256 t.now) texts.now) }
 {

@@ -1,4 +1,4 @@
-//! Blocks of four messages taken in side by side.
+//! Hashing blocks of four messages at once.
 ghost use Rattle.std.specs.Prelude.{◌≡◌, ℕ, ◌*◌, ◌+◌, ◌<◌, ◌≤◌, length, map};
 ghost use Rattle.sha2.specs.Sha256.{hash_after, initial_hash_256};
 ghost use Rattle.cs_digests.specs.Lanes.{lane, of_four};
@@ -10,7 +10,7 @@ use crate::rounds::compress;
 use crate::words::all;
 use std::simd::u32x4;
 
-/// The hash values of four messages after so many blocks more of each.
+/// The hash values of four messages after `blocks` more blocks of each.
 fn in_step(c0: Chain<'_>, c1: Chain<'_>, c2: Chain<'_>, c3: Chain<'_>, blocks: usize) -> [u32x4; 8]
     requires { ((c0.done + blocks) * 64 ≤ length c0.text.now) × ((c1.done + blocks) * 64 ≤ length c1.text.now) × ((c2.done + blocks) * 64 ≤ length c2.text.now) × ((c3.done + blocks) * 64 ≤ length c3.text.now) }
     ensures first { lane 0 result ≡ hash_after initial_hash_256 c0.entry.text.now (c0.entry.done + blocks) }
@@ -35,10 +35,10 @@ fn in_step(c0: Chain<'_>, c1: Chain<'_>, c2: Chain<'_>, c3: Chain<'_>, blocks: u
     state
 }
 
-/// The places of four messages.
+/// The indices of four messages.
 pub type Four = (usize, usize, usize, usize);
 
-/// Takes in as many blocks of each of four messages as the shortest of them has left.
+/// Hashes as many blocks of each of four messages as the shortest of them has left.
 pub fn advance(chains: &mut [Chain<'_>], four: Four)
     requires { (four.0 < length chains.now) × (four.1 < length chains.now) × (four.2 < length chains.now) × (four.3 < length chains.now) }
     ensures { map (λ c. c.text.now) chains.new ≡ map (λ c. c.text.now) chains.old }

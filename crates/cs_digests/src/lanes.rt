@@ -1,4 +1,4 @@
-//! The hash values of four messages, one lane each.
+//! The hash values of four messages, one to a lane.
 ghost use Rattle.std.specs.Prelude.{◌≡◌, ◌<◌};
 ghost use Rattle.cs_digests.specs.Lanes.{lane};
 

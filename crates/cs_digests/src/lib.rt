@@ -1,8 +1,8 @@
-//! The SHA-256 digests of messages (FIPS 180-4), of several at once or of one that grows.
+//! SHA-256 digests (FIPS 180-4) of several messages at once, or of one that grows.
 //!
-//! A digest is a chain: each step needs the one before it. Four chains go through the same steps, so a step of all four is one
-//! operation on vectors of four words, one lane for each message. Of a message alone the words of the rounds, which need no step
-//! before, are made so for four of its blocks.
+//! A digest is a chain: each step needs the one before it. Four chains go through the same steps, so one step of all
+//! four is one operation on vectors of four words, a lane for each message. The message schedule of a single message
+//! needs no earlier step, so it is computed the same way for four of its blocks.
 #![tactic(auto)]
 
 mod chain;

@@ -1,4 +1,4 @@
-//! The rounds of SHA-256 over a block (FIPS 180-4, 6.2.2), of four messages at once.
+//! The rounds of SHA-256 over a block (FIPS 180-4, 6.2.2), for four messages at once.
 ghost use Rattle.std.specs.Prelude.{◌≡◌, ℕ, List, ◌+◌, ◌<◌, ◌≤◌, length, slice_index};
 ghost use Rattle.sha2.specs.Sha256.{add32, compress, round, rounds, schedule};
 ghost use Rattle.cs_digests.specs.Keys.{AreKeyed};
@@ -8,7 +8,7 @@ use crate::schedule::make_keyed;
 use crate::words::{add, big_sigma0, big_sigma1, ch, maj};
 use std::simd::u32x4;
 
-/// One round, with its words to which its constant is added.
+/// One round. `keys` are its words with the round constant added.
 #[inline(always)]
 fn round(v: [u32x4; 8], keys: u32x4) -> [u32x4; 8]
     ensures { (j k w : ℕ) → j < 4 → slice_index keys j ≡ add32 k w → lane j result ≡ round (lane j v) k w }
@@ -19,7 +19,7 @@ fn round(v: [u32x4; 8], keys: u32x4) -> [u32x4; 8]
     [add(temp1, temp2), a, b, c, add(d, temp1), e, f, g]
 }
 
-/// The round after so many.
+/// The state after round `t`.
 #[inline(always)]
 fn step(v: [u32x4; 8], w: &[u32x4; 64], t: usize) -> [u32x4; 8]
     requires { t < 64 }
@@ -40,7 +40,8 @@ fn four_steps(v: [u32x4; 8], w: &[u32x4; 64], t: usize) -> [u32x4; 8]
     step(v, w, t + 3)
 }
 
-/// Runs the rounds over a block of each message, with room for their words, and adds what comes of them to the hash values.
+/// Runs the rounds over a block of each message and adds the result to the hash values. `w` is scratch space for the
+/// words.
 pub fn compress(
     state: &mut [u32x4; 8],
     w: &mut [u32x4; 64],
@@ -54,7 +55,7 @@ pub fn compress(
 {
     make_keyed(w, b0, b1, b2, b3);
     let mut v = *state;
-    // eight rounds a turn, after which each variable is in its place again
+    // after eight rounds each variable is back in its place
     'rounds: for turn in 0..8 {
         v = four_steps(v, w, 8 * turn);
         v = four_steps(v, w, 8 * turn + 4);

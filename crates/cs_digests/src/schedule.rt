@@ -1,5 +1,5 @@
-//! The words of the rounds of SHA-256 (FIPS 180-4, 6.2.2, step 1), of four blocks side by side. They need no hash value, so the
-//! blocks may be of one message or of four.
+//! The message schedule of SHA-256 (FIPS 180-4, 6.2.2, step 1) for four blocks at once. It needs no hash value, so the
+//! blocks may belong to one message or to four.
 ghost use Rattle.std.specs.Prelude.{◌≡◌, ℕ, List, ◌+◌, ◌<◌, ◌≤◌, length, slice_index};
 ghost use Rattle.sha2.specs.Sha256.{add32, small_sigma0, small_sigma1, word_at};
 ghost use Rattle.cs_digests.specs.Lanes.{of_four};
@@ -9,7 +9,7 @@ use crate::constants::ROUND_CONSTANTS;
 use crate::words::{add, all, small_sigma0, small_sigma1};
 use std::simd::u32x4;
 
-/// The word at a byte of a block.
+/// The word at byte `i` of a block.
 #[inline(always)]
 fn word_at(block: &[u8], i: usize) -> u32
     requires { i + 4 ≤ length block.now }
@@ -18,7 +18,7 @@ fn word_at(block: &[u8], i: usize) -> u32
     u32::from_be_bytes([block[i], block[i + 1], block[i + 2], block[i + 3]])
 }
 
-/// The words at a byte of four blocks.
+/// The words at byte `i` of four blocks.
 #[inline(always)]
 fn words_at(b0: &[u8], b1: &[u8], b2: &[u8], b3: &[u8], i: usize) -> u32x4
     requires { (i + 4 ≤ length b0.now) × (i + 4 ≤ length b1.now) × (i + 4 ≤ length b2.now) × (i + 4 ≤ length b3.now) }
@@ -32,7 +32,7 @@ fn words_at(b0: &[u8], b1: &[u8], b2: &[u8], b3: &[u8], i: usize) -> u32x4
     ])
 }
 
-/// A word, from those that stand 2, 7, 15 and 16 before it.
+/// A word, from those 2, 7, 15 and 16 before it.
 #[inline(always)]
 fn word_after(w2: u32x4, w7: u32x4, w15: u32x4, w16: u32x4) -> u32x4
     ensures { (j : ℕ) → j < 4 → slice_index result j ≡ add32 (add32 (add32 (small_sigma1 (slice_index w2 j)) (slice_index w7 j)) (small_sigma0 (slice_index w15 j))) (slice_index w16 j) }
@@ -40,7 +40,7 @@ fn word_after(w2: u32x4, w7: u32x4, w15: u32x4, w16: u32x4) -> u32x4
     add(add(add(small_sigma1(w2), w7), small_sigma0(w15)), w16)
 }
 
-/// Makes the words of four blocks.
+/// Computes the words of four blocks.
 #[inline(always)]
 fn make_words(w: &mut [u32x4; 64], b0: &[u8], b1: &[u8], b2: &[u8], b3: &[u8])
     requires { (length b0.now ≡ 64) × (length b1.now ≡ 64) × (length b2.now ≡ 64) × (length b3.now ≡ 64) }
@@ -64,7 +64,7 @@ fn add_keys(w: &mut [u32x4; 64])
     }
 }
 
-/// Makes the words of four blocks, each with the constant of its round added. What stood there before goes into none of them.
+/// Computes the words of four blocks, each with its round constant added. The old contents of `w` do not matter.
 #[inline(always)]
 pub fn make_keyed(w: &mut [u32x4; 64], b0: &[u8], b1: &[u8], b2: &[u8], b3: &[u8])
     requires { (length b0.now ≡ 64) × (length b1.now ≡ 64) × (length b2.now ≡ 64) × (length b3.now ≡ 64) }

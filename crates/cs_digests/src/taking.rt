@@ -1,4 +1,4 @@
-//! The digest of a message that grows, made as its bytes come.
+//! The digest of a message that grows, computed as its bytes arrive.
 ghost use Rattle.std.specs.Prelude.{◌≡◌, ℕ, List, ◌+◌, ◌*◌, ◌≤◌, ◌++◌, length, drop};
 ghost use Rattle.sha2.specs.Sha256.{sha256};
 ghost use Rattle.cs_digests.specs.Growing.{HasTaken, HasTakenAll};
@@ -8,16 +8,16 @@ use crate::finishing::{BLOCK, finish};
 use crate::single::absorb;
 use arrayvec::ArrayVec;
 
-/// The hash value after the whole blocks at the front of a message, so many.
+/// The hash value after the whole blocks at the front of a message, and their number.
 #[derive(Drop)]
 pub struct GrowingDigest {
     done: usize,
     words: [u32; 8],
-    /// What follows these blocks, right after all of them were taken in.
+    /// The bytes after these blocks, if all bytes so far have been hashed.
     rest: ArrayVec<u8, 64>,
 }
 
-/// Bytes that one block has room for, one behind the other.
+/// A block made of two parts.
 fn block_of(front: &[u8], end: &[u8]) -> ArrayVec<u8, 64>
     requires { length front.now + length end.now ≤ 64 }
     ensures { result.items ≡ front.now ++ end.now }
@@ -31,7 +31,7 @@ fn block_of(front: &[u8], end: &[u8]) -> ArrayVec<u8, 64>
     }
 }
 
-/// What follows so many blocks of a message.
+/// What follows the first `done` blocks of a message.
 fn rest_after(message: &[u8], done: usize) -> &[u8]
     requires { done * 64 ≤ length message.now }
     ensures { result.now ≡ drop (done * 64) message.now }
@@ -40,7 +40,7 @@ fn rest_after(message: &[u8], done: usize) -> &[u8]
 }
 
 impl GrowingDigest {
-    /// Nothing is taken in.
+    /// Nothing has been hashed.
     pub fn new() -> Self
         ensures { (m : List ℕ) → HasTaken result m }
     {
@@ -51,7 +51,7 @@ impl GrowingDigest {
         }
     }
 
-    /// Takes in what is left of the message.
+    /// Hashes the rest of the message.
     pub fn take_in(&mut self, message: &[u8])
         requires { HasTaken self.old message.now }
         ensures { HasTakenAll self.new message.now }
@@ -62,7 +62,7 @@ impl GrowingDigest {
         self.rest = block_of(rest_after(message, self.done), &[]);
     }
 
-    /// Takes in bytes that follow a message of which all is taken in, up to the end of a block.
+    /// Hashes bytes that follow a fully hashed message, up to the end of a block.
     pub fn take_more(&mut self, bytes: &[u8])
         requires { (m : List ℕ) × HasTakenAll self.old m }
         ensures { (m : List ℕ) → HasTakenAll self.old m → HasTaken self.new (m ++ bytes.now) }

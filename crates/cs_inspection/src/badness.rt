@@ -1,12 +1,12 @@
 //! Why a file is bad.
 
-/// What is wrong with the file under a name; the first that applies.
+/// What is wrong with the file under a name: the first that applies.
 #[derive(Clone, Copy, Debug, PartialEq, Eq)]
 pub enum Badness {
-    /// The device failed as it was read.
+    /// The device failed while it was read.
     Unreadable,
-    /// None is there.
+    /// There is no such file.
     Missing,
-    /// Its bytes are no file of that name, or it is a delta that doesn't merge with its sound segment.
+    /// Its bytes are not a file of that name, or it is a delta that does not merge with its sound segment.
     Damaged,
 }

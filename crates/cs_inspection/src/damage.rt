@@ -18,7 +18,7 @@ use cs_store::FileSet;
 use std::alloc::{AllocError, Global};
 use std::thread::Threads;
 
-/// A store whose files are looked at.
+/// A store whose files are inspected.
 #[derive(Drop)]
 pub struct Inspector<'a, R> {
     pub rt: &'a R,
@@ -80,7 +80,7 @@ impl<R: Threads> Inspector<'_, R> {
         }
     }
 
-    /// The segment that stands under its name, if it is sound by itself.
+    /// The segment under its name, if it is sound by itself.
     fn sound_segment(&self, p: u16, s: u16) -> Result<Option<Segment>, AllocError>
         requires { HasSegment self.now.catalog.now p s }
         ensures { IfOk result (λ found. MatchOption found (HasNoSegment self.now.catalog.now (contents_of self.now.files.now) p s)
@@ -92,7 +92,7 @@ impl<R: Threads> Inspector<'_, R> {
         }
     }
 
-    /// Whether the bytes are a delta of this name, and one that merges with its segment where that is sound.
+    /// Whether the bytes are a delta of this name that merges with its segment, if that is sound.
     fn is_delta(&self, p: u16, s: u16, bytes: &[u8]) -> Result<bool, AllocError>
         requires exists { HasSegment self.now.catalog.now p s }
         requires there { contents_of self.now.files.now (NameData.Del p s) ≡ Some bytes.now }
@@ -127,7 +127,7 @@ impl<R: Threads> Inspector<'_, R> {
         }
     }
 
-    /// Whether the bytes that stand under a name are a file of it.
+    /// Whether the bytes under a name are a file of that name.
     pub fn is_undamaged(&self, name: FileName, bytes: &[u8]) -> Result<bool, AllocError>
         requires name { HasName self.now.catalog.now name }
         requires there { contents_of self.now.files.now name ≡ Some bytes.now }

@@ -36,8 +36,8 @@ fn badness<R: Threads>(
     }
 }
 
-/// The bad files of a store, each with why it is, in the order of their names: those that were unreadable, those that
-/// are missing, and those whose bytes are damaged. Where a segment is bad itself, its delta is judged by its own bytes.
+/// The bad files of a store with the reason for each, in the order of their names: those that were unreadable, are
+/// missing, or have damaged bytes. If a segment is bad, its delta is judged by its own bytes.
 pub fn bad_files<R: Threads>(
     rt: &R,
     alloc: Global,
@@ -51,7 +51,7 @@ pub fn bad_files<R: Threads>(
     bad_survivors(rt, alloc, catalog, files, unreadable, Loss::none())
 }
 
-/// The bad files among those that survive a loss. No file of a lost site is looked at.
+/// The bad files among those that survive a loss. No file of a lost site is inspected.
 pub fn bad_survivors<R: Threads>(
     rt: &R,
     alloc: Global,

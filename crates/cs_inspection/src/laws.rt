@@ -1,28 +1,28 @@
-//! Laws over the definitions: each function does nothing, and its contract is the law.
+//! Laws about the definitions. Each function does nothing; its contract is the law.
 ghost use Rattle.cs_inspection.specs.Laws.{FilesHaveOneState, BadFilesAreUnsound, SoundFilesAreGood, BadFilesTellSoundOnes, BadSitesAreForced};
 
-/// No file is both good and bad, and a bad one is for one reason.
+/// No file is both good and bad, and a bad one is bad for one reason.
 pub fn files_have_one_state()
     ensures { FilesHaveOneState }
 {}
 
-/// A bad file isn't sound.
+/// A bad file is not sound.
 pub fn bad_files_are_unsound()
     ensures { BadFilesAreUnsound }
 {}
 
-/// A sound file is good, so whoever knows that all are sound need not look for bad ones.
+/// A sound file is good, so if all are known to be sound, none is bad.
 pub fn sound_files_are_good()
     ensures { SoundFilesAreGood }
 {}
 
-/// Whoever knows the bad files knows of each file whether it is sound: the premise of the law that the losses which a
-/// store accepts with a table are those that have a site of each conflict.
+/// Knowing the bad files says of each file whether it is sound. This is the premise of the law that a store accepts
+/// exactly the losses that contain a site of each conflict.
 pub fn bad_files_tell_sound_ones()
     ensures { BadFilesTellSoundOnes }
 {}
 
-/// Every accepted loss has the site of every bad file.
+/// Every accepted loss contains the site of every bad file.
 pub fn bad_sites_are_forced()
     ensures { BadSitesAreForced }
 {}

@@ -1,7 +1,7 @@
-//! A look at each file of a store by itself: which files are bad, and why.
+//! Inspects each file of a store by itself: which files are bad, and why.
 //!
-//! It needs no walk and no table, so it tells of a store that can't be recovered, too. What a file says that reads well
-//! but isn't true of the table is another question.
+//! It needs neither walk nor table, so it works on a store that cannot be recovered. Whether a sound file agrees with
+//! the table is another question.
 #![tactic(auto)]
 
 pub mod badness;

@@ -1,4 +1,4 @@
-//! Where each row stands.
+//! The orders of all projections, and the place of each row in them.
 ghost use Rattle.std.specs.Prelude.{◌≡◌, ◌<◌, ◌≤◌, All, Contains, Some, None, IfSome, length, [], slice_get, slice_index_or};
 ghost use Rattle.cs_order.specs.Orders.{numbers_in, StandsAt};
 ghost use Rattle.cs_order.specs.Places.{IsAmong};
@@ -37,8 +37,8 @@ impl Orders {
         order.segments[s as usize].rows()
     }
 
-    /// The segment in which a row stands, and its index there. It is one look where join indexes lead to the projection, and else
-    /// a search.
+    /// The segment of a row, and its index there. One look-up if join indexes lead to the projection, otherwise a
+    /// linear search.
     pub fn place(&self, p: u16, row: u32) -> (u16, u32)
         requires projection { p < length self.now.segments }
         requires row { row < self.now.rows }
@@ -53,7 +53,7 @@ impl Orders {
     }
 }
 
-/// The index of a row, where it is there.
+/// The index of a row, if it is there.
 fn index_of(rows: &[u32], row: u32) -> Option<u32>
     requires { length rows.now ≤ 1048576 }
     ensures found { IfSome result (λ index. slice_get rows.now index ≡ Some row) }
@@ -67,7 +67,7 @@ fn index_of(rows: &[u32], row: u32) -> Option<u32>
     None
 }
 
-/// The segment in which a row stands, and its index there.
+/// The segment of a row, and its index there.
 fn find_row(segments: &[RowIds], row: u32) -> (u16, u32)
     requires few { length segments.now ≤ 16 }
     requires short { All (λ rows. length rows ≤ 1048576) segments.now }

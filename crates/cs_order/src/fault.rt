@@ -7,11 +7,11 @@ use std::alloc::{AllocError, AllocFailed};
 /// Why rows have no orders.
 #[derive(Clone, Copy, Debug, PartialEq, Eq)]
 pub enum OrderFault {
-    /// Want of memory.
+    /// Out of memory.
     Memory,
-    /// A primary key stands twice.
+    /// Two rows have the same primary key.
     Twice,
-    /// The least range that has more than 1,048,576 rows: segment `s` of projection `p`.
+    /// The first segment whose range has more than 1,048,576 rows: segment `s` of projection `p`.
     Full { p: u16, s: u16 },
 }
 

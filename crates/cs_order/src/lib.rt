@@ -1,8 +1,7 @@
-//! The walked rows of each segment, in the order of its projection, sorted by several threads.
+//! The walked rows of each segment in the order of its projection, sorted by several threads.
 //!
-//! Promises that rows are refused just where a primary key stands twice, or else where a range has too
-//! many rows, the least of these; and else that each segment has the numbers of its rows in their
-//! order. Where a row stands in a projection takes one read.
+//! Rows are refused exactly if two have the same primary key, or otherwise if a range has too many rows (the first such
+//! range is named). If not, each segment gets the numbers of its rows in order.
 #![tactic(auto)]
 
 mod all_orders;

@@ -1,4 +1,4 @@
-//! The orders of walked rows, those of the projections made side by side.
+//! The orders of walked rows. Those of several projections are made in parallel.
 ghost use Rattle.std.specs.Prelude.{◌≡◌, ◌<◌, ◌^◌, false, IfOk, IfErr, None, length, map};
 ghost use Rattle.std.specs.List.{AllZip, range_with_len};
 ghost use Rattle.cs_order.specs.Tables.{is_twice, table_of};
@@ -17,9 +17,10 @@ use rayon::prelude::*;
 use std::alloc::{AllocError, Global};
 use std::thread::Threads;
 
-/// The orders of all projections of walked rows: those that `table_orders` makes of a table to which the walk lends its columns.
+/// The orders of all projections of walked rows: a thin form over `table_orders`, of a table that borrows the walk's
+/// columns.
 ///
-/// Refuses rows of which two have one primary key, and else the least range that has too many rows.
+/// Fails if two rows have the same primary key, otherwise at the first range that has too many rows.
 pub fn orders<R: Threads + Sync>(
     rt: &R,
     alloc: Global,
@@ -41,8 +42,8 @@ pub fn orders<R: Threads + Sync>(
 
 /// The orders of all projections of a table's rows.
 ///
-/// Refuses as `orders` does. Keeps 8 bytes a row and projection. While it runs each row takes 8 bytes more, 2 for each projection,
-/// and 8 to 28 for each that is sorted.
+/// Fails as `orders` does. The result takes 4 bytes a row and projection, and 4 more if join indexes lead to the
+/// projection. While it runs, each row takes 8 bytes more, 2 for each projection, and 8 to 28 for each that is sorted.
 pub fn table_orders<R: Threads + Sync>(
     rt: &R,
     alloc: Global,
@@ -71,7 +72,7 @@ pub fn table_orders<R: Threads + Sync>(
     let mut made = made_orders(&sorter, &all, by_key)?;
     let mut projections = Vec::new(alloc);
     for _p in 0..catalog.projection_count() {
-        // they are few: so it takes no time that those behind move up
+        // there are few, so moving those behind takes no time
         let order = made.remove(0)?;
         projections.push(order)?;
     }
@@ -92,7 +93,7 @@ fn made_orders<R: Threads + Sync>(
 {
     (0..sorter.catalog.projection_count())
         .into_par_iter()
-        // a projection is worth a thread
+        // each projection is worth a thread
         .with_min_len(1)
         .map(
             |p: u16| -> Result<ProjectionOrder, OrderFault>
@@ -104,7 +105,7 @@ fn made_orders<R: Threads + Sync>(
         .collect(sorter.rt, sorter.alloc)
 }
 
-/// The order of a projection, from all rows as they were walked and by key.
+/// The order of a projection, from all rows in walk order and by key.
 fn order_of<R: Threads + Sync>(
     sorter: &Sorter<'_, R>,
     p: u16,

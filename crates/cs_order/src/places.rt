@@ -1,11 +1,11 @@
-//! Where each row stands: its segment and its index there, as one number.
+//! The place of each row, segment and index packed into one number.
 ghost use Rattle.std.specs.Prelude.{◌≡◌, [], ℕ, ◌<◌, ◌≤◌, IfOk, length, slice_index, slice_index_or, All, Contains};
 ghost use Rattle.cs_order.specs.Places.{IsThere};
 
 use crate::ranges::RowIds;
 use std::alloc::{AllocError, Global};
 
-/// How many places the number of a place keeps for each segment: as many as a segment has rows at most.
+/// The number of places reserved for a segment: the maximum number of its rows.
 pub const PLACES: u32 = 1_048_576;
 
 /// The place of each row.
@@ -21,7 +21,7 @@ pub fn places(alloc: Global, segments: &[RowIds], count: usize) -> Result<Vec<u3
     Ok(places)
 }
 
-/// Writes at each row its place.
+/// Stores the place of each row.
 fn write_all(places: &mut [u32], segments: &[RowIds])
     requires few { length segments.now ≤ 16 }
     requires rows { All (λ rows. (length rows ≤ 1048576) × All (λ r. r < length places.old) rows) segments.now }
@@ -32,7 +32,7 @@ fn write_all(places: &mut [u32], segments: &[RowIds])
     }
 }
 
-/// Writes at each row of a segment its place.
+/// Stores the place of each row of a segment.
 fn write_segment(places: &mut [u32], s: u32, rows: &[u32])
     requires segment { s < 16 }
     requires few { length rows.now ≤ 1048576 }

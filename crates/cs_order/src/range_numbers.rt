@@ -1,4 +1,4 @@
-//! The range of each row, counted from the cuts up to its cell of the first sort column.
+//! The range of each row: the number of cuts up to its cell of the first sort column.
 ghost use Rattle.std.specs.Prelude.{◌≡◌, ◌<◌, ◌≤◌, pos, length, map, slice_index, slice_index_or, EachIndex};
 ghost use Rattle.cs_schema.specs.declared.cells.Value.{Value};
 ghost use Rattle.cs_schema.specs.CatalogData.{projection};
@@ -11,10 +11,10 @@ use cs_schema::{Catalog, Cells};
 use std::marker::Sync;
 use std::thread::Threads;
 
-/// The most cuts that ranges of 16 bits can have.
+/// The maximum number of cuts for range numbers of 16 bits.
 const MOST_CUTS: usize = 65_535;
 
-/// Writes the range of each row, by its cell of the first sort column.
+/// Stores the range of each row, by its cell of the first sort column.
 pub fn write_ranges<R: Threads + Sync>(
     rt: &R,
     catalog: &Catalog,
@@ -37,7 +37,7 @@ pub fn write_ranges<R: Threads + Sync>(
     }
 }
 
-/// Writes the range of each int. The kind of the cells is asked once, and not at each row.
+/// Stores the range of each int. The kind of the cells is looked up once and not for each row.
 fn write_int_ranges<R: Threads + Sync>(rt: &R, cuts: &[i64], ints: &[i64], numbers: &mut [u16])
     requires few { length cuts.now ≤ 65535 }
     requires long { length numbers.old ≡ length ints.now }
@@ -49,7 +49,7 @@ fn write_int_ranges<R: Threads + Sync>(rt: &R, cuts: &[i64], ints: &[i64], numbe
     });
 }
 
-/// How many cuts are up to an int.
+/// The number of cuts up to an int.
 fn range_of_int(cuts: &[i64], int: &i64) -> u16
     requires { length cuts.now ≤ 65535 }
     ensures { result ≡ range_of (map Value.Int cuts.now) (Value.Int int.now) }

@@ -1,4 +1,4 @@
-//! Walked rows of given columns, for tests and for measuring.
+//! Walked rows of given columns, for tests and measurements.
 ghost use Rattle.std.specs.Prelude.{◌≡◌, IfSome, IfNone, map};
 ghost use Rattle.cs_schema.specs.Values.{kind_of};
 ghost use Rattle.cs_rows.specs.WalkedView.{walked_data, AreColumns};
@@ -6,8 +6,7 @@ ghost use Rattle.cs_rows.specs.WalkedView.{walked_data, AreColumns};
 use cs_rows::Walked;
 use cs_schema::{Catalog, Cells};
 
-/// The rows that stand across columns, where these are the columns of a catalog, and all as long as
-/// the first.
+/// The rows of these columns, if they are columns of the catalog and all as long as the first.
 pub fn walked_rows(catalog: &Catalog, columns: Vec<Cells>) -> Option<Walked>
     ensures kinds { IfSome result (λ walked. walked.kinds ≡ map (λ c. c.kind) catalog.now.columns) }
     ensures refused { IfNone result (AreColumns columns.items → map kind_of columns.items ≡ map (λ c. c.kind) catalog.now.columns → ⊥) }

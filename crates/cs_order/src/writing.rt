@@ -1,14 +1,14 @@
-//! Writing the places of a list by several threads.
+//! Filling a list with several threads.
 ghost use Rattle.std.specs.Prelude.{◌<◌};
 ghost use Rattle.std.specs.Fork.{AcceptsEach, ChangesEach};
 
 use rayon::current_num_threads;
 use std::thread::{Threads, for_each_mut};
 
-/// How many places are worth a thread of their own.
+/// The number of items that are worth a thread of their own.
 const SHARE: usize = 65_536;
 
-/// Calls `f` at each place of a list, with the place: in one thread where the list is short.
+/// Calls `f` with the index and a reference of each item of a list, in one thread if the list is short.
 pub fn write_each<R: Threads + Sync, T: Send, F: Fn(usize, &mut T) + Sync>(
     rt: &R,
     list: &mut [T],
@@ -20,11 +20,11 @@ pub fn write_each<R: Threads + Sync, T: Send, F: Fn(usize, &mut T) + Sync>(
     for_each_mut(rt, list, writers(rt, list.len()), &f);
 }
 
-/// How many threads write so many places.
+/// The number of threads that fill a list of this length.
 fn writers<R: Threads>(rt: &R, places: usize) -> usize
     ensures { 0 < result }
 {
-    // how many processors there are is asked of the system, and not where one thread is enough
+    // the system is asked for the number of processors only if one thread is not enough
     if places < 2 * SHARE {
         return 1;
     }

@@ -1,4 +1,4 @@
-//! Where the files of a store are written to side by side.
+//! Where the files of a store are written in parallel.
 ghost use Rattle.std.specs.Prelude.{◌≡◌, Some, ◌≤◌, OnOk, IfErr, IsErrOf};
 ghost use Rattle.cs_store.specs.Fault.{CountsFault};
 ghost use Rattle.cs_store.specs.declared.fault.StoreFault.{StoreFault};
@@ -7,21 +7,21 @@ use cs_schema::FileName;
 use cs_store::{Sink, StoreFault};
 use std::marker::Sync;
 
-/// Writes files, which many threads can do at once. No contract is told what stands where it writes.
+/// Writes files, from many threads at once. Its contract says nothing of what is written.
 pub trait FileWriter: Sync {
     /// Writes the whole file.
     fn write(&self, name: FileName, bytes: &[u8]) -> Result<(), StoreFault>;
 }
 
-/// A sink into which files can be written before they are put, each by a thread of its own.
+/// A sink whose files can be written in parallel before they are put in order.
 pub trait BatchSink: Sink {
-    /// What writes the files.
+    /// The type that writes the files.
     type Writer: FileWriter;
 
-    /// What writes the files, if there is anything that many threads can use. Then each that is written is put by `put_written`.
+    /// What writes the files, if many threads can use it. Each file that it wrote is then put by `put_written`.
     fn writer(&self) -> Option<&Self::Writer>;
 
-    /// Takes the whole file, which its writer was given, with what came of that.
+    /// Takes a file that was given to the writer, with the writer's answer.
     fn put_written(
         &mut self,
         name: FileName,
@@ -35,7 +35,7 @@ pub trait BatchSink: Sink {
         ensures counted { Self.fault_count self.old ≤ Self.fault_count self.new };
 }
 
-/// What a sink names as its writer that has none.
+/// The writer type of a sink that has no writer.
 #[derive(Drop)]
 pub struct NoWriter;
 

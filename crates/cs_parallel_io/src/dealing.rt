@@ -1,9 +1,9 @@
-//! In which order names are read side by side: threads take them in runs that follow one another.
+//! The order in which names are read in parallel: each thread takes a run of consecutive names.
 
 use cs_schema::FileName;
 use std::alloc::{AllocError, Global};
 
-/// How many runs names are dealt to: each of these threads, on as many processors as a machine mostly has, takes one.
+/// The number of runs to which names are dealt. A thread takes one at a time.
 const RUNS: usize = 8;
 
 /// Whether this is the name of a segment.
@@ -14,7 +14,7 @@ fn is_segment(name: FileName) -> bool {
     }
 }
 
-/// Those of segments, or the others, put at the end of a list.
+/// Appends the names of segments, or the other names, to a list.
 fn push_kind(
     list: &mut Vec<FileName>,
     names: &[FileName],
@@ -28,7 +28,7 @@ fn push_kind(
     Ok(())
 }
 
-/// The run to which the name at a place is dealt: to and fro.
+/// The run for the name at an index: to and fro over the runs.
 fn run_of(at: usize) -> usize {
     let place = at % RUNS;
     if at / RUNS % 2 == 0 {
@@ -38,7 +38,8 @@ fn run_of(at: usize) -> usize {
     }
 }
 
-/// Names dealt to runs, so that no thread has all the long files: those of segments first, whose files are the longest.
+/// The names dealt to runs so that no thread has all the long files: first those of segments, whose files are the
+/// longest.
 pub fn dealt(alloc: Global, names: &[FileName]) -> Result<Vec<FileName>, AllocError> {
     let mut longest_first = Vec::with_capacity(alloc, names.len())?;
     push_kind(&mut longest_first, names, true)?;

@@ -1,6 +1,6 @@
-//! The files of a store read and written side by side.
+//! Reading and writing the files of a store in parallel.
 //!
-//! What is read or written is what one file after the other would be: threads only share the work.
+//! The results are those of reading or writing one file after the other; threads only share the work.
 #![tactic(auto)]
 
 mod batch_sink;

@@ -1,4 +1,4 @@
-//! Loading the surviving files of a store, read side by side.
+//! Loading the surviving files of a store in parallel.
 ghost use Rattle.std.specs.Prelude.{◌≡◌, None, IfOk, IfErr};
 ghost use Rattle.std.specs.List.{AllByRecursion};
 ghost use Rattle.std.specs.List.Sorted.{IsStrictlySortedBy};
@@ -17,7 +17,7 @@ use std::alloc::{AllocError, Global};
 use std::marker::Sync;
 use std::thread::Threads;
 
-/// Loads the files that survive the loss from a source that is read side by side, without those that the source doesn't have.
+/// Loads the files that survive the loss, reading in parallel. Files that the source does not have are left out.
 ///
 /// `Read` names the first file, in the order of names, at which the device failed.
 pub fn load_side_by_side<R: Threads + Sync, S: SharedSource>(
@@ -38,10 +38,10 @@ pub fn load_side_by_side<R: Threads + Sync, S: SharedSource>(
     }
 }
 
-/// Loads the files that survive the loss and can be read from a source that is read side by side, without those that the
-/// source doesn't have.
+/// Loads the files that survive the loss and can be read, reading in parallel. Files that the source does not have are
+/// left out.
 ///
-/// No unreadable name stands in the files.
+/// No unreadable name is among the files.
 pub fn load_readable_side_by_side<R: Threads + Sync, S: SharedSource>(
     rt: &R,
     alloc: Global,

@@ -1,4 +1,4 @@
-//! A source whose files were read ahead, side by side.
+//! A source whose files were read ahead, in parallel.
 ghost use Rattle.std.specs.Prelude.{◌≡◌, IfOk};
 ghost use Rattle.std.specs.List.Sorted.{IsPermutation};
 ghost use Rattle.cs_parallel_io.specs.Ahead.{Says, SaysAll};
@@ -13,23 +13,23 @@ use std::cmp::Reverse;
 use std::marker::Sync;
 use std::thread::Threads;
 
-/// What the read of a file came to.
+/// The result of reading a file.
 #[derive(Drop)]
 struct Answer {
     name: FileName,
     result: Result<Option<Vec<u8>>, StoreFault>,
 }
 
-/// A source whose files were read ahead. One that was not is read when it is asked for.
+/// A source whose files were read ahead. A file that was not is read when it is asked for.
 #[derive(Drop)]
 pub struct ReadAhead<'a, S> {
     source: &'a S,
-    /// What was read, the next name last.
+    /// The results, the next name last.
     reads: Vec<Answer>,
     faults: u64,
 }
 
-/// Reads the files that survive the loss, each in a thread where one is free.
+/// Reads the files that survive the loss, each in a thread if one is free.
 pub fn read_ahead<'a, R: Threads + Sync, S: SharedSource>(
     rt: &R,
     alloc: Global,
@@ -50,14 +50,14 @@ pub fn read_ahead<'a, R: Threads + Sync, S: SharedSource>(
     })
 }
 
-/// Puts what was read into the order of names, the last one first.
+/// Sorts the results by name, descending.
 fn last_first(reads: &mut Vec<Answer>)
     ensures { IsPermutation reads.old.items reads.new.items }
 {
     reads.sort_unstable_by_key(|read: &Answer| -> Reverse<FileName> { Reverse(read.name) });
 }
 
-/// What the reads of these names came to, in their order.
+/// The results of reading these names, in their order.
 fn read_all<R: Threads + Sync, S: SharedSource>(
     rt: &R,
     alloc: Global,
@@ -68,7 +68,7 @@ fn read_all<R: Threads + Sync, S: SharedSource>(
 {
     names
         .par_iter()
-        // a file is worth a thread
+        // each file is worth a thread
         .with_min_len(1)
         .map(
             |name: &FileName| -> Answer
@@ -78,7 +78,7 @@ fn read_all<R: Threads + Sync, S: SharedSource>(
         .collect(rt, alloc)
 }
 
-/// What the read of this name comes to.
+/// The result of reading the file with this name.
 fn ask<S: SharedSource>(source: &S, name: FileName) -> Answer
     ensures { Says S.answers S.fails source.now result.name result.result }
 {

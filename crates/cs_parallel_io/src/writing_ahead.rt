@@ -1,4 +1,4 @@
-//! Saving a file set whose files are written side by side.
+//! Saving a file set whose files are written in parallel.
 ghost use Rattle.std.specs.Prelude.{◌≡◌, ◌<◌, OnOk, IfErr};
 ghost use Rattle.std.specs.FinMap.{entries, len};
 ghost use Rattle.cs_store.specs.Save.{Saves, StopsSaving};
@@ -11,15 +11,15 @@ use std::alloc::{AllocError, Global};
 use std::marker::Sync;
 use std::thread::Threads;
 
-/// A sink whose files were written ahead. One that was not is written when it is put.
+/// A sink whose files were written ahead. A file that was not is written when it is put.
 #[derive(Drop)]
 struct Ahead<K> {
     sink: K,
-    /// What came of the writing of each file, the next one last.
+    /// The writer's answer for each file, the next one last.
     written: Vec<Result<(), StoreFault>>,
 }
 
-/// What comes of the writing of each file, in the order of names.
+/// The writer's answer for each file, in the order of names.
 fn write_each<R: Threads + Sync, W: FileWriter>(
     rt: &R,
     alloc: Global,
@@ -28,7 +28,7 @@ fn write_each<R: Threads + Sync, W: FileWriter>(
 ) -> Result<Vec<Result<(), StoreFault>>, AllocError> {
     (0..files.len())
         .into_par_iter()
-        // a file is worth a thread
+        // each file is worth a thread
         .with_min_len(1)
         .map(
             |at: usize| -> Result<(), StoreFault>
@@ -41,7 +41,7 @@ fn write_each<R: Threads + Sync, W: FileWriter>(
         .collect(rt, alloc)
 }
 
-/// What came of the writing of each file, the first one last, where the sink has a writer. For want of memory it isn't told.
+/// The writer's answer for each file, the first one last, if the sink has a writer and memory is not refused.
 fn write_ahead<R: Threads + Sync, K: BatchSink>(
     rt: &R,
     alloc: Global,
@@ -86,8 +86,8 @@ impl<K: BatchSink> Sink for Ahead<K> {
     }
 }
 
-/// Saves files side by side: after a refusal, more than one may stand in part, and more than those
-/// before the one that is named.
+/// Saves files in parallel. After a failure, more than one file may be there in part, and more files than those before
+/// the one that is named.
 pub fn save_batch<R: Threads + Sync, K: BatchSink + Drop>(
     rt: &R,
     alloc: Global,

@@ -1,12 +1,12 @@
-//! What holds of the texts of columns.
+//! Laws about the texts of columns.
 ghost use Rattle.cs_piece.specs.Columns.{HaveOneColumn, ColumnTextsAreShort};
 
-/// No two columns have one text.
+/// No two columns have the same text.
 pub fn texts_are_of_one_column()
     ensures { HaveOneColumn }
 {}
 
-/// The text of a column has less than 2^32 bytes.
+/// The text of a column has fewer than 2^32 bytes.
 pub fn texts_are_short()
     ensures { ColumnTextsAreShort }
 {}

@@ -1,5 +1,5 @@
-//! Pieces of columns, whose code and kind are known as the program runs. What is written of a piece is the text of the
-//! column that it stands for, however the column was cut; and bytes are read as a column exactly where they are its text.
+//! Encoded parts of columns whose encoding and kind are known at run time. The text of a part is that of the column
+//! that it encodes, however the column was cut; bytes are read as a column only if they are its text.
 #![tactic(auto)]
 
 mod columns;

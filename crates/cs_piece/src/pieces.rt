@@ -1,4 +1,4 @@
-//! Pieces: parts of columns, whose code and kind are known as the program runs.
+//! Encoded parts of columns whose encoding and kind are known at run time.
 ghost use Rattle.std.specs.Prelude.{◌≡◌, ◌<◌, ◌≤◌, ℕ, IfOk, List, length, slice_index};
 ghost use Rattle.cs_codec.specs.ColumnText.{cell_bytes};
 ghost use Rattle.cs_codec.specs.Columns.{cells_at};
@@ -19,7 +19,7 @@ use cs_codec::runs::{Runs, RunsPart};
 use cs_schema::{Cells, Code, Texts, Word};
 use std::alloc::{AllocError, Global};
 
-/// A part of a column of some code and kind, which can be joined with the part that comes next.
+/// A part of a column of some encoding and kind, which can be joined with the part that follows it.
 #[derive(Drop)]
 pub enum Piece {
     IntRuns(RunsPart<i64, Vec<i64>>),
@@ -34,7 +34,7 @@ pub enum Piece {
 }
 
 impl Piece {
-    /// Whether one column can have the cells of both pieces.
+    /// Whether one column can have the cells of both parts.
     pub fn can_join(&self, other: &Piece) -> bool
         ensures { TellsFit self.now other.now result }
     {
@@ -65,13 +65,13 @@ impl Piece {
         }
     }
 
-    /// Makes room for so many more pieces as long as this one, where these are joined one behind the other.
+    /// Reserves room for `pieces` parts as long as this one, to be joined to it.
     pub fn reserve(&mut self, pieces: u32) -> Result<(), AllocError>
         ensures { (code : Code) (kind : Kind) (v : List Value) → IsPieceOf self.old code kind v → IsPieceOf self.new code kind v }
     {
         match self {
             Piece::PlainInts(part) => part.reserve(pieces),
-            // texts differ in length, so with some room to spare
+            // lengths of texts vary, so with some room to spare
             Piece::PlainTexts(part) => part.reserve(pieces.saturating_add(pieces / 8)),
             Piece::RisingInts(part) => part.reserve(pieces),
             Piece::IntRuns(part) => part.reserve(pieces),
@@ -81,7 +81,7 @@ impl Piece {
     }
 }
 
-/// The piece that stands for these cells.
+/// The part of these cells.
 pub fn encode_piece(alloc: Global, code: Code, cells: &Cells) -> Result<Piece, AllocError>
     requires { CanEncode code (kind_of cells.now) (values cells.now) }
     ensures { IfOk result (λ piece. IsPieceOf piece code (kind_of cells.now) (values cells.now)) }
@@ -147,8 +147,8 @@ pub fn encode_piece(alloc: Global, code: Code, cells: &Cells) -> Result<Piece, A
     })
 }
 
-/// The piece that stands for the cells at some places of a column, in the order of the places. Plain cells are written
-/// straight from the column. Cells under another code are copied first, since it compares neighbours.
+/// The part of a column's cells at these indices, in this order. Plain cells are written directly from the column. For
+/// other encodings, which compare neighbours, the cells are copied first.
 pub fn encode_places(
     alloc: Global,
     code: Code,
@@ -174,7 +174,7 @@ pub fn encode_places(
     }
 }
 
-/// The piece that stands for the cells of both, one after the other. A refusal gives up both.
+/// The part of the cells of both, one after the other. If memory is refused, both are dropped.
 pub fn join_pieces(left: Piece, right: Piece) -> Result<Piece, AllocError>
     requires { PiecesFit left right }
     ensures { IfOk result (λ piece. IsJoined left right piece) }
@@ -206,7 +206,7 @@ pub fn join_pieces(left: Piece, right: Piece) -> Result<Piece, AllocError>
     })
 }
 
-/// The text of the column that a piece stands for.
+/// The text of the column that a part encodes.
 pub fn write_piece(alloc: Global, piece: &Piece) -> Result<Vec<u8>, AllocError>
     ensures text { IfOk result (λ out. IsTextOf piece.now out.items) }
     ensures short { IfOk result (λ out. IsShortTextOf piece.now out.items) }
@@ -225,7 +225,7 @@ pub fn write_piece(alloc: Global, piece: &Piece) -> Result<Vec<u8>, AllocError>
     }
 }
 
-/// The text of the column that a piece stands for, which is given up: the text of plain cells isn't copied.
+/// The text of the column that a part encodes. The part is consumed: the text of plain cells is not copied.
 pub fn piece_text(alloc: Global, piece: Piece) -> Result<Vec<u8>, AllocError>
     ensures text { IfOk result (λ out. IsTextOf piece out.items) }
     ensures short { IfOk result (λ out. IsShortTextOf piece out.items) }
@@ -237,8 +237,8 @@ pub fn piece_text(alloc: Global, piece: Piece) -> Result<Vec<u8>, AllocError>
     }
 }
 
-/// The text of the runs that begin from one of the places of a column up to another, in the column of the cells at all places
-/// under `Code::Runs`. Nothing of the column is copied but what is written.
+/// The text of the runs that begin within a range of the indices, in the column of the cells at all indices under
+/// `Code::Runs`. Only what is written is copied.
 pub fn write_runs(
     alloc: Global,
     column: &Cells,

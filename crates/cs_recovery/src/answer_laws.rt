@@ -1,23 +1,24 @@
-//! Laws on answers of `rebuild` that are asked for again, and on those after `check`. Each function does nothing, and its contract is the law.
+//! Laws about answers of `rebuild` to repeated calls, and to calls after `check`. Each function does nothing; its
+//! contract is the law.
 ghost use Rattle.cs_recovery.specs.AnswerLaws.{OneAnswer, PartlyWrittenHolds, RestartAnswersTheSame, CheckedStoresRecover};
 
-/// Two answers on files that agree as far as they survive are the same fault or the same files, want of memory aside.
+/// Two answers on files that have the same survivors are the same fault or the same files, unless memory runs out.
 pub fn one_answer()
     ensures { OneAnswer }
 {}
 
-/// A store into which a part of a recovery was put holds its table still.
+/// A store into which some files of a recovery were put still holds its table.
 pub fn partly_written_holds()
     ensures { PartlyWrittenHolds }
 {}
 
-/// A recovery in place may stop anywhere: asked again for the same loss, `rebuild` answers the same files.
+/// A recovery in place may stop anywhere: called again for the same loss, `rebuild` answers the same files.
 pub fn restart_answers_the_same()
     ensures { RestartAnswersTheSame }
 {}
 
-/// Once `check` said ok, each loss of at most K sites is recovered from what survives it, want of memory aside, and the
-/// files put in place make the store whole again.
+/// Once `check` accepted a store, each loss of at most K sites is recovered from what survives it, unless memory runs
+/// out, and putting the files in place makes the store whole again.
 pub fn checked_stores_recover()
     ensures { CheckedStoresRecover }
 {}

@@ -1,20 +1,21 @@
-//! Laws on a store's table: handed out whole, and a new store built from it. Each function does nothing, and its contract is the law.
+//! Laws about a store's table when it is handed out whole, and about a new store built from it. Each function does
+//! nothing; its contract is the law.
 ghost use Rattle.cs_recovery.specs.TableAnswers.{TableAnswersSuffice};
 ghost use Rattle.cs_recovery.specs.BuildAnswers.{BuildAnswersSuffice, ColumnsAreTheTable};
 
-/// The other clauses of `table` follow from its answer: where the surviving files of a safe loss hold a table, that table is
-/// answered, want of memory aside.
+/// The other clauses of `table` follow from its answer: if the surviving files of a safe loss hold a table, that table
+/// is answered, unless memory runs out.
 pub fn table_answers_suffice()
     ensures { TableAnswersSuffice }
 {}
 
-/// The other clauses of `build` follow from its answer: what is built holds the table of the rows, and each safe loss of it
-/// is recovered to the same files, want of memory aside.
+/// The other clauses of `build` follow from its answer: the files hold the table of the rows, and each safe loss of
+/// them is recovered to the same files, unless memory runs out.
 pub fn build_answers_suffice()
     ensures { BuildAnswersSuffice }
 {}
 
-/// Columns that were answered for a table can be built from, and are that table's.
+/// Columns that `table` answered can be built from, and are those of the table.
 pub fn columns_are_the_table()
     ensures { ColumnsAreTheTable }
 {}

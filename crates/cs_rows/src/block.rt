@@ -1,6 +1,6 @@
-//! The walk of a block of anchor rows: the places of all its rows first, and then column by column.
+//! Walking a block of anchor rows: first the places of all its rows, then column by column.
 //!
-//! So the looks at join indexes and at cells of many rows are under way together.
+//! So the reads of join indexes and cells for many rows overlap.
 ghost use Rattle.std.specs.Prelude.{◌≡◌, ◌<◌, ◌≤◌, ◌-◌, ◌++◌, ℕ, List, length, map, IfErr, OnOk, false, None};
 ghost use Rattle.std.specs.List.{find};
 ghost use Rattle.cs_schema.specs.Values.{values, kind_of};
@@ -18,14 +18,14 @@ use crate::steps::follow;
 use cs_schema::Cells;
 use std::alloc::AllocError;
 
-/// The most rows of a block: their places fit into a processor's nearest cache.
+/// The maximum number of rows of a block. Their places fit the processor's fastest cache.
 pub(crate) const BLOCK_ROWS: u32 = 256;
 
-/// Where the walk of a row stands in each projection, of which there are at most 8.
+/// The row that a walk reached in each projection, of which there are at most 8.
 pub(crate) type Places = [(u16, u32); 8];
 
 impl PlanWalk<'_, '_> {
-    /// Finds where the walk of an anchor row stands in each projection that the plan reaches, and whether it is astray.
+    /// Finds the row that an anchor row's walk reaches in each projection of the plan. Fails if the walk is led astray.
     pub(crate) fn find_places(&self, row: (u16, u32), places: &mut [(u16, u32)]) -> bool
         requires row { IsAt self.now.survivors.now.catalog (contents_of self.now.survivors.now) self.now.plan.now.anchor row }
         requires places { length self.now.survivors.now.catalog.projections ≤ length places.old }
@@ -35,7 +35,7 @@ impl PlanWalk<'_, '_> {
         self.find_places_along(self.route.as_slice(), row, places)
     }
 
-    /// Finds them step by step along the walk's route.
+    /// Finds them step by step along the route.
     fn find_places_along(
         &self,
         route: &[(usize, usize)],
@@ -58,7 +58,7 @@ impl PlanWalk<'_, '_> {
         false
     }
 
-    /// Finds the places of a segment's rows, from the first number up to the second.
+    /// Finds the places of the segment's rows in a range.
     fn find_block(&self, s: u16, rows: (u32, u32), block: &mut Vec<Places>) -> Result<(), WalkFault>
         requires segment { s < segments self.now.survivors.now.catalog self.now.plan.now.anchor }
         requires order { rows.0 ≤ rows.1 }
@@ -83,7 +83,7 @@ impl PlanWalk<'_, '_> {
         Ok(())
     }
 
-    /// Puts the cells of a block's rows at the end of a column.
+    /// Appends the cells of a block's rows to a column.
     fn push_column(&self, block: &[Places], c: usize, cells: &mut Cells) -> Result<(), AllocError>
         requires places { AreSomePlaces self.now.survivors.now.catalog (contents_of self.now.survivors.now) self.now.plan.now block.now }
         requires column { c < length self.now.survivors.now.catalog.columns }
@@ -103,7 +103,7 @@ impl PlanWalk<'_, '_> {
         Ok(())
     }
 
-    /// Puts the cells of a block's rows at the ends of the columns.
+    /// Appends the cells of a block's rows to the columns.
     fn push_block(&self, block: &[Places], columns: &mut Vec<Cells>) -> Result<(), AllocError>
         requires places { AreSomePlaces self.now.survivors.now.catalog (contents_of self.now.survivors.now) self.now.plan.now block.now }
         requires columns { ColumnsFit self.now.survivors.now.catalog columns.old.items }
@@ -116,7 +116,7 @@ impl PlanWalk<'_, '_> {
         Ok(())
     }
 
-    /// Walks some rows of one of the anchor's segments, from the first number up to the second, with room for their places.
+    /// Walks a range of rows of one of the anchor's segments. `block` is scratch space for their places.
     pub(crate) fn walk_block(
         &self,
         s: u16,

@@ -1,4 +1,4 @@
-//! The walk by rows of a range of surviving rows.
+//! The walk by rows, from a range of surviving rows.
 ghost use Rattle.std.specs.Prelude.{◌≡◌, ◌<◌, ◌≤◌, ◌-◌, ◌++◌, ◌∷◌, [], Bool, List, length, map, true, false, IfOk, IfErr, OnOk, drop, take, None, Ok};
 ghost use Rattle.std.specs.List.{find, filter_map};
 ghost use Rattle.cs_schema.specs.CatalogData.{segments};
@@ -23,7 +23,7 @@ use crate::walked::Walked;
 use cs_schema::{Catalog, Cells, Loss};
 use std::alloc::{AllocError, Global};
 
-/// Puts the cells of a full row at the ends of the columns, from the rows that were reached.
+/// Appends the cells of a full row to the columns, read at the rows that were reached.
 fn push_row(
     survivors: &Survivors<'_>,
     reached: &[(u16, (u16, u32))],
@@ -47,7 +47,7 @@ fn push_row(
     Ok(())
 }
 
-/// Adds what a walk has found, if that is full and, if fresh rows alone are asked for, was not found before.
+/// Appends what a walk has found if it is a full row; with `fresh_only`, only if no earlier walk finds it.
 fn push_found(
     survivors: &Survivors<'_>,
     finding: &Finding,
@@ -72,7 +72,7 @@ fn push_found(
 }
 
 impl RowWalk<'_> {
-    /// Walks from one row, and adds what it finds, if that is to be given.
+    /// Walks from one row and appends what it finds, if that is wanted.
     fn walk_row(
         &self,
         row: (u16, (u16, u32)),
@@ -105,7 +105,7 @@ impl RowWalk<'_> {
         Ok(())
     }
 
-    /// Walks from the rows of a segment, from the first number up to the second.
+    /// Walks from a range of a segment's rows.
     fn walk_segment(
         &self,
         segment: (u16, u16),
@@ -138,7 +138,7 @@ impl RowWalk<'_> {
         Ok(())
     }
 
-    /// Walks from the surviving rows of a projection numbered from..to.
+    /// Walks from the surviving rows `from..to` of a projection.
     fn walk_projection(
         &self,
         p: u16,
@@ -170,7 +170,7 @@ impl RowWalk<'_> {
         Ok(())
     }
 
-    /// Walks from the surviving rows numbered from..to, through all projections.
+    /// Walks from the surviving rows `from..to` of all projections.
     fn walk_projections(
         &self,
         range: (usize, usize),
@@ -197,7 +197,7 @@ impl RowWalk<'_> {
         Ok(())
     }
 
-    /// The rows that the walks from the surviving rows numbered from..to give.
+    /// The rows that the walks from the surviving rows `from..to` find.
     fn range(
         &self,
         alloc: Global,
@@ -230,11 +230,11 @@ impl RowWalk<'_> {
     }
 }
 
-/// The full rows among the surviving rows numbered from..to: every row whose walk finds a whole row gives that row, in the
-/// order of their numbers.
+/// Walks from the surviving rows `from..to` and returns each full row that they find, in the order of the rows walked
+/// from.
 ///
-/// The surviving rows are those of all segments that are not lost, by projection, segment and position. Refuses with
-/// `Astray` the first of them that the join indexes lead astray, and with `Memory` only when memory runs out.
+/// The surviving rows are those of all segments that are not lost, by projection, segment and position. Fails with
+/// `Astray` at the first of them that the join indexes lead astray, and with `Memory` only if memory is refused.
 pub fn walk_rows(
     alloc: Global,
     catalog: &Catalog,
@@ -258,10 +258,10 @@ pub fn walk_rows(
     walk.range(alloc, catalog, from, to)
 }
 
-/// The rows of `walk_rows` without those whose key is read in a row of an earlier projection that has every column: the walk
-/// from there finds it by itself. `rebuild` leaves them out while it walks, since they are later repeats of a key.
+/// The rows of `walk_rows` without those whose key is read in a row of an earlier projection that has every column: the
+/// walk from there finds the row too. `rebuild` uses this, since these rows are later repeats of a key.
 ///
-/// Refuses as `walk_rows` does.
+/// Fails as `walk_rows` does.
 pub fn walk_fresh_rows(
     alloc: Global,
     catalog: &Catalog,

@@ -1,4 +1,4 @@
-//! What walks ask of the catalog of survivors.
+//! Look-ups in the catalog of survivors.
 ghost use Rattle.std.specs.Prelude.{◌≡◌, ◌<◌, length};
 ghost use Rattle.cs_schema.specs.CatalogData.{column, projection, segments, has_join};
 ghost use Rattle.cs_schema.specs.Losses.{lost};
@@ -8,7 +8,7 @@ use crate::numbers;
 use crate::survivors::Survivors;
 use cs_schema::{Kind, Loss};
 
-/// How many projections there are.
+/// The number of projections.
 pub(crate) fn projection_count(survivors: &Survivors<'_>) -> u16
     ensures count { result ≡ length survivors.now.catalog.projections }
     ensures rules { IsCatalog survivors.now.catalog }
@@ -16,7 +16,7 @@ pub(crate) fn projection_count(survivors: &Survivors<'_>) -> u16
     survivors.catalog().projection_count()
 }
 
-/// How many columns the table has.
+/// The number of columns of the table.
 pub(crate) fn column_count(survivors: &Survivors<'_>) -> usize
     ensures count { result ≡ length survivors.now.catalog.columns }
     ensures rules { IsCatalog survivors.now.catalog }
@@ -32,7 +32,7 @@ pub(crate) fn key_column(survivors: &Survivors<'_>) -> usize
     numbers::key_column(survivors.catalog())
 }
 
-/// How many segments a projection has.
+/// The number of segments of a projection.
 pub(crate) fn segments(survivors: &Survivors<'_>, p: u16) -> u16
     requires { p < length survivors.now.catalog.projections }
     ensures count { result ≡ segments survivors.now.catalog p }
@@ -49,7 +49,7 @@ pub(crate) fn columns_of<'a>(survivors: &Survivors<'a>, p: usize) -> &'a [u8]
     numbers::columns_of(survivors.catalog(), p)
 }
 
-/// What the cells of a column of the table are.
+/// The kind of a column of the table.
 pub(crate) fn kind(survivors: &Survivors<'_>, c: usize) -> Kind
     requires { c < length survivors.now.catalog.columns }
     ensures { result ≡ (column survivors.now.catalog c).kind }
@@ -66,7 +66,7 @@ pub(crate) fn is_lost(survivors: &Survivors<'_>, loss: Loss, p: u16, s: u16) -> 
     survivors.catalog().lost(p, s, loss)
 }
 
-/// Whether a projection has a declared join to another.
+/// Whether a projection declares a join to another.
 pub(crate) fn has_join(survivors: &Survivors<'_>, p: u16, q: u16) -> bool
     requires { p < length survivors.now.catalog.projections }
     ensures { result ≡ has_join survivors.now.catalog p q }

@@ -1,4 +1,4 @@
-//! How many rows there are to walk.
+//! Numbers of rows to walk.
 ghost use Rattle.std.specs.Prelude.{◌≡◌, ◌<◌, ◌≤◌, length};
 ghost use Rattle.cs_schema.specs.CatalogData.{segments};
 ghost use Rattle.cs_rows.specs.Walk.{projection_rows};
@@ -12,7 +12,7 @@ use crate::plan_walk::PlanWalk;
 use crate::survivors::Survivors;
 use cs_schema::Loss;
 
-/// The number of rows of a segment's image, 0 where it isn't there.
+/// The number of rows of a segment's image, 0 if it is absent.
 pub(crate) fn row_count(survivors: &Survivors<'_>, p: u16, s: u16) -> u32
     requires projection { p < length survivors.now.catalog.projections }
     requires segment { s < segments survivors.now.catalog p }
@@ -24,7 +24,7 @@ pub(crate) fn row_count(survivors: &Survivors<'_>, p: u16, s: u16) -> u32
     }
 }
 
-/// How many rows the images of a projection have.
+/// The number of rows of a projection's images.
 pub(crate) fn rows_in_projection(survivors: &Survivors<'_>, p: u16) -> usize
     requires { p < length survivors.now.catalog.projections }
     ensures { result ≡ length (projection_rows survivors.now.catalog (contents_of survivors.now) p) }
@@ -37,7 +37,7 @@ pub(crate) fn rows_in_projection(survivors: &Survivors<'_>, p: u16) -> usize
 }
 
 impl PlanWalk<'_, '_> {
-    /// How many rows the anchor has, in all its segments: those that a range of the walk numbers.
+    /// The number of rows of the anchor, over all its segments. A range of the walk numbers these.
     pub fn anchor_rows(&self) -> usize
         ensures { result ≡ length (projection_rows self.now.survivors.now.catalog (contents_of self.now.survivors.now) self.now.plan.now.anchor) }
     {
@@ -45,7 +45,7 @@ impl PlanWalk<'_, '_> {
     }
 }
 
-/// How many rows survive in all projections: those that `walk_rows` numbers.
+/// The number of surviving rows of all projections. `walk_rows` numbers these.
 pub fn surviving_row_count(survivors: &Survivors<'_>, loss: Loss) -> usize
     ensures { result ≡ length (surviving_rows survivors.now.catalog loss (contents_of survivors.now)) }
 {
@@ -56,7 +56,7 @@ pub fn surviving_row_count(survivors: &Survivors<'_>, loss: Loss) -> usize
     count
 }
 
-/// How many rows survive in a segment.
+/// The number of surviving rows of a segment.
 pub(crate) fn kept_in_segment(survivors: &Survivors<'_>, loss: Loss, p: u16, s: u16) -> u32
     requires projection { p < length survivors.now.catalog.projections }
     requires segment { s < segments survivors.now.catalog p }
@@ -68,7 +68,7 @@ pub(crate) fn kept_in_segment(survivors: &Survivors<'_>, loss: Loss, p: u16, s: 
     row_count(survivors, p, s)
 }
 
-/// How many rows survive in a projection: at most 16 times 2^32.
+/// The number of surviving rows of a projection: at most 16 times 2^32.
 pub(crate) fn kept_in_projection(survivors: &Survivors<'_>, loss: Loss, p: u16) -> usize
     requires { p < length survivors.now.catalog.projections }
     ensures count { result ≡ length (projection_kept survivors.now.catalog loss (contents_of survivors.now) p) }

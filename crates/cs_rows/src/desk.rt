@@ -1,4 +1,4 @@
-//! Room for walks by rows.
+//! Scratch space for walks by rows.
 ghost use Rattle.std.specs.Prelude.{Bool, IfOk};
 ghost use Rattle.cs_schema.specs.CatalogRules.{IsCatalog};
 ghost use Rattle.cs_rows.specs.RowSteps.{IsReading};
@@ -9,7 +9,7 @@ use crate::sources::Reading;
 use cs_schema::Catalog;
 use std::alloc::{AllocError, Global};
 
-/// Room for the walk from one row, made once for all rows.
+/// Scratch space for the walk from one row, allocated once for all rows.
 #[derive(Drop)]
 pub(crate) struct Desk {
     pub(crate) finding: Finding,
@@ -17,7 +17,7 @@ pub(crate) struct Desk {
     pub(crate) reading: Reading,
 }
 
-/// Room for the walk from a row of a catalog.
+/// Scratch space for the walk from a row under a catalog.
 pub(crate) fn new_desk(alloc: Global, catalog: &Catalog) -> Result<Desk, AllocError>
     ensures reading { IfOk result (λ desk. (fresh_only : Bool) → IsReading fresh_only catalog.now desk.reading) }
     ensures rules { IsCatalog catalog.now }

@@ -1,4 +1,4 @@
-//! The cells that walked pieces have in a column, joined.
+//! Concatenating the cells of walked parts in a column.
 ghost use Rattle.std.specs.Prelude.{◌≡◌, ◌<◌, All, IfOk, length, map};
 ghost use Rattle.std.specs.List.{flat_map};
 ghost use Rattle.cs_schema.specs.CatalogData.{column};
@@ -11,7 +11,7 @@ use crate::walked::Walked;
 use cs_schema::{Catalog, Cells};
 use std::alloc::{AllocError, Global};
 
-/// How many rows the pieces have together.
+/// The total number of rows of the parts.
 pub fn rows_in(pieces: &[Walked]) -> usize
     ensures { All IsWide pieces.now }
 {
@@ -22,7 +22,7 @@ pub fn rows_in(pieces: &[Walked]) -> usize
     rows
 }
 
-/// How many bytes the texts have together that the pieces have in a column.
+/// The total number of bytes of the parts' texts in a column.
 pub(crate) fn text_size(catalog: &Catalog, pieces: &[Walked], c: usize) -> usize
     requires column { c < length catalog.now.columns }
     requires kinds { All (λ piece. piece.kinds ≡ map (λ c. c.kind) catalog.now.columns) pieces.now }
@@ -34,7 +34,7 @@ pub(crate) fn text_size(catalog: &Catalog, pieces: &[Walked], c: usize) -> usize
     size
 }
 
-/// The cells that the pieces have in a column, one piece after the other.
+/// The cells of the parts in a column, one part after the other.
 pub fn join_column(
     alloc: Global,
     catalog: &Catalog,

@@ -1,17 +1,17 @@
-//! Laws over survivors: each function does nothing, and its contract is the law.
+//! Laws about survivors. Each function does nothing; its contract is the law.
 ghost use Rattle.cs_rows.specs.PutLaws.{RoomIsEmpty, ImagesArePut, JoinsArePut};
 
-/// The room made for a catalog has a place for each of its names, and nothing is there.
+/// The room made for a catalog has a slot for each of its names, and all are empty.
 pub fn room_is_empty()
     ensures { RoomIsEmpty }
 {}
 
-/// An image that is put stands at its segment; nothing else changes, and the room stays.
+/// Putting an image fills its segment's slot; nothing else changes.
 pub fn images_are_put()
     ensures { ImagesArePut }
 {}
 
-/// A join index that is put stands at its segment and target; nothing else changes, and the room stays.
+/// Putting a join index fills the slot of its segment and target; nothing else changes.
 pub fn joins_are_put()
     ensures { JoinsArePut }
 {}

@@ -1,4 +1,4 @@
-//! Columns that stand whole in an image, which lends them.
+//! Columns borrowed whole from an image.
 ghost use Rattle.std.specs.Prelude.{◌≡◌, ◌++◌, ◌∷◌, [], None, OnOk, slice_index_or};
 ghost use Rattle.std.specs.Option.{is_some, option_map};
 
@@ -6,7 +6,7 @@ use cs_schema::Cells;
 use std::alloc::{AllocError, Global};
 use std::marker::Model;
 
-/// For columns, from the first on, what an image lends in place of each, where one does.
+/// For each column, from the first on, the borrowed column that takes its place, if any.
 #[derive(Drop)]
 pub struct Lent<'a> {
     columns: Vec<Option<&'a Cells>>,
@@ -23,7 +23,7 @@ impl<'a> Model for Lent<'a> {
 }
 
 impl<'a> Lent<'a> {
-    /// Nothing is lent.
+    /// No column is borrowed.
     pub fn nothing(alloc: Global) -> Self
         ensures { result ≡ [] }
     {
@@ -32,7 +32,7 @@ impl<'a> Lent<'a> {
         }
     }
 
-    /// Notes what is lent in place of the next column.
+    /// Adds what is borrowed for the next column.
     pub fn push(&mut self, column: Option<&'a Cells>) -> Result<(), AllocError>
         ensures ok { OnOk result (self.new ≡ self.old ++ option_map (λ lent. lent.now) column.entry ∷ []) }
     {
@@ -40,7 +40,7 @@ impl<'a> Lent<'a> {
         Ok(())
     }
 
-    /// What is lent in place of a column.
+    /// What is borrowed for a column.
     pub fn column(&self, c: usize) -> Option<&Cells>
         ensures { option_map (λ lent. lent.now) result ≡ slice_index_or self.now c None }
     {
@@ -50,7 +50,7 @@ impl<'a> Lent<'a> {
         None
     }
 
-    /// Whether anything is lent in place of a column.
+    /// Whether a column is borrowed.
     pub fn has(&self, c: usize) -> bool
         ensures { result ≡ is_some (slice_index_or self.now c None) }
     {

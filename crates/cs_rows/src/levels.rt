@@ -16,17 +16,17 @@ use cs_schema::Loss;
 use std::alloc::{AllocError, Global};
 use std::marker::Model;
 
-/// How an entry of a join index ends.
+/// Where an entry of a join index leads.
 #[derive(Clone, Copy)]
 pub(crate) enum Landed {
     Astray,
     Lost,
-    /// A row's segment, and its position in the image.
+    /// A row's segment and its position in the image.
     Row((u16, u32)),
 }
 
-/// What the walk from a row has found: the rows reached by their projections, in the order of levels and
-/// numbers, the start of the last level among them, and the projections whose segment is lost.
+/// What the walk from a row has found: the rows reached, with their projections, by level and number; the start of the
+/// last level among them; and the projections whose segment is lost.
 #[derive(Drop)]
 pub(crate) struct Finding {
     reached: Vec<(u16, (u16, u32))>,
@@ -50,7 +50,7 @@ impl Model for Finding {
 pub(crate) struct RowWalk<'a> {
     pub(crate) survivors: &'a Survivors<'a>,
     pub(crate) loss: Loss,
-    /// Whether rows that the walk from an earlier row finds by itself are left out.
+    /// Whether to leave out rows that the walk from an earlier row finds too.
     pub(crate) fresh_only: bool,
 }
 
@@ -85,7 +85,7 @@ fn position(survivors: &Survivors<'_>, q: u16, segment: u16, key: u32) -> Option
     }
 }
 
-/// How the entry of a row to a projection ends.
+/// Where the entry of a row to a projection leads.
 fn land(walk: &RowWalk<'_>, from: (u16, (u16, u32)), q: u16) -> Landed
     requires from { Stands walk.now.survivors.now.catalog (contents_of walk.now.survivors.now) from }
     requires projection { q < length walk.now.survivors.now.catalog.projections }
@@ -109,7 +109,7 @@ fn land(walk: &RowWalk<'_>, from: (u16, (u16, u32)), q: u16) -> Landed
     }
 }
 
-/// The first row whose projection has a declared join to `q`.
+/// The first of the rows whose projection declares a join to `q`.
 fn first_joined(
     survivors: &Survivors<'_>,
     rows: &[(u16, (u16, u32))],
@@ -126,21 +126,21 @@ fn first_joined(
     None
 }
 
-/// Whether a projection is among those of some rows.
+/// Whether one of the rows is of a projection.
 fn is_among(rows: &[(u16, (u16, u32))], q: u16) -> bool
     ensures { result ≡ list_any (λ r. r.0 == q) rows.now }
 {
     rows.iter().any(|row| row.0 == q)
 }
 
-/// Whether a projection is among the marked ones.
+/// Whether a projection is marked.
 fn is_marked(marked: &[u16], q: u16) -> bool
     ensures { result ≡ member marked.now q }
 {
     marked.iter().any(|mark| *mark == q)
 }
 
-/// Adds the landings of a level to what was found. Tells whether none is astray.
+/// Adds the targets of a level to what was found. Answers whether none is astray.
 fn enter_all(
     reached: &mut Vec<(u16, (u16, u32))>,
     marked: &mut Vec<u16>,
@@ -162,7 +162,7 @@ fn enter_all(
 }
 
 impl Finding {
-    /// Room for so many projections.
+    /// Room for `count` projections.
     pub(crate) fn new(alloc: Global, count: usize) -> Result<Self, AllocError> {
         Ok(Finding {
             reached: Vec::with_capacity(alloc, count)?,
@@ -185,7 +185,7 @@ impl Finding {
         &self.reached.as_slice()[self.last..]
     }
 
-    /// Starts the walk from a row.
+    /// Starts the walk at a row.
     fn start(&mut self, row: (u16, (u16, u32))) -> Result<(), AllocError>
         ensures { OnOk result (self.new ≡ started row) }
     {
@@ -210,7 +210,7 @@ impl Finding {
         is_among(self.reached.as_slice(), q) || is_marked(self.marked.as_slice(), q)
     }
 
-    /// The landing at a projection, where the next level looks at it.
+    /// The target in a projection, if the next level looks there.
     fn look(&self, walk: &RowWalk<'_>, q: u16) -> Option<Landed>
         requires stand { AllStand walk.now.survivors.now.catalog (contents_of walk.now.survivors.now) self.now }
         requires projection { q < length walk.now.survivors.now.catalog.projections }
@@ -226,7 +226,7 @@ impl Finding {
         }
     }
 
-    /// The landings of the next level.
+    /// The targets of the next level.
     fn look_ahead(
         &self,
         walk: &RowWalk<'_>,
@@ -246,7 +246,7 @@ impl Finding {
         Ok(())
     }
 
-    /// Goes on by a level. Tells whether none of its landings is astray.
+    /// Adds the next level. Answers whether none of its targets is astray.
     fn enter(&mut self, landings: &[(u16, Landed)]) -> Result<bool, AllocError>
         ensures sound { IfOk result (λ sound. sound ≡ not (list_any is_stray_landing (landings_of landings.now))) }
         ensures entered { IfOk result (λ sound. sound ≡ true → self.new ≡ with_level self.old (landings_of landings.now)) }
@@ -258,7 +258,7 @@ impl Finding {
     }
 }
 
-/// Walks from a row until a level reaches nothing. Tells whether the walk is not astray.
+/// Walks from a row until a level reaches nothing. Answers whether the walk is not astray.
 #[inline(always)]
 pub(crate) fn walk_from(
     walk: &RowWalk<'_>,

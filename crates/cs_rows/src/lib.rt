@@ -1,10 +1,10 @@
 //! Walks through the join indexes of surviving segments.
 //!
-//! `walk_range` gives the rows that a plan's walk finds from some rows of its anchor, `walk_rows` the full rows that
-//! the walks from some surviving rows find, and each refuses the first row that is led astray. A row costs one look at
-//! a join index for each projection that is reached, and no memory but that of its cells. `Walked::append` joins walked
-//! rows, `Walked::once` leaves out the later rows of a key. `walk_fresh_rows` and `join_once` come to the same rows as
-//! both after `walk_rows`, and are what `rebuild` calls. `laws` has what a put changes.
+//! `walk_range` gives the rows that a plan's walk finds from a range of its anchor's rows, `walk_rows` the full rows
+//! that the walks from a range of surviving rows find. Each fails at the first row that is led astray. A row costs one
+//! look-up in a join index for each projection that it reaches, and no memory except for its cells. `Walked::append`
+//! concatenates walked rows; `Walked::once` removes later rows with the same key. `walk_fresh_rows` and `join_once`
+//! together give the rows of `walk_rows`, `append` and `once`; `rebuild` calls them. `laws` says what a put changes.
 #![tactic(auto)]
 
 mod block;

@@ -1,4 +1,4 @@
-//! Marks of rows, and cells without those of marked rows.
+//! Marks of rows, and copying cells without those of marked rows.
 ghost use Rattle.std.specs.Prelude.{◌≡◌, ◌≤◌, ◌-◌, ◌++◌, false, IfOk, OnOk, length, take, drop, replicate};
 ghost use Rattle.cs_schema.specs.Values.{values, kind_of};
 ghost use Rattle.cs_rows.specs.Repeats.{unmarked};
@@ -17,7 +17,7 @@ pub(crate) fn no_marks(alloc: Global, count: usize) -> Result<Vec<bool>, AllocEr
     Ok(marks)
 }
 
-/// Pushes copies of another column's cells, from one place up to another.
+/// Appends copies of the cells `from..to` of another column.
 fn push_run(left: &mut Cells, cells: &Cells, from: usize, to: usize) -> Result<(), AllocError>
     requires kind { kind_of cells.now ≡ kind_of left.old }
     requires order { from ≤ to }
@@ -31,7 +31,7 @@ fn push_run(left: &mut Cells, cells: &Cells, from: usize, to: usize) -> Result<(
     left.extend(cells, from, to)
 }
 
-/// Pushes a copy of each unmarked cell of another column, in their order: those between two marked ones at once.
+/// Appends a copy of each unmarked cell of another column, in order. Cells between two marked ones are copied at once.
 pub(crate) fn push_unmarked(
     left: &mut Cells,
     cells: &Cells,
@@ -42,7 +42,7 @@ pub(crate) fn push_unmarked(
     ensures kind { kind_of left.new ≡ kind_of left.old }
     ensures cells { OnOk result (values left.new ≡ values left.old ++ unmarked marks.now (values cells.now)) }
 {
-    // where the cells begin that are still to be pushed
+    // the first cell that is still to be copied
     let mut from = 0;
     for at in 0..marks.len() {
         if marks[at] {

@@ -1,6 +1,6 @@
-//! Rows whose key is an int that stands in an earlier row, where the ints lie close together.
+//! Finding repeated int keys that lie close together.
 //!
-//! Each int from the least to the greatest has a mark then, so that rows are looked through once and nothing is sorted.
+//! Each int from the least to the greatest has a mark, so rows are read once and nothing is sorted.
 ghost use Rattle.std.specs.Prelude.{◌≡◌, ◌≤◌, All, IfSome, OnOk, map, length};
 ghost use Rattle.cs_schema.specs.declared.cells.Value.{Value};
 ghost use Rattle.cs_rows.specs.Repeats.{AreRepeats, IsNear};
@@ -8,10 +8,10 @@ ghost use Rattle.cs_rows.specs.Repeats.{AreRepeats, IsNear};
 use crate::marks::no_marks;
 use std::alloc::{AllocError, Global};
 
-/// How many marks may stand for each row: they take half the room of its pair.
+/// The maximum number of marks for each row: they take half the room of the row's pair.
 const MARKS: u64 = 8;
 
-/// The least int, and how many numbers there are from it to the greatest, where these are few for so many rows.
+/// The least int, and the number of ints from it to the greatest, if that is small for the number of rows.
 pub(crate) fn near_ints(ints: &[i64]) -> Option<(i64, usize)>
     ensures { IfSome result (λ near. All (IsNear near.0 near.1) ints.now) }
 {
@@ -32,7 +32,7 @@ pub(crate) fn near_ints(ints: &[i64]) -> Option<(i64, usize)>
     }
 }
 
-/// Marks each row whose int stands in an earlier row, where each int is one of `count` from the least on.
+/// Marks each row whose int occurs in an earlier row. Each int is one of the `count` ints from the least on.
 pub(crate) fn mark_near_ints(
     alloc: Global,
     ints: &[i64],

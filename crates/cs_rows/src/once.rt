@@ -1,5 +1,5 @@
-//! The rows of walked pieces, each primary key once. Only the keys are joined to find the repeats: every other cell that
-//! is left goes straight from its piece to its column.
+//! The rows of walked parts, each primary key once. Only the keys are concatenated to find the repeats; every other
+//! cell that remains is copied once, from its part to its column.
 ghost use Rattle.std.specs.Prelude.{◌≡◌, ◌<◌, All, IfOk, count_by, length, map, not};
 ghost use Rattle.std.specs.List.{flat_map};
 ghost use Rattle.cs_schema.specs.CatalogData.{column};
@@ -22,7 +22,7 @@ use rayon::prelude::*;
 use std::alloc::{AllocError, Global};
 use std::thread::Threads;
 
-/// Marks the rows of all pieces whose primary key stands in an earlier one.
+/// Marks the rows of all parts whose primary key occurs in an earlier row.
 fn mark_repeats_in<R: Threads + Sync>(
     rt: &R,
     alloc: Global,
@@ -36,14 +36,14 @@ fn mark_repeats_in<R: Threads + Sync>(
     find_repeats(rt, alloc, &keys)
 }
 
-/// How many marks aren't set.
+/// The number of marks that are not set.
 fn count_unmarked(marks: &[bool]) -> usize
     ensures { result ≡ count_by not marks.now }
 {
     marks.iter().filter(|mark| !**mark).count()
 }
 
-/// About how many bytes the texts take of so many of the pieces' cells in a column.
+/// An estimate of the bytes of the texts of `left` of the parts' cells in a column.
 fn estimate_text(catalog: &Catalog, pieces: &[Walked], left: usize, c: usize) -> usize
     requires column { c < length catalog.now.columns }
     requires kinds { All (λ piece. piece.kinds ≡ map (λ c. c.kind) catalog.now.columns) pieces.now }
@@ -56,7 +56,7 @@ fn estimate_text(catalog: &Catalog, pieces: &[Walked], left: usize, c: usize) ->
     mean.saturating_add(1).saturating_mul(left)
 }
 
-/// The unmarked cells that the pieces have in a column, one piece after the other. Room is made for `left` of them.
+/// The unmarked cells of the parts in a column, one part after the other. Room is reserved for `left` of them.
 fn join_unmarked(
     alloc: Global,
     catalog: &Catalog,
@@ -81,7 +81,7 @@ fn join_unmarked(
     Ok(joined)
 }
 
-/// The columns of the unmarked rows of all pieces, each made in a thread of its own.
+/// The columns of the unmarked rows of all parts, each made in a thread of its own.
 fn unmarked_columns<R: Threads + Sync>(
     rt: &R,
     alloc: Global,
@@ -96,12 +96,12 @@ fn unmarked_columns<R: Threads + Sync>(
     ensures wide { All IsWide pieces.now }
     ensures rules { IsCatalog catalog.now }
 {
-    // tells how wide the rows are
+    // says how wide the rows are
     let _rows = rows_in(pieces);
     let left = count_unmarked(marks);
     (0..column_count(catalog))
         .into_par_iter()
-        // a column is worth a thread
+        // each column is worth a thread
         .with_min_len(1)
         .map(
             |c: usize| -> Result<Cells, AllocError>
@@ -114,8 +114,8 @@ fn unmarked_columns<R: Threads + Sync>(
         .collect::<Result<Vec<Cells>, AllocError>>(rt, alloc)?
 }
 
-/// The rows of all pieces, one after the other, without each row whose primary key stands in an earlier one, in n log n
-/// steps. Of the pieces' columns only the keys are joined.
+/// The rows of all parts, one after the other, without each row whose primary key occurs in an earlier one, in O(n log
+/// n) steps. Of the parts' columns only the keys are concatenated.
 pub fn join_once<R: Threads + Sync>(
     rt: &R,
     alloc: Global,
@@ -145,7 +145,7 @@ fn columns_left(
     ensures wide { IsWide walked.now }
     ensures rules { IsCatalog catalog.now }
 {
-    // tells how wide the rows are
+    // says how wide the rows are
     let _rows = walked.rows();
     let mut columns = Vec::new(alloc);
     for c in 0..column_count(catalog) {
@@ -156,7 +156,7 @@ fn columns_left(
     Ok(columns)
 }
 
-/// The rows of a walk without each row whose primary key stands in an earlier one, in n log n steps of this thread alone.
+/// The rows of a walk without each row whose primary key occurs in an earlier one, in O(n log n) steps of this thread.
 pub(crate) fn first_rows(
     alloc: Global,
     catalog: &Catalog,

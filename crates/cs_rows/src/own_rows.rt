@@ -1,5 +1,5 @@
-//! The walk by rows from a projection that has every column of the table: each row is full by itself, so the walk only tells
-//! whether it is astray, and the cells of many rows are copied at once.
+//! The walk by rows from a projection that has every column of the table (a superprojection): each row is full by
+//! itself, so the walk only checks whether it is led astray, and the cells of many rows are copied at once.
 ghost use Rattle.std.specs.Prelude.{◌≡◌, ◌<◌, ◌≤◌, ◌-◌, ◌++◌, ◌∷◌, [], ℕ, List, IfErr, OnOk, None, length, slice_index_or};
 ghost use Rattle.std.specs.List.{find, filter_map};
 ghost use Rattle.cs_schema.specs.CatalogData.{segments};
@@ -20,7 +20,7 @@ use crate::survivors::Survivors;
 use cs_schema::Cells;
 use std::alloc::AllocError;
 
-/// Whether a projection has every column of the table.
+/// Whether a projection is a superprojection.
 pub(crate) fn has_all_columns(survivors: &Survivors<'_>, p: u16) -> bool
     requires { p < length survivors.now.catalog.projections }
     ensures { result ≡ has_all survivors.now.catalog p }
@@ -34,7 +34,7 @@ pub(crate) fn has_all_columns(survivors: &Survivors<'_>, p: u16) -> bool
     true
 }
 
-/// Copies the cells of a segment's rows, from the first number up to the second, to the ends of the table's columns.
+/// Appends the cells of a range of a segment's rows to the table's columns.
 pub(crate) fn copy_rows(
     survivors: &Survivors<'_>,
     segment: (u16, u16),
@@ -67,7 +67,7 @@ pub(crate) fn copy_rows(
 }
 
 impl RowWalk<'_> {
-    /// Walks from one row, whatever that finds.
+    /// Walks from one row, whatever it finds.
     fn follow_row(&self, row: (u16, (u16, u32)), desk: &mut Desk) -> Result<(), WalkFault>
         requires { Stands self.now.survivors.now.catalog (contents_of self.now.survivors.now) row }
         ensures reading { desk.new.reading ≡ desk.old.reading }
@@ -84,7 +84,7 @@ impl RowWalk<'_> {
         Ok(())
     }
 
-    /// Follows the rows of a segment, from the first number up to the second.
+    /// Follows a range of a segment's rows.
     fn follow_segment(
         &self,
         segment: (u16, u16),
@@ -109,7 +109,7 @@ impl RowWalk<'_> {
         Ok(())
     }
 
-    /// Walks a segment of a projection that has every column of the table: each row is full by itself.
+    /// Walks a segment of a superprojection: each row is full by itself.
     pub(crate) fn walk_own_rows(
         &self,
         segment: (u16, u16),
@@ -129,7 +129,7 @@ impl RowWalk<'_> {
         ensures cells { OnOk result ((found : List Row) → AreRows self.now.survivors.now.catalog found columns.old.items → AreRows self.now.survivors.now.catalog (found ++ filter_map (given_row self.now.fresh_only self.now.survivors.now.catalog self.now.loss (contents_of self.now.survivors.now)) (reached_from segment.0 segment.1 rows.0 (rows.1 - rows.0))) columns.new.items) }
         ensures fault { IfErr result (IsStrayFault self.now.survivors.now.catalog self.now.loss (contents_of self.now.survivors.now) (reached_from segment.0 segment.1 rows.0 (rows.1 - rows.0))) }
     {
-        // tells that the key is a column
+        // says that the key is a column
         let _rules = projection_count(self.survivors);
         match self.follow_segment(segment, rows, desk) {
             Ok(()) => {}

@@ -1,4 +1,4 @@
-//! The walk of a plan, as what it knows before its first row.
+//! The walk of a plan: what it knows before its first row.
 ghost use Rattle.std.specs.Prelude.{◌≡◌, ◌<◌, ◌==◌, ℕ, length, slice_index_or, IfOk, IsTrue, ◌↔◌};
 ghost use Rattle.cs_schema.specs.CatalogData.{column};
 ghost use Rattle.cs_schema.specs.CatalogRules.{IsCatalog};
@@ -16,8 +16,8 @@ use cs_safety::Plan;
 use cs_schema::{Catalog, Kind};
 use std::alloc::{AllocError, Global};
 
-/// The walk of a plan through what survives: where each column of the table is read, and the steps to the projections that
-/// the plan reaches.
+/// The walk of a plan through what survives: where each column of the table is read, and the steps to the projections
+/// that the plan reaches.
 #[derive(Drop)]
 pub struct PlanWalk<'p, 'a> {
     pub survivors: &'a Survivors<'a>,
@@ -29,7 +29,7 @@ pub struct PlanWalk<'p, 'a> {
     pub ghost route_is: { IsRoute survivors.now.catalog plan.now route.items },
 }
 
-/// Where each column of the table is read: in a projection, and the number of the column there.
+/// For each column of the table, the projection where it is read and its number there.
 fn find_reads(
     alloc: Global,
     catalog: &Catalog,
@@ -47,7 +47,7 @@ fn find_reads(
 }
 
 impl<'p, 'a> PlanWalk<'p, 'a> {
-    /// The walk of a plan of a catalog through what survives of its store.
+    /// The walk of a plan through what survives of a store.
     pub fn new(
         alloc: Global,
         catalog: &Catalog,
@@ -70,7 +70,7 @@ impl<'p, 'a> PlanWalk<'p, 'a> {
         })
     }
 
-    /// How many columns the table has.
+    /// The number of columns of the table.
     pub fn column_count(&self) -> usize
         ensures count { result ≡ length self.now.survivors.now.catalog.columns }
         ensures rules { IsCatalog self.now.survivors.now.catalog }
@@ -78,7 +78,7 @@ impl<'p, 'a> PlanWalk<'p, 'a> {
         catalog_of::column_count(self.survivors)
     }
 
-    /// What the cells of a column of the table are.
+    /// The kind of a column of the table.
     pub fn kind(&self, c: usize) -> Kind
         requires { c < length self.now.survivors.now.catalog.columns }
         ensures { result ≡ (column self.now.survivors.now.catalog c).kind }

@@ -27,7 +27,7 @@ use std::alloc::{AllocError, AllocFailed, Global};
 /// Why a walk gives no rows.
 #[derive(Debug, Clone, Copy, PartialEq, Eq)]
 pub enum WalkFault {
-    /// Want of memory.
+    /// Out of memory.
     Memory,
     /// The first row that the join indexes lead astray: its projection, segment and position in the image.
     Astray { p: u16, s: u16, row: u32 },
@@ -49,7 +49,7 @@ impl<T: Drop> From<AllocFailed<T>> for WalkFault {
     }
 }
 
-/// Puts the cell of an image's row at the end of a column.
+/// Appends the cell of an image's row to a column.
 pub(crate) fn push_cell(
     cells: &mut Cells,
     image: &Image,
@@ -66,7 +66,7 @@ pub(crate) fn push_cell(
 }
 
 impl PlanWalk<'_, '_> {
-    /// Walks the rows of one of the anchor's segments, from the first number up to the second, with room for places.
+    /// Walks a range of rows of one of the anchor's segments. `block` is scratch space.
     fn walk_segment(
         &self,
         s: u16,
@@ -95,7 +95,7 @@ impl PlanWalk<'_, '_> {
         Ok(())
     }
 
-    /// Walks the rows numbered from `from` up to `to` of the anchor, through all its segments, with room for places.
+    /// Walks the rows `from..to` of the anchor, through all its segments. `block` is scratch space.
     fn walk_segments(
         &self,
         from: usize,
@@ -111,7 +111,7 @@ impl PlanWalk<'_, '_> {
         ensures fault { IfErr result (IsRowFault self.now.survivors.now.catalog (contents_of self.now.survivors.now) self.now.plan.now (rows_between self.now.survivors.now.catalog (contents_of self.now.survivors.now) self.now.plan.now from to)) }
     {
         let anchor = anchor(self.plan);
-        // the number of the first row of the segment
+        // the number of the segment's first row
         let mut first: usize = 0;
         for s in 0..segments(self.survivors, anchor) {
             let count = row_count(self.survivors, anchor, s) as usize;
@@ -126,9 +126,10 @@ impl PlanWalk<'_, '_> {
         Ok(())
     }
 
-    /// The rows that the walk gives for the anchor's rows numbered from `from` up to `to`.
+    /// The rows that the walk finds from the anchor's rows `from..to`.
     ///
-    /// Refuses with `Astray` the first of these that the join indexes lead astray, and with `Memory` for want of memory alone.
+    /// Fails with `Astray` at the first of them that the join indexes lead astray, and with `Memory` only if memory is
+    /// refused.
     pub fn range(&self, alloc: Global, from: usize, to: usize) -> Result<Walked, WalkFault>
         requires { from ≤ to }
         ensures kinds { IfOk result (λ walked. walked.kinds ≡ map (λ c. c.kind) self.now.survivors.now.catalog.columns) }
@@ -149,7 +150,8 @@ impl PlanWalk<'_, '_> {
     }
 }
 
-/// An empty column for each column of the table, each with room for so many cells, of texts for eight bytes each.
+/// An empty column for each column of the table, each with room for `count` cells; eight bytes are reserved for each
+/// text.
 pub(crate) fn new_columns(
     alloc: Global,
     catalog: &Catalog,
@@ -168,7 +170,7 @@ pub(crate) fn new_columns(
     Ok(columns)
 }
 
-/// The number of a column among those of a projection.
+/// The number of a table's column among the columns of a projection.
 pub(crate) fn place_in(columns: &[u8], c: usize) -> usize
     ensures { result ≡ position_or_len (λ d. d == c) columns.now }
 {
@@ -180,7 +182,7 @@ pub(crate) fn place_in(columns: &[u8], c: usize) -> usize
     columns.len()
 }
 
-/// The rows that the walk of a plan gives for the anchor's rows numbered from `from` up to `to`: one range of `PlanWalk`.
+/// The rows that the walk of a plan finds from the anchor's rows `from..to`: one range of `PlanWalk`.
 pub fn walk_range(
     alloc: Global,
     catalog: &Catalog,

@@ -1,4 +1,4 @@
-//! Rows whose key stands in an earlier row.
+//! Rows whose key occurs in an earlier row.
 ghost use Rattle.std.specs.Prelude.{◌≡◌, ◌<◌, false, IfOk, All, map, length, replicate, refl};
 ghost use Rattle.std.specs.Ordering.{on, then_cmp, nat_cmp, eq_by_cmp, as_partial_cmp};
 ghost use Rattle.std.specs.Cmp.{then_total, on_total, nat_cmp_total, eq_by_cmp_equiv, partial_equiv_from_equiv, partial_order_from_total};
@@ -18,10 +18,10 @@ use std::alloc::{AllocError, Global};
 use std::cmp::Ordering;
 use std::thread::Threads;
 
-/// How many rows 32 bits number.
+/// The number of rows that 32 bits can number.
 const NUMBERED: usize = 4_294_967_296;
 
-/// A row by its number, with the column of the keys.
+/// A row's number, with the column of keys.
 #[derive(Clone, Copy)]
 struct KeyedRow<'a> {
     row: usize,
@@ -53,7 +53,7 @@ impl PartialOrd for KeyedRow<'_> {
     }
 }
 
-/// The keys, and then the numbers of the rows.
+/// By key, then by the row's number.
 impl Ord for KeyedRow<'_> {
     ghost cmp = { then_cmp (on (λ it. cell (values it.keys.now) it.row) value_cmp) (on (λ it. it.row) nat_cmp) };
 
@@ -70,7 +70,7 @@ impl Ord for KeyedRow<'_> {
     }
 }
 
-/// Each row.
+/// A `KeyedRow` for each row.
 fn keyed_rows(alloc: Global, keys: &Cells) -> Result<Vec<KeyedRow<'_>>, AllocError>
     ensures numbers { IfOk result (λ v. map (λ item. item.row) v.items ≡ range_with_len 0 (length (values keys.now))) }
     ensures alike { IfOk result (λ v. All (λ item. item.keys.now ≡ keys.now) v.items) }
@@ -89,7 +89,7 @@ fn numbers(alloc: Global, rows: &[KeyedRow<'_>]) -> Result<Vec<usize>, AllocErro
     rows.iter().map(|item| item.row).collect(alloc)
 }
 
-/// The numbers of all rows by ascending keys, those of one key ascending.
+/// The numbers of all rows by ascending key; rows with the same key by number.
 fn sorted_rows<R: Threads + Sync>(
     rt: &R,
     alloc: Global,
@@ -105,12 +105,12 @@ fn sorted_rows<R: Threads + Sync>(
     }
     let mut rows = keyed_rows(alloc, keys)?;
     let rows = rows.as_mut_slice();
-    // no two rows tie, so none changes places with its equal
+    // no two rows compare as equal, so an unstable sort is stable
     par_sort_unstable(rt, rows);
     numbers(alloc, rows)
 }
 
-/// The numbers of `sorted_rows`, sorted in this thread alone.
+/// The numbers of `sorted_rows`, sorted in this thread.
 fn sorted_rows_alone(alloc: Global, keys: &Cells) -> Result<Vec<usize>, AllocError>
     ensures permutation { IfOk result (λ v. IsPermutation (range_with_len 0 (length (values keys.now))) v.items) }
     ensures sorted { IfOk result (λ v. IsSorted (numbered_cmp (values keys.now)) v.items) }
@@ -121,7 +121,7 @@ fn sorted_rows_alone(alloc: Global, keys: &Cells) -> Result<Vec<usize>, AllocErr
     numbers(alloc, rows)
 }
 
-/// Marks each row whose left neighbour by ascending keys has its key.
+/// Marks each row whose left neighbour in the order of keys has the same key.
 fn mark_repeats(keys: &Cells, sorted: &[usize], marks: &mut [bool])
     requires permutation { IsPermutation (range_with_len 0 (length (values keys.now))) sorted.now }
     requires sorted { IsSorted (numbered_cmp (values keys.now)) sorted.now }
@@ -135,7 +135,7 @@ fn mark_repeats(keys: &Cells, sorted: &[usize], marks: &mut [bool])
     }
 }
 
-/// Marks the rows whose key stands in an earlier row, in n log n steps.
+/// Marks the rows whose key occurs in an earlier row, in O(n log n) steps.
 pub(crate) fn find_repeats<R: Threads + Sync>(
     rt: &R,
     alloc: Global,
@@ -155,7 +155,7 @@ pub(crate) fn find_repeats<R: Threads + Sync>(
     Ok(marks)
 }
 
-/// The marks of `find_repeats`, found in this thread alone.
+/// The marks of `find_repeats`, found in this thread.
 pub(crate) fn find_repeats_alone(alloc: Global, keys: &Cells) -> Result<Vec<bool>, AllocError>
     ensures { IfOk result (λ marks. AreRepeats (values keys.now) marks.items) }
 {

@@ -1,4 +1,4 @@
-//! The route of a plan: the projections that the walk reaches, each after the one that leads to it.
+//! The route of a plan: the projections that the walk reaches, each after the one from which it is entered.
 ghost use Rattle.std.specs.Prelude.{◌≡◌, ◌<◌, ◌==◌, length, IfOk};
 ghost use Rattle.std.specs.List.{list_any};
 ghost use Rattle.cs_rows.specs.Steps.{PlanFits};
@@ -23,7 +23,7 @@ fn is_on(route: &[(usize, usize)], q: usize) -> bool
     route.iter().any(|step| step.0 == q)
 }
 
-/// The step to a projection, where it is not met yet and the one before it is.
+/// The step to a projection, if it has not been reached and the one before it has.
 fn next_step(plan: &Plan, route: &[(usize, usize)], q: usize) -> Option<(usize, usize)>
     requires { q < length plan.now.prev }
     ensures { IsNextStep plan.now route.now q result }
@@ -43,7 +43,8 @@ fn next_step(plan: &Plan, route: &[(usize, usize)], q: usize) -> Option<(usize, 
     }
 }
 
-/// The steps of a plan's walk: each projection with the one that leads to it, which is the anchor or stands before.
+/// The steps of a plan's walk: each projection with the one from which it is entered, which is the anchor or comes
+/// earlier.
 pub(crate) fn find_route(
     alloc: Global,
     catalog: &Catalog,

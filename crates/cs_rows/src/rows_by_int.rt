@@ -1,4 +1,4 @@
-//! The rows of a column of ints, in ascending order.
+//! The rows of a column of ints in ascending order.
 ghost use Rattle.std.specs.Prelude.{◌≡◌, ◌<◌, ◌^◌, IfOk, map, length};
 ghost use Rattle.std.specs.List.{range_with_len};
 ghost use Rattle.std.specs.List.Sorted.{IsPermutation, IsSorted};
@@ -8,7 +8,7 @@ ghost use Rattle.cs_rows.specs.Repeats.{numbered_cmp};
 use cs_sort::sort_by_ints;
 use std::alloc::{AllocError, Global};
 
-/// The numbers of all rows by ascending ints, those of one int ascending.
+/// The numbers of all rows by ascending int; rows with the same int by number.
 pub(crate) fn rows_by_int(alloc: Global, ints: &[i64]) -> Result<Vec<usize>, AllocError>
     requires { length ints.now < 2 ^ 32 }
     ensures permutation { IfOk result (λ v. IsPermutation (range_with_len 0 (length ints.now)) v.items) }
@@ -22,7 +22,7 @@ pub(crate) fn rows_by_int(alloc: Global, ints: &[i64]) -> Result<Vec<usize>, All
     indices(alloc, &sorted)
 }
 
-/// The numbers of rows as indices.
+/// Row numbers as indices.
 fn indices(alloc: Global, rows: &[u32]) -> Result<Vec<usize>, AllocError>
     ensures { IfOk result (λ v. v.items ≡ rows.now) }
 {

@@ -1,4 +1,5 @@
-//! Where the columns of found rows are read, sought once for rows that were found through the same projections.
+//! Where the columns of found rows are read. Looked up once for consecutive rows that were found through the same
+//! projections.
 ghost use Rattle.std.specs.Prelude.{◌≡◌, ◌<◌, ◌↔◌, ◌&&◌, Bool, ℕ, length, true, All, IfOk, OnOk, IsTrue, MatchOption, None};
 ghost use Rattle.std.specs.List.{find};
 ghost use Rattle.cs_schema.specs.CatalogData.{CatalogData};
@@ -13,14 +14,14 @@ use crate::range::place_in;
 use crate::survivors::Survivors;
 use std::alloc::{AllocError, Global};
 
-/// Where a column of a found row is read: at one of the rows reached, and the column's number there.
+/// Where a column of a found row is read: the index of a reached row, and the column's number in its projection.
 #[derive(Clone, Copy)]
 pub(crate) struct Source {
     pub(crate) reached: usize,
     pub(crate) place: usize,
 }
 
-/// Whether rows that were found through some projections are given, and where each column is read then.
+/// Whether rows found through some projections are wanted, and where each column is read then.
 #[derive(Drop)]
 pub(crate) struct Reading {
     projections: Vec<u16>,
@@ -28,7 +29,7 @@ pub(crate) struct Reading {
     pub(crate) given: bool,
 }
 
-/// Where a column is read, if one of the projections has it: the first.
+/// Where a column is read, if one of the projections has it: the first that does.
 fn first_source(survivors: &Survivors<'_>, projections: &[u16], c: usize) -> Option<Source>
     requires { All (λ p. p < length survivors.now.catalog.projections) projections.now }
     ensures { MatchOption result (find (λ p. holds_column survivors.now.catalog p c) projections.now ≡ None) (IsSource survivors.now.catalog projections.now c) }
@@ -43,7 +44,7 @@ fn first_source(survivors: &Survivors<'_>, projections: &[u16], c: usize) -> Opt
     None
 }
 
-/// Finds where each column is read. Tells whether the projections have all.
+/// Finds where each column is read. Answers whether the projections have all columns.
 fn find_sources(survivors: &Survivors<'_>, projections: &[u16], sources: &mut Vec<Source>) -> bool
     requires there { All (λ p. p < length survivors.now.catalog.projections) projections.now }
     requires room { length sources.old.items ≡ length survivors.now.catalog.columns }
@@ -60,7 +61,7 @@ fn find_sources(survivors: &Survivors<'_>, projections: &[u16], sources: &mut Ve
     true
 }
 
-/// Whether the key is read, as this source says, in a projection before the first that has all columns.
+/// Whether the key is read in a projection before the first superprojection.
 fn is_found_before(survivors: &Survivors<'_>, projections: &[u16], key: Source) -> bool
     requires there { All (λ p. p < length survivors.now.catalog.projections) projections.now }
     requires key { IsSource survivors.now.catalog projections.now survivors.now.catalog.key key }
@@ -70,7 +71,7 @@ fn is_found_before(survivors: &Survivors<'_>, projections: &[u16], key: Source) 
     q < projections[0] && has_all_columns(survivors, q)
 }
 
-/// Whether rows of such projections are left out: those that are found before, where fresh ones alone are asked for.
+/// Whether rows found through these projections are left out: with `fresh_only`, those that an earlier walk finds too.
 fn is_left_out(
     survivors: &Survivors<'_>,
     projections: &[u16],
@@ -84,7 +85,7 @@ fn is_left_out(
     fresh_only && is_found_before(survivors, projections, key)
 }
 
-/// Whether rows were reached in these projections, one after the other.
+/// Whether rows were reached in exactly these projections, in this order.
 fn are_in(reached: &[(u16, (u16, u32))], projections: &[u16]) -> bool
     ensures { IsTrue result ↔ (numbers_of reached.now ≡ projections.now) }
 {
@@ -114,7 +115,7 @@ fn list_projections(
 }
 
 impl Reading {
-    /// Room for so many projections and columns, and no projection yet.
+    /// Room for `projections` projections and `columns` columns, with no projection yet.
     pub(crate) fn new(alloc: Global, projections: usize, columns: usize) -> Result<Self, AllocError>
         requires { 0 < columns }
         ensures { IfOk result (λ reading. (fresh_only : Bool) (C : CatalogData) → length C.columns ≡ columns → IsReading fresh_only C reading) }
@@ -133,7 +134,7 @@ impl Reading {
         })
     }
 
-    /// Goes over to rows that were reached, of which fresh ones alone are given if that is asked for. There is nothing to find where the last ones were in the same projections.
+    /// Prepares for the rows that were reached. Nothing is looked up if the last ones were in the same projections.
     pub(crate) fn update(
         &mut self,
         survivors: &Survivors<'_>,

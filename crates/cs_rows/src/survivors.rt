@@ -1,4 +1,4 @@
-//! What has been read of the surviving segments of a catalog's store.
+//! The surviving segments of a store that have been read.
 ghost use Rattle.std.specs.Prelude.{◌≡◌, ◌<◌, ◌+◌, ℕ, length, replicate, slice_index_or, IfOk, IfSome, None, Some, List, [], slice_set, MatchOption, map};
 ghost use Rattle.cs_delta.specs.KindedImage.{KindedImage};
 ghost use Rattle.cs_jix.specs.JoinIndex.{Place};
@@ -58,7 +58,7 @@ impl Model for ProjectionJoins {
     ghost view = { λ p. p.segments.items };
 }
 
-/// Images and join indexes of the surviving segments of a catalog's store, where they are there.
+/// The images and join indexes of the surviving segments of a catalog's store, if they are present.
 #[derive(Drop)]
 pub struct Survivors<'a> {
     catalog: &'a Catalog,
@@ -154,7 +154,7 @@ impl ProjectionJoins {
 }
 
 impl<'a> Survivors<'a> {
-    /// Room for each segment of a catalog, and nothing there.
+    /// Empty slots for each segment of a catalog.
     pub fn new(alloc: Global, catalog: &'a Catalog) -> Result<Self, AllocError>
         ensures { IfOk result (λ s. s ≡ no_survivors catalog.now) }
     {
@@ -173,7 +173,7 @@ impl<'a> Survivors<'a> {
         })
     }
 
-    /// Their catalog.
+    /// The catalog.
     pub fn catalog(&self) -> &'a Catalog
         ensures catalog { result.now ≡ self.now.catalog }
         ensures facts { AreSurvivors self.now }
@@ -181,7 +181,7 @@ impl<'a> Survivors<'a> {
         self.catalog
     }
 
-    /// Puts the image of a segment there, in place of one that was there.
+    /// Sets the image of a segment, replacing an earlier one.
     pub fn put_image(&mut self, p: usize, s: usize, image: Image)
         requires projection { p < length self.old.catalog.projections }
         requires segment { s < segments self.old.catalog p }
@@ -192,7 +192,7 @@ impl<'a> Survivors<'a> {
         self.images[p].put(s, image);
     }
 
-    /// Puts a join index of a segment there, in place of one that was there.
+    /// Sets a join index of a segment, replacing an earlier one.
     pub fn put_join(&mut self, p: usize, s: usize, q: usize, join: JoinIndex)
         requires projection { p < length self.old.catalog.projections }
         requires segment { s < segments self.old.catalog p }
@@ -212,7 +212,7 @@ impl<'a> Survivors<'a> {
         self.images[p].as_slice()
     }
 
-    /// The image of a segment, where it is there: its columns are those of the projection.
+    /// The image of a segment, if present. Its columns are those of the projection.
     pub fn image(&self, p: usize, s: usize) -> Option<&Image>
         requires projection { p < length self.now.catalog.projections }
         requires segment { s < segments self.now.catalog p }
@@ -226,7 +226,7 @@ impl<'a> Survivors<'a> {
         }
     }
 
-    /// The image that is held of a segment.
+    /// The stored image of a segment.
     fn held_image(&self, p: usize, s: usize) -> Option<&Image>
         requires projection { p < length self.now.catalog.projections }
         requires segment { s < segments self.now.catalog p }
@@ -235,7 +235,7 @@ impl<'a> Survivors<'a> {
         self.images(p)[s].as_ref()
     }
 
-    /// The join index of a segment to a target, where it is there.
+    /// The join index of a segment to a target, if present.
     pub fn join(&self, p: usize, s: usize, q: usize) -> Option<&JoinIndex>
         requires projection { p < length self.now.catalog.projections }
         requires segment { s < segments self.now.catalog p }

@@ -1,4 +1,4 @@
-//! The rows of the whole table, in columns that were made or that images lend.
+//! The rows of the whole table, in columns that are owned or borrowed from images.
 ghost use Rattle.std.specs.Prelude.{◌≡◌, ◌<◌, ℕ, length, map, slice_get, slice_index_or, None, Some, IfOk};
 ghost use Rattle.cs_schema.specs.Values.{values, kind_of};
 ghost use Rattle.cs_schema.specs.Rows.{cell};
@@ -11,14 +11,15 @@ use cs_schema::{Cells, Kind};
 use std::alloc::{AllocError, Global};
 use std::marker::Model;
 
-/// Rows of the whole table, in the order of the walk. A column that stands whole in one image needn't be made: it is lent.
+/// Rows of the whole table, in the order of the walk. A column that is whole in one image is borrowed instead of
+/// copied.
 #[derive(Drop)]
 pub struct Table<'a> {
     made: Vec<Cells>,
     lent: Lent<'a>,
 }
 
-/// A column: what is lent in its place, or what was made.
+/// A column: the borrowed one, or the owned one.
 fn column_at<'a>(made: &'a [Cells], lent: &'a Lent<'a>, c: usize) -> &'a Cells
     requires { c < length made.now }
     ensures { result.now ≡ slice_index_or (over made.now lent.now) c result.now }
@@ -51,7 +52,7 @@ impl<'a> Table<'a> {
         }
     }
 
-    /// The rows of a walk, which lends all its columns.
+    /// The rows of a walk, all of whose columns are borrowed.
     pub fn lent_by(alloc: Global, walked: &'a Walked) -> Result<Self, AllocError>
         ensures { IfOk result (λ table. table ≡ walked.entry.now) }
     {
@@ -65,8 +66,7 @@ impl<'a> Table<'a> {
         Ok(Table { made, lent })
     }
 
-    /// The rows that stand across columns of one length, of which there is one at least: those that were made, and those
-    /// that are lent in their place.
+    /// The rows of columns of one length, at least one: some owned, the others borrowed.
     pub fn of_columns(made: Vec<Cells>, lent: Lent<'a>) -> Self
         requires { AreColumns (over made.items lent) }
         ensures { result ≡ walked_data (over made.items lent.entry) }
@@ -74,7 +74,7 @@ impl<'a> Table<'a> {
         Table { made, lent }
     }
 
-    /// The columns that were made, and what is lent in place of some.
+    /// The owned columns, and the borrowed ones that take the place of others.
     pub fn into_columns(self) -> (Vec<Cells>, Lent<'a>)
         ensures columns { AreColumns (over result.0.items result.1) }
         ensures same { walked_data (over result.0.items result.1) ≡ self.entry }
@@ -82,14 +82,14 @@ impl<'a> Table<'a> {
         (self.made, self.lent)
     }
 
-    /// How many rows there are.
+    /// The number of rows.
     pub fn rows(&self) -> usize
         ensures { result ≡ length self.now.rows }
     {
         column_at(&self.made, &self.lent, 0).len()
     }
 
-    /// The cells of one column, from row to row.
+    /// The cells of one column, row by row.
     pub fn column(&self, c: usize) -> &Cells
         requires { c < length self.now.kinds }
         ensures kind { slice_get self.now.kinds c ≡ Some (kind_of result.now) }

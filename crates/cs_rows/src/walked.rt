@@ -11,7 +11,7 @@ use cs_schema::{Catalog, Cells, Value};
 use std::alloc::{AllocError, Global};
 use std::marker::Model;
 
-/// Leaves so many cells in each column.
+/// Keeps only the first `rows` cells of each column.
 fn truncate_columns(columns: &mut Vec<Cells>, rows: usize)
     ensures count { length columns.new.items ≡ length columns.old.items }
     ensures kinds { (c : ℕ) (d : Cells) → c < length columns.old.items → kind_of (slice_index_or columns.new.items c d) ≡ kind_of (slice_index_or columns.old.items c d) }
@@ -22,7 +22,8 @@ fn truncate_columns(columns: &mut Vec<Cells>, rows: usize)
     }
 }
 
-/// Moves the cells of other columns to the ends of columns of `rows` cells. A refusal leaves the cells as they were.
+/// Moves the cells of other columns to the ends of columns of `rows` cells. If memory is refused, the cells are
+/// unchanged.
 fn append_columns(
     columns: &mut Vec<Cells>,
     rows: usize,
@@ -67,7 +68,7 @@ impl Model for Walked {
 }
 
 impl Walked {
-    /// The rows that stand across columns of one length, of which there is one at least.
+    /// The rows of columns of one length, at least one.
     pub fn from_columns(columns: Vec<Cells>) -> Self
         requires { AreColumns columns.items }
         ensures { result ≡ walked_data columns.items }
@@ -75,7 +76,7 @@ impl Walked {
         Walked { columns }
     }
 
-    /// The columns, of one length.
+    /// The columns, all of one length.
     pub(crate) fn into_columns(self) -> Vec<Cells>
         ensures columns { AreColumns result.items }
         ensures rows { walked_data result.items ≡ self }
@@ -84,7 +85,7 @@ impl Walked {
         columns
     }
 
-    /// The columns, of one length, as they stand.
+    /// The columns, all of one length, borrowed.
     pub(crate) fn columns(&self) -> &[Cells]
         ensures columns { AreColumns result.now }
         ensures rows { walked_data result.now ≡ self.now }
@@ -101,7 +102,7 @@ impl Walked {
         Ok(Walked::from_columns(columns))
     }
 
-    /// How many rows there are.
+    /// The number of rows.
     pub fn rows(&self) -> usize
         ensures count { result ≡ length self.now.rows }
         ensures wide { IsWide self.now }
@@ -109,7 +110,7 @@ impl Walked {
         self.columns[0].len()
     }
 
-    /// The cells of one column, from row to row.
+    /// The cells of one column, row by row.
     pub fn column(&self, c: usize) -> &Cells
         requires { c < length self.now.kinds }
         ensures kind { slice_get self.now.kinds c ≡ Some (kind_of result.now) }
@@ -127,7 +128,7 @@ impl Walked {
         self.column(c).cell(row)
     }
 
-    /// Moves the rows of another walk of the same catalog to the end. A refusal changes nothing.
+    /// Moves the rows of another walk of the same catalog to the end. If memory is refused, nothing changes.
     pub fn append(&mut self, other: Walked) -> Result<(), AllocError>
         requires { self.old.kinds ≡ other.kinds }
         ensures kinds { self.new.kinds ≡ self.old.kinds }
@@ -142,9 +143,10 @@ impl Walked {
         }
         Ok(())
     }
-    /// Leaves out each row whose primary key stands in an earlier row, in n log n steps. A refusal changes nothing.
+    /// Removes each row whose primary key occurs in an earlier row, in O(n log n) steps. If memory is refused, nothing
+    /// changes.
     ///
-    /// It works in this thread alone; `join_once` gives the same rows of several walks with threads.
+    /// Runs in this thread; `join_once` gives the same rows of several walks with threads.
     pub fn once(&mut self, catalog: &Catalog) -> Result<(), AllocError>
         requires { self.old.kinds ≡ map (λ c. c.kind) catalog.now.columns }
         ensures kinds { self.new.kinds ≡ self.old.kinds }

@@ -1,5 +1,5 @@
-//! The walk of a plan that reads each column at its anchor: rows are followed with no look at their cells, and a column
-//! is copied from whole images.
+//! The walk of a plan that reads every column at its anchor: rows are followed without reading their cells, and columns
+//! are copied or borrowed from whole images.
 ghost use Rattle.std.specs.Prelude.{◌≡◌, ◌<◌, ◌≤◌, ◌-◌, ◌↔◌, length, map, IfOk, IfErr, IfSome, OnOk, IsTrue, None, slice_index};
 ghost use Rattle.std.specs.List.{find};
 ghost use Rattle.cs_schema.specs.Values.{values, kind_of};
@@ -20,7 +20,7 @@ use cs_schema::Cells;
 use std::alloc::{AllocError, Global};
 
 impl<'a> PlanWalk<'_, 'a> {
-    /// Whether each column of the table is read at the anchor. The walk may still reach other projections.
+    /// Whether every column of the table is read at the anchor. The walk may still reach other projections.
     pub fn reads_anchor_alone(&self) -> bool
         ensures { IsTrue result ↔ ReadsAnchorAlone self.now.survivors.now.catalog self.now.plan.now }
     {
@@ -32,7 +32,7 @@ impl<'a> PlanWalk<'_, 'a> {
         true
     }
 
-    /// How many bytes the texts have together that the anchor's rows have in a column of the table.
+    /// The total number of bytes of the anchor's texts in a column of the table.
     fn text_size(&self, c: usize) -> usize
         requires column { c < length self.now.survivors.now.catalog.columns }
         requires read { slice_index self.now.plan.now.source c ≡ self.now.plan.now.anchor }
@@ -51,7 +51,7 @@ impl<'a> PlanWalk<'_, 'a> {
         size
     }
 
-    /// Copies the cells that the anchor's rows have in a column of the table, image by image.
+    /// Copies the anchor's cells in a column of the table, image by image.
     fn copy_column(&self, alloc: Global, c: usize) -> Result<Cells, AllocError>
         requires column { c < length self.now.survivors.now.catalog.columns }
         requires read { slice_index self.now.plan.now.source c ≡ self.now.plan.now.anchor }
@@ -72,8 +72,8 @@ impl<'a> PlanWalk<'_, 'a> {
         Ok(cells)
     }
 
-    /// The image's column that has the cells of a column of the table, where that is read at the anchor and the anchor has
-    /// one segment.
+    /// The image's column with the cells of a column of the table, if the column is read at the anchor and the anchor
+    /// has one segment.
     fn find_lone_column(&self, c: usize) -> Option<&'a Cells>
         requires column { c < length self.now.survivors.now.catalog.columns }
         ensures kind { IfSome result (λ cells. kind_of cells.now ≡ (column self.now.survivors.now.catalog c).kind) }
@@ -93,7 +93,7 @@ impl<'a> PlanWalk<'_, 'a> {
         }
     }
 
-    /// The cells that the anchor's rows have in a column of the table, which is read there.
+    /// The anchor's cells in a column of the table that is read there.
     pub fn anchor_column(&self, alloc: Global, c: usize) -> Result<Cells, AllocError>
         requires column { c < length self.now.survivors.now.catalog.columns }
         requires read { slice_index self.now.plan.now.source c ≡ self.now.plan.now.anchor }
@@ -103,8 +103,8 @@ impl<'a> PlanWalk<'_, 'a> {
         self.copy_column(alloc, c)
     }
 
-    /// The cells to which the anchor's rows lead in a column of the table, where they stand in one image: the column is read at
-    /// the anchor, which has one segment.
+    /// The image's column to which the anchor's rows lead in a column of the table, if the column is read at the anchor
+    /// and the anchor has one segment.
     pub fn lone_column(&self, c: usize) -> Option<&'a Cells>
         requires column { c < length self.now.survivors.now.catalog.columns }
         ensures kind { IfSome result (λ cells. kind_of cells.now ≡ (column self.now.survivors.now.catalog c).kind) }
@@ -113,7 +113,7 @@ impl<'a> PlanWalk<'_, 'a> {
         self.find_lone_column(c)
     }
 
-    /// Follows some rows of one of the anchor's segments, from the first number up to the second.
+    /// Follows a range of rows of one of the anchor's segments.
     fn follow_segment(&self, s: u16, rows: (u32, u32)) -> Result<(), WalkFault>
         requires segment { s < segments self.now.survivors.now.catalog self.now.plan.now.anchor }
         requires order { rows.0 ≤ rows.1 }
@@ -134,14 +134,14 @@ impl<'a> PlanWalk<'_, 'a> {
         Ok(())
     }
 
-    /// Follows the rows numbered from `from` up to `to` of the anchor, through all its segments.
+    /// Follows the rows `from..to` of the anchor, through all its segments.
     fn follow_segments(&self, from: usize, to: usize) -> Result<(), WalkFault>
         requires order { from ≤ to }
         ensures sound { OnOk result (find (is_astray self.now.survivors.now.catalog (contents_of self.now.survivors.now) self.now.plan.now) (rows_between self.now.survivors.now.catalog (contents_of self.now.survivors.now) self.now.plan.now from to) ≡ None) }
         ensures fault { IfErr result (IsRowFault self.now.survivors.now.catalog (contents_of self.now.survivors.now) self.now.plan.now (rows_between self.now.survivors.now.catalog (contents_of self.now.survivors.now) self.now.plan.now from to)) }
     {
         let anchor = anchor(self.plan);
-        // the number of the first row of the segment
+        // the number of the segment's first row
         let mut first: usize = 0;
         for s in 0..segments(self.survivors, anchor) {
             let count = row_count(self.survivors, anchor, s) as usize;
@@ -156,15 +156,15 @@ impl<'a> PlanWalk<'_, 'a> {
         Ok(())
     }
 
-    /// Follows the anchor's rows numbered from `from` up to `to` through the join indexes, with no look at their cells.
+    /// Follows the anchor's rows `from..to` through the join indexes without reading their cells.
     ///
-    /// Refuses with `Astray` the first of these that is led astray.
+    /// Fails with `Astray` at the first of them that is led astray.
     pub fn follow_range(&self, from: usize, to: usize) -> Result<(), WalkFault>
         requires order { from ≤ to }
         ensures sound { OnOk result (find (is_astray self.now.survivors.now.catalog (contents_of self.now.survivors.now) self.now.plan.now) (rows_between self.now.survivors.now.catalog (contents_of self.now.survivors.now) self.now.plan.now from to) ≡ None) }
         ensures fault { IfErr result (IsRowFault self.now.survivors.now.catalog (contents_of self.now.survivors.now) self.now.plan.now (rows_between self.now.survivors.now.catalog (contents_of self.now.survivors.now) self.now.plan.now from to)) }
     {
-        // no row is astray where the walk stays at the anchor
+        // no row is led astray if the walk stays at the anchor
         if self.route.is_empty() {
             return Ok(());
         }

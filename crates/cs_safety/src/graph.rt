@@ -1,4 +1,4 @@
-//! The joins and columns of a catalog's projections, as sets.
+//! The joins and columns of a catalog's projections as sets.
 ghost use Rattle.std.specs.Prelude.{◌≡◌, ℕ, ◌<◌, length};
 ghost use Rattle.cs_schema.specs.CatalogData.{projection, has_join};
 ghost use Rattle.cs_schema.specs.CatalogRules.{IsCatalog};
@@ -10,8 +10,7 @@ use crate::sets;
 use crate::sets::{Columns, Projections};
 use cs_schema::Catalog;
 
-/// Which projections each joins, and which columns each holds: the catalog is read once for many
-/// losses.
+/// The joins and the columns of each projection. Built once from the catalog, for many losses.
 #[derive(Clone, Copy)]
 pub struct Graph {
     pub count: u8,
@@ -54,7 +53,7 @@ fn columns_of(catalog: &Catalog, p: u8) -> &[u8]
     &catalog.projection(u16::from(p)).columns
 }
 
-/// The projections to which there is a declared join.
+/// The projections to which a projection declares a join.
 fn targets(catalog: &Catalog, p: u8) -> Projections
     requires { p < length catalog.now.projections }
     ensures { (q : ℕ) → is_in result q ≡ has_join catalog.now p q }

@@ -1,4 +1,4 @@
-//! K-safety: the first loss of at most k sites that isn't safe.
+//! K-safety: the first unsafe loss of at most k sites.
 ghost use Rattle.std.specs.Prelude.{◌≡◌, ℕ, ◌+◌, ◌<◌, ◌≤◌, IsTrue, IfOk, IfErr};
 ghost use Rattle.cs_schema.specs.Lists.{member};
 ghost use Rattle.cs_schema.specs.CatalogRules.{IsCatalog};
@@ -12,12 +12,12 @@ use crate::{graph, losses};
 use cs_schema::{Catalog, Loss};
 use thiserror::Error;
 
-/// Why a catalog isn't safe for losses of at most k sites.
+/// Why a catalog is not safe for losses of at most k sites.
 #[derive(Debug, Clone, Copy, PartialEq, Eq, Error)]
 pub enum SafetyFault {
     #[error("k above 3")]
     BadK,
-    /// The first loss that isn't safe: fewer sites first, then number by number.
+    /// The first unsafe loss: fewer sites first, then by site numbers.
     #[error("unsafe loss: {0}")]
     Unsafe(Loss),
 }
@@ -30,7 +30,7 @@ fn site_count(catalog: &Catalog) -> u8
     catalog.sites
 }
 
-/// The first unsafe loss that adds `count` sites from `from` on to the chosen ones.
+/// The first unsafe loss that adds `count` sites, from `from` on, to the chosen ones.
 fn first_unsafe(catalog: &Catalog, graph: &Graph, chosen: Loss, from: u8, count: u8) -> Option<Loss>
     requires graph { IsGraphOf catalog.now graph.now }
     requires low { 1 ≤ from }
@@ -54,7 +54,7 @@ fn first_unsafe(catalog: &Catalog, graph: &Graph, chosen: Loss, from: u8, count:
     None
 }
 
-/// Whether each loss of at most `k` sites is safe, else why not.
+/// Whether each loss of at most `k` sites is safe, and otherwise why not.
 pub fn ksafe(catalog: &Catalog, k: u8) -> Result<(), SafetyFault>
     ensures limit { IfOk result (λ _. k ≤ 3) }
     ensures safe { IfOk result (λ _. IsKSafe catalog.now k) }

@@ -1,4 +1,4 @@
-//! Laws over the definitions: each function does nothing, and its contract is the law.
+//! Laws about the definitions. Each function does nothing; its contract is the law.
 ghost use Rattle.cs_safety.specs.SafetyLaws.{WholeIsSafeByRows, FirstUnsafeIsOne, PlanIsOne, CutsDecide};
 ghost use Rattle.cs_safety.specs.CutLaws.{CellsAreGreatestCuts};
 ghost use Rattle.cs_safety.specs.Within.{SafetyIsMonotone};
@@ -8,7 +8,7 @@ pub fn whole_is_safe_by_rows()
     ensures { WholeIsSafeByRows }
 {}
 
-/// A loss within a safe one is safe, by either rule.
+/// A loss contained in a safe one is safe, by either rule.
 pub fn safety_is_monotone()
     ensures { SafetyIsMonotone }
 {}
@@ -23,12 +23,13 @@ pub fn plan_is_one()
     ensures { PlanIsOne }
 {}
 
-/// A row stands just where the row of the greatest cuts not above its cells stands.
+/// A row is in the same segments as the row of the greatest cuts that are not above its cells.
 pub fn cuts_decide()
     ensures { CutsDecide }
 {}
 
-/// A cell of that row is the greatest cut on its column, of any projection, that is not above the row's cell, else the least value.
+/// A cell of that row is the greatest cut on its column, of any projection, that is not above the row's cell, or the
+/// smallest value if there is none.
 pub fn cells_are_greatest_cuts()
     ensures { CellsAreGreatestCuts }
 {}

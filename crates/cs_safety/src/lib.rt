@@ -1,9 +1,8 @@
 //! K-safety of a catalog, decided exactly, and the plan of a recovery.
 //!
-//! `ksafe` says whether each loss of at most k sites is safe, else names the first that isn't; `safe`
-//! decides one loss, for whole projections or by rows as the catalog says; `plan` gives the one plan
-//! where an alive projection reaches every column, and else nothing. No call takes memory; `laws` has
-//! what the definitions come to.
+//! `ksafe` says whether each loss of at most k sites is safe, and otherwise names the first that is not. `safe` decides
+//! one loss, by whole projections or by rows as the catalog says. `plan` answers the only plan, if an alive projection
+//! reaches every column. No call allocates. `laws` has the laws of the definitions.
 #![tactic(auto)]
 
 mod graph;

@@ -1,4 +1,4 @@
-//! What a loss of sites leaves, and whether that is enough.
+//! What a loss of sites leaves, and whether it is enough.
 ghost use Rattle.std.specs.Prelude.{◌≡◌, ℕ, ◌<◌, ◌↔◌, IsTrue, length};
 ghost use Rattle.cs_schema.specs.Losses.{alive};
 ghost use Rattle.cs_safety.specs.Safety.{IsAlive, IsWhole, IsSafe};
@@ -10,7 +10,7 @@ use crate::sets::Projections;
 use crate::{graph, reach, row_sets, sets};
 use cs_schema::{Catalog, Loss, Safety};
 
-/// Whether no segment of a projection stands on a lost site.
+/// Whether no segment of a projection is on a lost site.
 pub fn alive(catalog: &Catalog, loss: Loss, p: u16) -> bool
     requires { p < length catalog.now.projections }
     ensures test { result ≡ alive catalog.now loss p }
@@ -48,7 +48,7 @@ fn is_whole(catalog: &Catalog, graph: &Graph, loss: Loss) -> bool
     }
 }
 
-/// Whether a loss is safe by the catalog's own rule.
+/// Whether a loss is safe by the rule of the catalog.
 pub(crate) fn is_safe(catalog: &Catalog, graph: &Graph, loss: Loss) -> bool
     requires { IsGraphOf catalog.now graph.now }
     ensures { IsTrue result ↔ IsSafe catalog.now loss }
@@ -59,7 +59,7 @@ pub(crate) fn is_safe(catalog: &Catalog, graph: &Graph, loss: Loss) -> bool
     }
 }
 
-/// Whether a loss is safe by the catalog's own rule.
+/// Whether a loss is safe by the rule of the catalog.
 pub fn safe(catalog: &Catalog, loss: Loss) -> bool
     ensures { IsTrue result ↔ IsSafe catalog.now loss }
 {

@@ -12,7 +12,7 @@ use crate::{graph, losses, reach, sets};
 use arrayvec::ArrayVec;
 use cs_schema::{Catalog, Loss};
 
-/// The projection from which another is entered, one join nearer to the start.
+/// The projection from which another is entered, one join nearer to the anchor.
 fn entrance(graph: &Graph, levels: &Levels, q: u8) -> Option<u8>
     requires few { graph.now.count ≤ 8 }
     requires exists { q < graph.now.count }
@@ -27,7 +27,7 @@ fn entrance(graph: &Graph, levels: &Levels, q: u8) -> Option<u8>
     None
 }
 
-/// The nearest projection with a column, of the nearest the least-numbered.
+/// The nearest projection with a column; of several, the one with the lowest number.
 fn nearest(graph: &Graph, levels: &Levels, column: u8) -> Option<u8>
     requires few { graph.now.count ≤ 8 }
     requires narrow { column < 32 }
@@ -43,7 +43,7 @@ fn nearest(graph: &Graph, levels: &Levels, column: u8) -> Option<u8>
     None
 }
 
-/// The projection from which each is entered.
+/// For each projection, the one from which it is entered.
 fn entrances(graph: &Graph, levels: &Levels) -> ArrayVec<Option<u8>, 8>
     requires few { graph.now.count ≤ 8 }
     requires levels { AreLevels graph.now levels.now }
@@ -57,7 +57,7 @@ fn entrances(graph: &Graph, levels: &Levels) -> ArrayVec<Option<u8>, 8>
     prev
 }
 
-/// The nearest projection with each column.
+/// For each column, the nearest projection that has it.
 fn sources(graph: &Graph, levels: &Levels) -> Option<ArrayVec<u8, 32>>
     requires few { graph.now.count ≤ 8 }
     requires narrow { graph.now.width ≤ 32 }

@@ -2,11 +2,11 @@
 use arrayvec::ArrayVec;
 use std::marker::Model;
 
-/// A plan of a recovery: the projection from which the walk begins, the one from which it enters each
-/// other, and the one in which each column is read.
+/// A plan of a recovery: the projection at which the walk begins (the anchor), for each other the one from which it is
+/// entered, and for each column the one from which it is read.
 ///
-/// `prev` has an entry for each projection, `None` for the anchor and for what the walk doesn't come
-/// to. `source` has an entry for each column of the table.
+/// `prev` has an entry for each projection: `None` for the anchor and for those that the walk does not enter. `source`
+/// has an entry for each column of the table.
 #[derive(Drop)]
 pub struct Plan {
     pub anchor: u8,
@@ -30,7 +30,7 @@ impl Plan {
     ghost use Rattle.cs_safety.specs.Paths.{IsReached};
     ghost use Rattle.cs_safety.specs.PlanData.{IsPlan, is_planned};
 
-    /// Whether the walk comes to a projection.
+    /// Whether the walk enters a projection.
     pub fn reached(&self, p: u16) -> bool
         requires { p < length self.now.prev }
         ensures test { result ≡ is_planned self.now p }

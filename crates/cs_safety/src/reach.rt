@@ -1,4 +1,4 @@
-//! What is reached through declared joins between allowed projections.
+//! What can be reached through declared joins between allowed projections.
 ghost use Rattle.std.specs.Prelude.{◌≡◌, ℕ, ◌<◌, ◌≤◌, ◌↔◌, IsTrue, MatchOption};
 ghost use Rattle.cs_safety.specs.NumberSets.{is_in, IsFirstBelow};
 ghost use Rattle.cs_safety.specs.Reach.{entered, within, AreLevels, holds_among, joins_among, Suits, IsFirstSuiting};
@@ -7,7 +7,7 @@ use crate::graph::Graph;
 use crate::sets;
 use crate::sets::Projections;
 
-/// What is reached, and what a join enters from there.
+/// What is reached, and what one more join enters.
 fn next(graph: &Graph, allowed: Projections, reached: Projections) -> Projections
     requires { graph.now.count ≤ 8 }
     ensures { (q : ℕ) → is_in result q ≡ entered graph.now allowed (is_in reached) q }
@@ -21,7 +21,7 @@ fn next(graph: &Graph, allowed: Projections, reached: Projections) -> Projection
     more
 }
 
-/// What is reached from a start through allowed projections, within 0 to 7 joins.
+/// What is reached from a start through allowed projections within 0, 1, .., 7 joins.
 #[derive(Clone, Copy)]
 pub struct Levels {
     pub allowed: Projections,
@@ -29,7 +29,7 @@ pub struct Levels {
     pub reached: [Projections; 8],
 }
 
-/// The levels from a start. Of at most 8 projections none is further than 7 joins.
+/// The levels from a start. With at most 8 projections, none is more than 7 joins away.
 pub fn levels_from(graph: &Graph, allowed: Projections, start: u8) -> Levels
     requires few { graph.now.count ≤ 8 }
     requires exists { start < graph.now.count }
@@ -48,7 +48,7 @@ pub fn levels_from(graph: &Graph, allowed: Projections, start: u8) -> Levels
     }
 }
 
-/// The least-numbered of a set that holds a column.
+/// The lowest-numbered projection of a set that has a column.
 pub fn first_holder(graph: &Graph, set: Projections, column: u8) -> Option<u8>
     requires few { graph.now.count ≤ 8 }
     requires narrow { column < 32 }
@@ -62,7 +62,7 @@ pub fn first_holder(graph: &Graph, set: Projections, column: u8) -> Option<u8>
     None
 }
 
-/// The least-numbered of a set that has a join to a projection.
+/// The lowest-numbered projection of a set that has a join to another.
 pub fn first_joined(graph: &Graph, set: Projections, target: u8) -> Option<u8>
     requires few { graph.now.count ≤ 8 }
     requires exists { target < 8 }
@@ -105,7 +105,7 @@ pub fn is_suitable(graph: &Graph, allowed: Projections, start: u8) -> bool
     true
 }
 
-/// The least-numbered suitable projection.
+/// The lowest-numbered suitable projection.
 pub fn first_suitable(graph: &Graph, allowed: Projections) -> Option<u8>
     requires few { graph.now.count ≤ 8 }
     requires narrow { graph.now.width ≤ 32 }

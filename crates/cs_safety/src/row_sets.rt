@@ -1,9 +1,8 @@
-//! Safety by rows: for each row that a table could have, the set of projections whose segment of it
-//! isn't lost.
+//! Safety by rows: for each possible row, the set of projections whose segment with it is not lost.
 //!
-//! A family of sets is an array of marks, by the sets' bits. Columns are taken in turn: the family
-//! after some columns has what those projections keep that are sorted by one of them first. So all
-//! cuts on a column, of whatever projection, are met by one value.
+//! A family of sets is an array of flags indexed by the sets' bits. Columns are taken one after the other: the family
+//! after some columns has the sets of projections sorted first by one of those. So one value meets all cuts on a
+//! column, of whatever projection.
 ghost use Rattle.std.specs.Prelude.{◌≡◌, ℕ, ◌+◌, ◌<◌, ◌↔◌, IsTrue, true, false, length};
 ghost use Rattle.cs_schema.specs.Values.{IsOfKind, values};
 ghost use Rattle.cs_schema.specs.CatalogData.{projection, column};
@@ -47,7 +46,7 @@ fn cuts_of(catalog: &Catalog, p: u8) -> &Cells
     &catalog.projection(u16::from(p)).cuts
 }
 
-/// The projections sorted by a column first whose segment of a value isn't lost.
+/// The projections sorted first by a column whose segment with a value is not lost.
 fn kept_at(catalog: &Catalog, loss: Loss, column: u8, value: &Value) -> Projections
     ensures { IsKept catalog.now loss column value.now result }
 {
@@ -63,7 +62,7 @@ fn kept_at(catalog: &Catalog, loss: Loss, column: u8, value: &Value) -> Projecti
     set
 }
 
-/// No set.
+/// The family without sets.
 fn no_sets() -> Family
     ensures size { length result ≡ 256 }
     ensures none { (s : ℕ) → among result s ≡ false }
@@ -71,7 +70,7 @@ fn no_sets() -> Family
     [false; 256]
 }
 
-/// The empty set alone.
+/// The family of the empty set alone.
 fn empty_set() -> Family
     ensures size { length result ≡ 256 }
     ensures has { among result 0 ≡ true }
@@ -82,7 +81,7 @@ fn empty_set() -> Family
     sets
 }
 
-/// Adds the old sets, each joined with the kept.
+/// Adds the old sets, each united with `kept`.
 fn add_joined(old: &Family, new: &mut Family, kept: Projections)
     ensures { IsGrown old.now kept new.old new.new }
 {
@@ -93,7 +92,7 @@ fn add_joined(old: &Family, new: &mut Family, kept: Projections)
     }
 }
 
-/// Adds the old sets, each joined with what is kept at a value.
+/// Adds the old sets, each united with what is kept at a value.
 fn add_value(catalog: &Catalog, loss: Loss, c: u8, old: &Family, new: &mut Family, value: &Value)
     requires exists { c < length catalog.now.columns }
     requires of_kind { IsOfKind (column catalog.now c).kind value.now }
@@ -106,7 +105,7 @@ fn add_value(catalog: &Catalog, loss: Loss, c: u8, old: &Family, new: &mut Famil
     add_joined(old, new, kept_at(catalog, loss, c, value));
 }
 
-/// Adds the old sets, each joined with what is kept at each cut of a projection.
+/// Adds the old sets, each united with what is kept at each cut of a projection.
 fn add_cuts(catalog: &Catalog, loss: Loss, c: u8, p: u8, old: &Family, new: &mut Family)
     requires column { c < length catalog.now.columns }
     requires exists { p < length catalog.now.projections }
@@ -124,7 +123,7 @@ fn add_cuts(catalog: &Catalog, loss: Loss, c: u8, p: u8, old: &Family, new: &mut
     }
 }
 
-/// The sets that are left after one more column.
+/// The family after one more column.
 fn with_column(catalog: &Catalog, loss: Loss, c: u8, old: &Family) -> Family
     requires exists { c < length catalog.now.columns }
     requires left { AreLeft catalog.now loss c old.now }
@@ -141,7 +140,7 @@ fn with_column(catalog: &Catalog, loss: Loss, c: u8, old: &Family) -> Family
     new
 }
 
-/// The sets that are left of all rows.
+/// The family of all rows.
 fn all_left(catalog: &Catalog, loss: Loss) -> Family
     ensures left { AreLeft catalog.now loss (length catalog.now.columns) result }
     ensures rules { IsCatalog catalog.now }
@@ -153,7 +152,7 @@ fn all_left(catalog: &Catalog, loss: Loss) -> Family
     sets
 }
 
-/// Whether each row that a table could have is safe.
+/// Whether each possible row is safe.
 pub fn is_safe_by_rows(catalog: &Catalog, graph: &Graph, loss: Loss) -> bool
     requires { IsGraphOf catalog.now graph.now }
     ensures { IsTrue result ↔ IsSafeByRows catalog.now loss }

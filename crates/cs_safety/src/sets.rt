@@ -1,4 +1,4 @@
-//! Sets of small numbers, kept as the bits of a word: projections in 8 bits, columns in 32.
+//! Sets of small numbers as the bits of a word: 8 bits for projections, 32 for columns.
 ghost use Rattle.std.specs.Prelude.{◌≡◌, ℕ, ◌<◌, ◌==◌, ◌||◌, ◌&&◌};
 ghost use Rattle.cs_safety.specs.NumberSets.{is_in};
 
@@ -16,7 +16,7 @@ pub fn has(set: Projections, p: u8) -> bool
     (set >> p) % 2 == 1
 }
 
-/// The set and this projection.
+/// The set with this projection added.
 pub fn with(set: Projections, p: u8) -> Projections
     requires { p < 8 }
     ensures { (k : ℕ) → is_in result k ≡ (k == p || is_in set k) }
@@ -24,14 +24,14 @@ pub fn with(set: Projections, p: u8) -> Projections
     set | (1 << p)
 }
 
-/// The projections that are in either set.
+/// The union of two sets.
 pub fn join(a: Projections, b: Projections) -> Projections
     ensures { (k : ℕ) → is_in result k ≡ (is_in a k || is_in b k) }
 {
     a | b
 }
 
-/// The projections that are in both sets.
+/// The intersection of two sets.
 pub fn meet(a: Projections, b: Projections) -> Projections
     ensures { (k : ℕ) → is_in result k ≡ (is_in a k && is_in b k) }
 {
@@ -46,7 +46,7 @@ pub fn has_column(set: Columns, c: u8) -> bool
     (set >> c) % 2 == 1
 }
 
-/// The set and this column.
+/// The set with this column added.
 pub fn with_column(set: Columns, c: u8) -> Columns
     requires { c < 32 }
     ensures { (k : ℕ) → is_in result k ≡ (k == c || is_in set k) }

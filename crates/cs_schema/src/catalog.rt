@@ -24,7 +24,7 @@ impl Model for Column {
 
 /// A projection: some columns of the table in the order of a sort key, cut into segments.
 ///
-/// Columns and sort columns are numbers of the table's columns, joins are numbers of projections.
+/// Columns and sort columns are given by their numbers in the table, joins by the numbers of their target projections.
 #[derive(Drop)]
 pub struct Projection {
     pub name: ArrayString<32>,
@@ -105,7 +105,7 @@ impl Catalog {
         &self.projections[p as usize]
     }
 
-    /// What the cells of a column are.
+    /// The kind of a column's cells.
     pub fn kind(&self, c: u8) -> Kind
         requires { c < length self.now.columns }
         ensures { result ≡ (column self.now c).kind }
@@ -113,7 +113,7 @@ impl Catalog {
         self.columns[c as usize].kind
     }
 
-    /// How many columns a projection has: from 1 to 32.
+    /// The number of columns of a projection: 1 to 32.
     pub fn width(&self, p: u16) -> usize
         requires { p < length self.now.projections }
         ensures count { result ≡ length (projection self.now p).columns }
@@ -123,7 +123,7 @@ impl Catalog {
         self.projection(p).columns.len()
     }
 
-    /// How the `j`-th column of a projection is written.
+    /// The encoding of the `j`-th column of a projection.
     pub fn code(&self, p: u16, j: usize) -> Code
         requires projection { p < length self.now.projections }
         requires column { j < length (projection self.now p).columns }
@@ -132,7 +132,7 @@ impl Catalog {
         self.projection(p).codes[j]
     }
 
-    /// What the cells of the `j`-th column of a projection are.
+    /// The kind of the `j`-th column of a projection.
     pub fn column_kind(&self, p: u16, j: usize) -> Kind
         requires projection { p < length self.now.projections }
         requires column { j < length (projection self.now p).columns }
@@ -141,7 +141,7 @@ impl Catalog {
         self.kind(self.projection(p).columns[j])
     }
 
-    /// Whether a projection has a declared join to another.
+    /// Whether a projection declares a join index to another.
     pub fn has_join(&self, p: u16, q: u16) -> bool
         requires { p < length self.now.projections }
         ensures { result ≡ has_join self.now p q }
@@ -167,7 +167,7 @@ impl Catalog {
         true
     }
 
-    /// How many segments a projection has.
+    /// The number of segments of a projection.
     pub fn segments(&self, p: u16) -> u16
         requires { p < length self.now.projections }
         ensures count { result ≡ segments self.now p }
@@ -176,7 +176,7 @@ impl Catalog {
         self.projection(p).cuts.len() as u16 + 1
     }
 
-    /// The range in which a value of the first sort column lies.
+    /// The segment whose range contains a value of the first sort column.
     pub fn segment_of(&self, p: u16, value: &Value) -> u16
         requires { p < length self.now.projections }
         ensures range { result ≡ range_of (projection self.now p).cuts value.now }
@@ -192,7 +192,7 @@ impl Catalog {
         segment
     }
 
-    /// The range in which a cell of the first sort column lies, read in place.
+    /// The segment whose range contains a cell of the first sort column. The cell is read in place.
     pub fn segment_of_cell(&self, p: u16, cells: &Cells, row: usize) -> u16
         requires projection { p < length self.now.projections }
         requires there { row < length (values cells.now) }

@@ -1,4 +1,4 @@
-//! Cells, and lists of them.
+//! Cells, and columns of them.
 ghost use Rattle.std.specs.Prelude.{◌≡◌, ◌==◌, ◌<◌, ◌≤◌, ◌-◌, [], ◌∷◌, ◌++◌, take, drop, length, slice_get, slice_index, flat_map, ℕ, Some, refl, IsTrue, ◌↔◌, OnOk, OnErr};
 ghost use Rattle.std.specs.Option.{option_cmp};
 ghost use Rattle.std.specs.Ordering.{as_partial_cmp, eq_by_cmp};
@@ -65,7 +65,7 @@ impl PartialOrd for Value {
     }
 }
 
-/// Ints by number, texts by their bytes, an int before a text.
+/// Ints by value, texts by their bytes, any int before any text.
 impl Ord for Value {
     ghost cmp = { value_cmp };
 
@@ -93,7 +93,7 @@ pub enum Cells {
 }
 
 impl Cells {
-    /// No cells of a kind.
+    /// An empty column of a kind.
     pub fn new(alloc: Global, kind: Kind) -> Cells
         ensures kind { kind_of result ≡ kind }
         ensures cells { values result ≡ [] }
@@ -104,7 +104,7 @@ impl Cells {
         }
     }
 
-    /// The kind of all of them.
+    /// The kind of its cells.
     pub fn kind(&self) -> Kind
         ensures { result ≡ kind_of self.now }
     {
@@ -114,7 +114,7 @@ impl Cells {
         }
     }
 
-    /// How many cells these are.
+    /// The number of cells.
     pub fn len(&self) -> usize
         ensures { result ≡ length (values self.now) }
     {
@@ -124,14 +124,14 @@ impl Cells {
         }
     }
 
-    /// Whether there are none.
+    /// Whether there are no cells.
     pub fn is_empty(&self) -> bool
         ensures { result ≡ (length (values self.now) == 0) }
     {
         self.len() == 0
     }
 
-    /// A copy of the cell at a place.
+    /// A copy of the cell at an index.
     pub fn cell(&self, at: usize) -> Value
         requires { at < length (values self.now) }
         ensures value { slice_get (values self.now) at ≡ Some result }
@@ -143,7 +143,7 @@ impl Cells {
         }
     }
 
-    /// How the cell at a place stands to a value.
+    /// Compares the cell at an index with a value.
     pub fn compare(&self, at: usize, value: &Value) -> Ordering
         requires { at < length (values self.now) }
         ensures { result ≡ option_cmp value_cmp (slice_get (values self.now) at) (Some value.now) }
@@ -156,7 +156,7 @@ impl Cells {
         }
     }
 
-    /// How the cell at a place stands to a cell of another column.
+    /// Compares the cell at an index with a cell of another column.
     pub fn compare_cell(&self, at: usize, other: &Cells, other_at: usize) -> Ordering
         requires here { at < length (values self.now) }
         requires there { other_at < length (values other.now) }
@@ -170,7 +170,7 @@ impl Cells {
         }
     }
 
-    /// Whether the cell at a place is the same as a cell of another column.
+    /// Whether the cell at an index equals a cell of another column.
     pub fn same(&self, at: usize, other: &Cells, other_at: usize) -> bool
         requires here { at < length (values self.now) }
         requires there { other_at < length (values other.now) }
@@ -184,7 +184,7 @@ impl Cells {
         }
     }
 
-    /// Adds a copy of a cell of another column of this kind at the end. A refusal changes nothing.
+    /// Appends a copy of a cell of another column of the same kind. If memory is refused, nothing changes.
     pub fn push_cell(&mut self, other: &Cells, at: usize) -> Result<(), AllocError>
         requires kind { kind_of other.now ≡ kind_of self.old }
         requires there { at < length (values other.now) }
@@ -201,7 +201,7 @@ impl Cells {
         Ok(())
     }
 
-    /// Adds a cell of their kind at the end. A refusal changes nothing.
+    /// Appends a cell of the column's kind. If memory is refused, nothing changes.
     pub fn push(&mut self, value: Value) -> Result<(), AllocError>
         requires { value_kind value ≡ kind_of self.old }
         ensures kind { kind_of self.new ≡ kind_of self.old }
@@ -217,7 +217,7 @@ impl Cells {
         Ok(())
     }
 
-    /// Moves the cells of another column of this kind to the end. A refusal changes nothing.
+    /// Moves the cells of another column of the same kind to the end. If memory is refused, nothing changes.
     pub fn append(&mut self, other: Cells) -> Result<(), AllocError>
         requires { kind_of other ≡ kind_of self.old }
         ensures kind { kind_of self.new ≡ kind_of self.old }
@@ -232,8 +232,7 @@ impl Cells {
         }
     }
 
-    /// Adds copies of another column's cells of this kind at the end, from one place up to another. A refusal changes
-    /// nothing.
+    /// Appends copies of the cells `from..to` of another column of this kind. If memory is refused, nothing changes.
     #[tactic(auto, using(crate::proofs::MappedRanges::map_range))]
     pub fn extend(&mut self, other: &Cells, from: usize, to: usize) -> Result<(), AllocError>
         requires kinds { kind_of self.old ≡ kind_of other.now }
@@ -251,7 +250,7 @@ impl Cells {
         Ok(())
     }
 
-    /// Adds copies of another column's cells of this kind at the end, those at some places. A refusal changes nothing.
+    /// Appends copies of another column's cells at these indices, of this kind. If memory is refused, nothing changes.
     #[tactic(auto, using(crate::proofs::MappedRanges::map_places))]
     pub fn push_at(&mut self, other: &Cells, places: &[u32]) -> Result<(), AllocError>
         requires kinds { kind_of self.old ≡ kind_of other.now }
@@ -268,7 +267,7 @@ impl Cells {
         Ok(())
     }
 
-    /// How many bytes the texts have together. Ints have none.
+    /// The total number of bytes of the texts. Ints have none.
     pub fn text_size(&self) -> usize {
         match self {
             Cells::Ints(_) => 0,
@@ -276,7 +275,7 @@ impl Cells {
         }
     }
 
-    /// Makes room for so many more cells, whose texts have so many bytes together.
+    /// Reserves room for `more` cells whose texts have `bytes` bytes in total.
     pub fn reserve(&mut self, more: usize, bytes: usize) -> Result<(), AllocError>
         ensures kind { kind_of self.new ≡ kind_of self.old }
         ensures cells { values self.new ≡ values self.old }
@@ -287,7 +286,7 @@ impl Cells {
         }
     }
 
-    /// Leaves only the cells before a place.
+    /// Keeps only the first `count` cells.
     pub fn truncate(&mut self, count: usize)
         ensures kind { kind_of self.new ≡ kind_of self.old }
         ensures cells { values self.new ≡ take count (values self.old) }

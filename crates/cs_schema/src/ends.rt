@@ -1,25 +1,25 @@
-//! Where the texts of a block end.
+//! Where each text of a block ends.
 ghost use Rattle.std.specs.Prelude.{◌≡◌, ◌+◌, ◌-◌, ◌<◌, ◌≤◌, ◌^◌, [], ◌∷◌, ◌++◌, ℕ, length, take, drop, map, slice_index, OnOk, OnErr};
 
 use std::alloc::{AllocError, Global};
 use std::marker::Model;
 
-/// Numbers of 64 bits, of which those before the first that needs more than 32 take four bytes each. A contract sees
-/// them all.
+/// Offsets of 64 bits. Those before the first that needs more than 32 bits take four bytes each. Contracts see one
+/// list.
 #[derive(Drop)]
 pub(crate) struct Ends {
     narrow: Vec<u32>,
     wide: Vec<u64>,
 }
 
-/// How ends are counted from another place of a block.
+/// How offsets into one block become offsets into another.
 #[derive(Clone, Copy)]
 pub(crate) struct Shift {
-    /// Where they were counted from.
+    /// Subtracted from each.
     pub(crate) less: usize,
-    /// Where they are counted from.
+    /// Added to each.
     pub(crate) more: usize,
-    /// None of them is above it then.
+    /// No shifted offset is greater.
     pub(crate) top: usize,
 }
 
@@ -32,7 +32,7 @@ impl Model for Ends {
 }
 
 impl Ends {
-    /// No ends.
+    /// No offsets.
     pub(crate) fn new(alloc: Global) -> Ends
         ensures { result ≡ [] }
     {
@@ -42,7 +42,7 @@ impl Ends {
         }
     }
 
-    /// How many ends these are.
+    /// The number of offsets.
     #[inline]
     pub(crate) fn len(&self) -> usize
         ensures { result ≡ length self.now }
@@ -50,7 +50,7 @@ impl Ends {
         self.narrow.len() + self.wide.len()
     }
 
-    /// The end at a place.
+    /// The offset at an index.
     #[inline]
     pub(crate) fn get(&self, at: usize) -> usize
         requires { at < length self.now }
@@ -64,7 +64,7 @@ impl Ends {
         }
     }
 
-    /// Adds an end. A refusal changes nothing.
+    /// Appends an offset. If memory is refused, nothing changes.
     #[inline]
     pub(crate) fn push(&mut self, end: usize) -> Result<(), AllocError>
         ensures ok { OnOk result (self.new ≡ self.old ++ end ∷ []) }
@@ -78,7 +78,7 @@ impl Ends {
         Ok(())
     }
 
-    /// Adds other ends, from one place up to another, and shifts them. A refusal changes nothing.
+    /// Appends the offsets `from..to` of another list, shifted. If memory is refused, nothing changes.
     pub(crate) fn extend_moved(
         &mut self,
         other: &Ends,
@@ -115,7 +115,7 @@ impl Ends {
         added
     }
 
-    /// Leaves only the ends before a place.
+    /// Keeps only the first `count` offsets.
     pub(crate) fn truncate(&mut self, count: usize)
         ensures { self.new ≡ take count self.old }
     {
@@ -123,7 +123,7 @@ impl Ends {
         self.narrow.truncate(count);
     }
 
-    /// Makes room for so many more ends.
+    /// Reserves room for `more` offsets.
     pub(crate) fn reserve(&mut self, more: usize) -> Result<(), AllocError>
         ensures { self.new ≡ self.old }
     {
@@ -135,7 +135,7 @@ impl Ends {
     }
 }
 
-/// The items from one place up to another.
+/// The items `from..to`.
 #[inline]
 pub(crate) fn part<T>(items: &[T], from: usize, to: usize) -> &[T]
     requires order { from ≤ to }
@@ -145,7 +145,7 @@ pub(crate) fn part<T>(items: &[T], from: usize, to: usize) -> &[T]
     &items[from..to]
 }
 
-/// Adds shifted ends one by one. After a refusal some of them stand there.
+/// Appends shifted offsets one by one. If memory is refused, some of them have been appended.
 fn push_moved(
     ends: &mut Ends,
     other: &Ends,
@@ -167,7 +167,7 @@ fn push_moved(
     Ok(())
 }
 
-/// Adds moved ends that take four bytes each, with one copy of memory. A refusal changes nothing.
+/// Appends shifted offsets that take four bytes each, by one copy. If memory is refused, nothing changes.
 fn extend_narrow(
     ends: &mut Vec<u32>,
     others: &[u32],
@@ -185,7 +185,7 @@ fn extend_narrow(
     Ok(())
 }
 
-/// Counts ends from another place.
+/// Shifts offsets in place.
 fn move_ends(ends: &mut [u32], less: u32, more: u32)
     requires low { (k : ℕ) → k < length ends.old → less ≤ slice_index ends.old k }
     requires high { (k : ℕ) → k < length ends.old → slice_index ends.old k + more < 2 ^ 32 + less }

@@ -1,10 +1,10 @@
-//! Ints of a column.
+//! Columns of ints.
 ghost use Rattle.std.specs.Prelude.{◌≡◌, ◌<◌, ◌++◌, ℕ, length, take, slice_index, OnOk, OnErr, vec_len};
 ghost use Rattle.cs_schema.specs.Blocks.{texts_at};
 
 use std::alloc::AllocError;
 
-/// Adds the ints at some places. A refusal changes nothing.
+/// Appends the ints at these indices. If memory is refused, nothing changes.
 pub(crate) fn push_ints_at(
     ints: &mut Vec<i64>,
     others: &[i64],
@@ -22,7 +22,7 @@ pub(crate) fn push_ints_at(
     added
 }
 
-/// Adds the ints at some places. After a refusal some of them stand there.
+/// Appends the ints at these indices. If memory is refused, some of them have been appended.
 fn push_each(ints: &mut Vec<i64>, others: &[i64], places: &[u32]) -> Result<(), AllocError>
     requires { (k : ℕ) → k < length places.now → slice_index places.now k < length others.now }
     ensures all { OnOk result (ints.new.items ≡ ints.old.items ++ texts_at others.now places.now) }

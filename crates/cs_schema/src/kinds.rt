@@ -1,7 +1,7 @@
-//! What a column holds, and how it is written.
+//! What a column holds, and how it is encoded.
 use crate::{Value, Word};
 
-/// What the cells of a column are.
+/// The kind of a column's cells.
 #[derive(Debug, Clone, Copy, PartialEq, Eq)]
 pub enum Kind {
     Int,
@@ -11,7 +11,7 @@ pub enum Kind {
 impl Kind {
     ghost use Rattle.cs_schema.specs.Values.{IsLeastOfKind};
 
-    /// The least cell of this kind: the least 64-bit int, or the empty text.
+    /// The smallest cell of this kind: the smallest 64-bit int, or the empty text.
     pub fn least(self) -> Value
         ensures { IsLeastOfKind self result }
     {
@@ -22,16 +22,16 @@ impl Kind {
     }
 }
 
-/// Which losses a store outlives.
+/// Which losses a store survives.
 #[derive(Debug, Clone, Copy, PartialEq, Eq)]
 pub enum Safety {
-    /// Those after which whole projections hold every column.
+    /// Those that leave every column in whole projections.
     Whole,
-    /// Those after which each row is held.
+    /// Those that leave every row reachable.
     Rows,
 }
 
-/// How a column of a segment is written.
+/// How a segment's column is encoded.
 #[derive(Debug, Clone, Copy, PartialEq, Eq)]
 pub enum Code {
     Runs = 1,

@@ -1,7 +1,7 @@
 //! The base of a column store: its catalog, its cells, the names of its files, and losses of sites.
 //!
-//! A catalog is one that some document names which keeps every rule. Hands out what the rules come to, and
-//! the definitions of table, order and segment on which the layers above stand, with their laws (`laws`).
+//! A `Catalog` is what a document that keeps every rule says. The crate also has the definitions of table, order and
+//! segment that the layers above use, with their laws (`laws`).
 #![tactic(auto)]
 
 mod catalog;

@@ -2,7 +2,7 @@
 use std::fmt;
 use std::marker::Model;
 
-/// A set of sites, from 1 to 16, in one word.
+/// A set of sites, numbered 1 to 16, in one word.
 #[derive(Clone, Copy, Debug)]
 pub struct Loss {
     bits: u16,
@@ -31,7 +31,7 @@ impl Loss {
     ghost use Rattle.cs_schema.specs.Losses.{IsSites};
     ghost use Rattle.cs_schema.specs.Order.{placed};
 
-    /// No site.
+    /// The empty loss.
     pub fn none() -> Loss
         ensures { result ≡ [] }
     {
@@ -48,7 +48,7 @@ impl Loss {
         (self.bits >> (site - 1)) % 2 == 1
     }
 
-    /// These sites and this one.
+    /// This loss and one more site.
     pub fn with(self, site: u8) -> Loss
         requires low { 1 ≤ site }
         requires high { site ≤ 16 }
@@ -60,7 +60,7 @@ impl Loss {
         }
     }
 
-    /// How many sites are lost.
+    /// The number of lost sites.
     pub fn count(self) -> u8
         ensures count { result ≡ length self }
         ensures sites { IsSites self }
@@ -96,7 +96,7 @@ impl Eq for Loss {
     ghost laws = { nat_list_eq_equiv };
 }
 
-/// The sites, ascending, with commas between them, or `none`.
+/// The sites, ascending, separated by commas, or `none`.
 impl fmt::Display for Loss {
     fn fmt<W: fmt::Write>(&self, f: &mut fmt::Formatter<W>) -> fmt::Result {
         let mut first = true;

@@ -1,6 +1,6 @@
-//! The catalogs of small stores, for tests and for the program's own demonstration.
+//! Catalogs of small stores, for tests and for the demonstration that `cs_cli` runs.
 
-/// Two columns of ints in two orders on two sites, with no join: each site alone holds the table.
+/// Two columns of ints in two orders on two sites, without joins: each site alone has the whole table.
 pub const TWO_ORDERS: &str = r#"version = 1
 table = "t"
 key = "id"
@@ -29,7 +29,8 @@ sites = [2]
 joins = []
 "#;
 
-/// Three columns, one of texts; the second projection lacks the key and is cut in two. Each joins to the other.
+/// Three columns, one of texts. The second projection lacks the key and has two segments. Each projection joins to the
+/// other.
 pub const CITIES: &str = r#"version = 1
 table = "t"
 key = "id"
@@ -61,7 +62,7 @@ sites = [2, 3]
 joins = ["a"]
 "#;
 
-/// Two columns in three projections of two segments each, on six sites, with no join.
+/// Two columns in three projections of two segments each, on six sites, without joins.
 pub const THREE_PROJECTIONS: &str = r#"version = 1
 table = "t"
 key = "id"
@@ -98,7 +99,7 @@ sites = [5, 6]
 joins = []
 "#;
 
-/// Three columns of ints, of which two projections hold a part each and join to each other, and a third holds all.
+/// Three columns of ints. Two projections have a part of them each and join to each other; a third has all.
 pub const SPLIT_COLUMNS: &str = r#"version = 1
 table = "t"
 key = "id"

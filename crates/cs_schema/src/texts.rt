@@ -1,4 +1,4 @@
-//! Texts as one block: the bytes of all of them, and where each ends.
+//! A column of texts as one block of bytes and the offset at which each text ends (as in Arrow's string arrays).
 ghost use Rattle.std.specs.Prelude.{◌≡◌, ◌==◌, ◌-◌, ◌<◌, ◌≤◌, [], ◌∷◌, ◌++◌, ℕ, length, take, drop, slice_get, slice_index, Some, IsUtf8, OnOk, OnErr, IsTrue, ◌↔◌};
 ghost use Rattle.std.specs.List.{concat};
 ghost use Rattle.std.specs.Option.{option_cmp};
@@ -13,7 +13,7 @@ use std::cmp::Ordering;
 use std::marker::Model;
 use std::str;
 
-/// Texts of at most 255 bytes, in one block. A contract sees the bytes of each.
+/// Texts of at most 255 bytes each, in one block. Contracts see the bytes of each.
 #[derive(Drop)]
 pub struct Texts {
     bytes: Vec<u8>,
@@ -43,7 +43,7 @@ impl Texts {
         }
     }
 
-    /// How many texts these are.
+    /// The number of texts.
     #[inline]
     pub fn len(&self) -> usize
         ensures { result ≡ length self.now }
@@ -51,14 +51,14 @@ impl Texts {
         self.ends.len()
     }
 
-    /// How many bytes the texts have together.
+    /// The total number of bytes.
     pub fn size(&self) -> usize
         ensures { result ≡ length (concat self.now) }
     {
         self.bytes.len()
     }
 
-    /// Whether there are none.
+    /// Whether there are no texts.
     #[inline]
     pub fn is_empty(&self) -> bool
         ensures { result ≡ (length self.now == 0) }
@@ -66,7 +66,7 @@ impl Texts {
         self.len() == 0
     }
 
-    /// The text at a place.
+    /// The text at an index.
     #[inline]
     pub fn get(&self, at: usize) -> &str
         requires { at < length self.now }
@@ -79,7 +79,7 @@ impl Texts {
         text_between(&self.bytes, start, end)
     }
 
-    /// The bytes of the text at a place.
+    /// The bytes of the text at an index.
     #[inline]
     pub fn bytes(&self, at: usize) -> &[u8]
         requires { at < length self.now }
@@ -90,7 +90,7 @@ impl Texts {
         self.get(at).as_bytes()
     }
 
-    /// A copy of the text at a place, which takes no memory.
+    /// A copy of the text at an index. It does not allocate.
     #[inline]
     pub fn word(&self, at: usize) -> Word
         requires { at < length self.now }
@@ -104,7 +104,7 @@ impl Texts {
         }
     }
 
-    /// How the text at a place stands to one of other texts, by their bytes.
+    /// Compares the text at an index with one of another block, by their bytes.
     #[inline]
     pub fn compare(&self, at: usize, other: &Texts, other_at: usize) -> Ordering
         requires here { at < length self.now }
@@ -114,7 +114,7 @@ impl Texts {
         self.get(at).cmp(other.get(other_at))
     }
 
-    /// Whether the text at a place is the same as one of other texts.
+    /// Whether the text at an index equals one of another block.
     #[inline]
     pub fn same(&self, at: usize, other: &Texts, other_at: usize) -> bool
         requires here { at < length self.now }
@@ -124,7 +124,7 @@ impl Texts {
         self.get(at) == other.get(other_at)
     }
 
-    /// Adds a copy of the text at the end. A refusal changes nothing.
+    /// Appends a copy of a text. If memory is refused, nothing changes.
     #[inline]
     pub fn push(&mut self, text: &str) -> Result<(), AllocError>
         requires { length text.now ≤ 255 }
@@ -140,7 +140,7 @@ impl Texts {
         Ok(())
     }
 
-    /// Adds copies of other texts at the end, from one place up to another. A refusal changes nothing.
+    /// Appends copies of the texts `from..to` of another block. If memory is refused, nothing changes.
     pub fn extend(&mut self, other: &Texts, from: usize, to: usize) -> Result<(), AllocError>
         requires order { from ≤ to }
         requires within { to ≤ length other.now }
@@ -168,7 +168,7 @@ impl Texts {
         Ok(())
     }
 
-    /// Moves other texts to the end. A refusal changes nothing.
+    /// Moves the texts of another block to the end. If memory is refused, nothing changes.
     pub fn append(&mut self, other: Texts) -> Result<(), AllocError>
         ensures ok { OnOk result (self.new ≡ self.old ++ other) }
         ensures err { OnErr result (self.new ≡ self.old) }
@@ -181,7 +181,7 @@ impl Texts {
         self.extend(&other, 0, count)
     }
 
-    /// Leaves only the texts before a place.
+    /// Keeps only the first `count` texts.
     pub fn truncate(&mut self, count: usize)
         ensures { self.new ≡ take count self.old }
     {
@@ -192,7 +192,7 @@ impl Texts {
         }
     }
 
-    /// Makes room for so many more texts, of so many bytes together.
+    /// Reserves room for `texts` texts of `bytes` bytes in total.
     pub fn reserve(&mut self, texts: usize, bytes: usize) -> Result<(), AllocError>
         ensures { self.new ≡ self.old }
     {
@@ -200,7 +200,7 @@ impl Texts {
         self.bytes.reserve(bytes)
     }
 
-    /// Adds copies of the texts of another block at some places. A refusal changes nothing.
+    /// Appends copies of the texts of another block at these indices. If memory is refused, nothing changes.
     pub fn push_at(&mut self, other: &Texts, places: &[u32]) -> Result<(), AllocError>
         requires { (k : ℕ) → k < length places.now → slice_index places.now k < length other.now }
         ensures ok { OnOk result (self.new ≡ self.old ++ texts_at other.now places.now) }
@@ -214,8 +214,8 @@ impl Texts {
         added
     }
 
-    /// How many bytes the texts at some places have together, where that is a number of 64 bits. It reads no text, so that
-    /// the reads don't wait for one another.
+    /// The total number of bytes of the texts at these indices, if that fits 64 bits. It reads offsets alone, so no
+    /// read waits for another.
     pub fn size_at(&self, places: &[u32]) -> usize
         requires { (k : ℕ) → k < length places.now → slice_index places.now k < length self.now }
     {
@@ -227,7 +227,7 @@ impl Texts {
     }
 }
 
-/// Adds copies of the texts at some places. After a refusal some of them stand there.
+/// Appends copies of the texts at these indices. If memory is refused, some of them have been appended.
 fn push_each(texts: &mut Texts, other: &Texts, places: &[u32]) -> Result<(), AllocError>
     requires { (k : ℕ) → k < length places.now → slice_index places.now k < length other.now }
     ensures all { OnOk result (texts.new ≡ texts.old ++ texts_at other.now places.now) }
@@ -240,7 +240,7 @@ fn push_each(texts: &mut Texts, other: &Texts, places: &[u32]) -> Result<(), All
     Ok(())
 }
 
-/// Where the text at a place starts, or the last one ends.
+/// The offset at which the text at an index starts, or at which the last one ends.
 #[inline]
 fn start_of(ends: &Ends, at: usize) -> usize
     requires { at ≤ length ends.now }
@@ -249,7 +249,7 @@ fn start_of(ends: &Ends, at: usize) -> usize
     if at == 0 { 0 } else { ends.get(at - 1) }
 }
 
-/// The text from one byte up to another.
+/// The text between two offsets.
 #[inline]
 fn text_between(bytes: &[u8], start: usize, end: usize) -> &str
     requires order { start ≤ end }

@@ -6,60 +6,60 @@ use thiserror::Error;
 /// Why a call on a source or a sink failed.
 #[derive(Clone, Copy, Debug, PartialEq, Eq)]
 pub enum StoreFault {
-    /// Want of memory.
+    /// Out of memory.
     Memory,
-    /// A fault of the device behind it.
+    /// The device failed.
     Device,
 }
 
-/// Why a store was refused, or could not be read or written. Its text is what a program prints.
+/// Why a store was refused, or could not be read or written. Its `Display` is the text that the programs print.
 ///
-/// Numbers are those of projections (`p`, and `q` for a join's target), of segments (`s`), and of
-/// rows by position in a segment's image, each from 0.
+/// Numbers are those of projections (`p`, and `q` for the target of a join index), of segments (`s`), and of rows by
+/// their position in a segment's image, each from 0.
 #[derive(Clone, Copy, Debug, PartialEq, Eq, Error)]
 pub enum Fault {
-    /// Want of memory. It may take the place of any other answer.
+    /// Out of memory. It may take the place of any other answer.
     #[error("want of memory")]
     Memory,
-    /// The loss has a site that the catalog doesn't have.
+    /// The loss names a site that the catalog does not have.
     #[error("loss names a site outside the catalog")]
     Site,
-    /// A check for more lost sites than the limit.
+    /// A check for more lost sites than the maximum.
     #[error("k above 3")]
     BadK,
-    /// What survives this loss does not hold every column.
+    /// What survives this loss does not have every column.
     #[error("unsafe loss: {0}")]
     Unsafe(Loss),
-    /// The file is not there.
+    /// The file is missing.
     #[error("missing {0}")]
     Missing(FileName),
-    /// The bytes are no file of this name.
+    /// The bytes are not a file of this name.
     #[error("damaged {0}")]
     Damaged(FileName),
-    /// A join index leads from this row to no row.
+    /// The join indexes lead from this row to no row.
     #[error("astray p{p}.s{s} row {row}")]
     Astray { p: u16, s: u16, row: u32 },
-    /// Two rows have one primary key.
+    /// Two rows have the same primary key.
     #[error("primary key twice")]
     Twice,
-    /// The range of this segment has too many rows.
+    /// This segment's range has too many rows.
     #[error("full p{p}.s{s}")]
     Full { p: u16, s: u16 },
-    /// The segment doesn't have the rows of its range, in order.
+    /// The segment does not have the rows of its range, in order.
     #[error("misplaced p{p}.s{s}")]
     Misplaced { p: u16, s: u16 },
-    /// The join index of this segment leads to other rows.
+    /// This segment's join index leads to other rows.
     #[error("misled p{p}.s{s}.q{q}")]
     Misled { p: u16, s: u16, q: u16 },
-    /// The source failed at this file.
+    /// Reading this file failed.
     #[error("read {0}")]
     Read(FileName),
-    /// The sink failed at this file, or at the mark where there is none.
+    /// Writing this file failed, or the mark if no file is named.
     #[error("write {target}", target = Target(*.0))]
     Write(Option<FileName>),
 }
 
-/// What a save was writing: a file, or the mark.
+/// What a save was writing: a file, or the mark if no file is named.
 #[derive(Clone, Copy)]
 struct Target(Option<FileName>);
 

@@ -9,7 +9,7 @@ use std::collections::BTreeMap;
 use std::collections::btree_map::Iter;
 use std::marker::Model;
 
-/// The bytes of some files, by name. Contracts see the finite map.
+/// The bytes of files by name. Contracts see a finite map.
 #[derive(Drop)]
 pub struct FileSet {
     files: BTreeMap<FileName, Vec<u8>>,
@@ -44,7 +44,7 @@ impl FileSet {
         })
     }
 
-    /// Puts the file there, in the place of one that had the name.
+    /// Puts a file, replacing one of the same name.
     pub fn put(&mut self, name: FileName, bytes: Vec<u8>) -> Result<(), AllocError>
         ensures ok { OnOk result (self.new ≡ map.insert self.old name bytes.items) }
         ensures err { OnErr result (self.new ≡ self.old) }
@@ -63,7 +63,7 @@ impl FileSet {
         }
     }
 
-    /// How many files there are.
+    /// The number of files.
     pub fn len(&self) -> usize
         ensures count { result ≡ map.len self.now }
         ensures small { result < 2 ^ 63 }
@@ -71,14 +71,14 @@ impl FileSet {
         self.files.len()
     }
 
-    /// Whether there is no file.
+    /// Whether there are no files.
     pub fn is_empty(&self) -> bool
         ensures { IsTrue result ↔ (map.len self.now ≡ 0) }
     {
         self.len() == 0
     }
 
-    /// The file at this place, from 0, in the order of names. It walks past those before it.
+    /// The file at an index, from 0, in the order of names. It takes time linear in the index.
     pub fn at(&self, i: usize) -> (FileName, &[u8])
         requires { i < map.len self.now }
         ensures { slice_get (map.entries self.now) i ≡ Some (result.0, result.1.now) }

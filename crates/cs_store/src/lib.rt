@@ -1,7 +1,7 @@
-//! File sets, and loading them from a source and saving them to a sink.
+//! File sets: loading them from a source and saving them to a sink.
 //!
-//! A file set is a finite map from names to bytes. `load` and `save` are proved to make exactly the
-//! calls that their contracts list, in that order, whatever the source or the sink answers.
+//! A file set is a finite map from names to bytes. `load` and `save` are proved to make exactly the calls that their
+//! contracts list, in that order, whatever the source or the sink answers.
 #![tactic(auto)]
 
 mod fault;

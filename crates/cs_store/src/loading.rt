@@ -11,11 +11,11 @@ use crate::{Fault, FileSet, Source, StoreFault};
 use cs_schema::{Catalog, FileName, Loss};
 use std::alloc::{AllocError, Global};
 
-/// Reads the files that survive the loss, in the order of their names, and leaves out those that the
-/// source doesn't have.
+/// Reads the files that survive the loss, in the order of their names. Files that the source does not have are left
+/// out.
 ///
-/// `Read` names the first read at which the device failed. After any answer some files were read, and at
-/// most one read was refused.
+/// `Read` names the first file at which the device failed. Whatever the answer, some files were read and at most one
+/// read failed.
 pub fn load<S: Source>(
     alloc: Global,
     catalog: &Catalog,
@@ -37,7 +37,7 @@ pub fn load<S: Source>(
     }
 }
 
-/// Reads the files of these names, in this order.
+/// Reads the files with these names, in this order.
 fn load_names<S: Source>(
     alloc: Global,
     names: &[FileName],
@@ -68,7 +68,7 @@ fn load_names<S: Source>(
     Ok(files)
 }
 
-/// Puts what a read gave, if there was such a file.
+/// Adds what a read gave, if there was such a file.
 pub(crate) fn keep(
     files: &mut FileSet,
     name: FileName,

@@ -1,4 +1,4 @@
-//! Test helpers: a source and a sink in memory, which can be made to fail at one call.
+//! Test helpers: a source and a sink in memory that can be made to fail at one call.
 ghost use Rattle.std.specs.Prelude.{◌≡◌, Some, None, IfOk, IfErr, OnOk, OnErr, take};
 ghost use Rattle.std.specs.FinMap.{empty, entries, len};
 ghost use Rattle.cs_schema.specs.FileNames.{surviving};
@@ -19,9 +19,9 @@ pub use sink::MemorySink;
 pub use source::MemorySource;
 use std::alloc::Global;
 
-/// A load from memory: at each surviving name just what is held there, and nothing else.
+/// Loads from memory: for each surviving name exactly what is stored under it, and nothing else.
 ///
-/// It fails where the source's plan says so, want of memory aside.
+/// Apart from running out of memory, it fails exactly if the source's plan says so.
 pub fn load_from_memory(
     alloc: Global,
     catalog: &Catalog,
@@ -37,10 +37,9 @@ pub fn load_from_memory(
     load(alloc, catalog, loss, source)
 }
 
-/// A save to an empty sink in memory, which then holds the same files, or the first ones of them and
-/// no new mark.
+/// Saves to an empty sink in memory. Afterwards the sink has the same files, or some of the first ones and no new mark.
 ///
-/// It fails where the sink's plan says so, want of memory aside.
+/// Apart from running out of memory, it fails exactly if the sink's plan says so.
 pub fn save_to_memory(files: &FileSet, sink: &mut MemorySink) -> Result<(), Fault>
     requires { sink.old.files ≡ empty }
     ensures whole { OnOk result (sink.new.files ≡ files.now) }

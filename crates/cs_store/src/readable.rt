@@ -1,4 +1,4 @@
-//! Reading the surviving files of a store, past those that can't be read.
+//! Reading the surviving files of a store, continuing after failed reads.
 ghost use Rattle.std.specs.Prelude.{◌≡◌, ◌≢◌, ◌≤◌, [], None, IfOk, OnOk, OnErr};
 ghost use Rattle.std.specs.List.{AllByRecursion};
 ghost use Rattle.std.specs.List.Sorted.{IsStrictlySortedBy};
@@ -12,19 +12,19 @@ use crate::{FileSet, Source, StoreFault};
 use cs_schema::{Catalog, FileName, Loss};
 use std::alloc::{AllocError, Global};
 
-/// What a load found that goes on after reads that fail.
+/// What a load found that continues after failed reads.
 #[derive(Drop)]
 pub struct Readable {
-    /// The files that were there.
+    /// The files that could be read.
     pub files: FileSet,
     /// The names at which the device failed, ascending.
     pub unreadable: Vec<FileName>,
 }
 
-/// Reads the files that survive the loss, in the order of their names, and goes on after reads that fail. It leaves out
-/// the files that the source doesn't have.
+/// Reads the files that survive the loss, in the order of their names, and continues after failed reads. Files that the
+/// source does not have are left out.
 ///
-/// No unreadable name stands in the files.
+/// No unreadable name is among the files.
 pub fn load_readable<S: Source>(
     alloc: Global,
     catalog: &Catalog,
@@ -45,7 +45,7 @@ pub fn load_readable<S: Source>(
     attempt_names(alloc, names.as_slice(), source)
 }
 
-/// Reads the files of these names, in this order.
+/// Reads the files with these names, in this order.
 fn attempt_names<S: Source>(
     alloc: Global,
     names: &[FileName],
@@ -72,7 +72,7 @@ fn attempt_names<S: Source>(
     Ok(found)
 }
 
-/// Reads the file of this name, and adds what the read came to.
+/// Reads the file with this name and adds the result.
 fn attempt<S: Source>(
     source: &mut S,
     name: FileName,

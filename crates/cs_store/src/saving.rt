@@ -1,4 +1,4 @@
-//! Writing a file set, and then the mark that it is whole.
+//! Writing a file set, then the mark that it is complete.
 ghost use Rattle.std.specs.Prelude.{◌≡◌, ◌≤◌, Option, OnOk, IfErr, IsErrOf};
 ghost use Rattle.std.specs.FinMap.{entries};
 ghost use Rattle.cs_schema.specs.declared.file_name.FileName.{FileName};
@@ -8,9 +8,9 @@ ghost use Rattle.cs_store.specs.Save.{Saves, StopsSaving, refusal as refusal_at}
 use crate::{Fault, FileSet, Sink, StoreFault};
 use cs_schema::FileName;
 
-/// Puts every file, in the order of names, and then sets the mark with their number.
+/// Puts each file, in the order of names, then sets the mark with the number of files.
 ///
-/// It stops at the first call that the sink refuses: `Write` names that file, or none for the mark.
+/// Stops at the first call that fails: `Write` names that file, or no file for the mark.
 pub fn save<K: Sink>(files: &FileSet, sink: &mut K) -> Result<(), Fault>
     ensures ok { OnOk result (Saves K.takes K.marks (entries files.now) sink.old sink.new) }
     ensures err { IfErr result (λ fault.
@@ -31,7 +31,7 @@ pub fn save<K: Sink>(files: &FileSet, sink: &mut K) -> Result<(), Fault>
     }
 }
 
-/// How a save answers a refusal at this file, or at the mark.
+/// The answer of a save that fails at this file, or at the mark if no file is named.
 fn refusal(at: Option<FileName>, fault: StoreFault) -> Fault
     ensures { result ≡ refusal_at at fault }
 {

@@ -1,4 +1,4 @@
-//! The columns of one catalog as those of another.
+//! Arranging the columns of one catalog in the order of another.
 ghost use Rattle.std.specs.Prelude.{◌≡◌, None, IfOk, length};
 ghost use Rattle.cs_csv.specs.Columns.{NamesDiffer};
 ghost use Rattle.cs_tables.specs.ByName.{AreArranged};
@@ -9,7 +9,7 @@ use cs_schema::{Catalog, Cells, Column, Kind};
 use std::alloc::{AllocError, Global};
 use std::mem::replace;
 
-/// Columns in the order of others of the same names.
+/// Columns in the order of others with the same names.
 fn arrange_columns(
     alloc: Global,
     old: &[Column],
@@ -31,7 +31,7 @@ fn arrange_columns(
     Ok(arranged)
 }
 
-/// The columns of a table in the order of a new catalog of the same columns. No cell is copied.
+/// The columns of a table in the order of a new catalog with the same columns. No cell is copied.
 pub(crate) fn arrange(
     alloc: Global,
     old: &Catalog,

@@ -1,4 +1,4 @@
-//! The files of a store from rows, and which rows make none.
+//! The files of a new store from rows, or which rows prevent it.
 ghost use Rattle.std.specs.Prelude.{◌≡◌, [], true, false, Some};
 ghost use Rattle.cs_safety.specs.Safety.{IsSafe};
 ghost use Rattle.cs_store.specs.Fault.{MemoryOr};
@@ -16,7 +16,7 @@ use std::alloc::Global;
 use std::marker::Sync;
 use std::thread::Threads;
 
-/// Whether a catalog is safe where no site is lost, as that of a new store has to be.
+/// Whether a catalog is safe if no site is lost, as that of a new store must be.
 pub fn is_safe(catalog: &Catalog) -> bool
     ensures yes { result ≡ true → IsSafe catalog.now [] }
     ensures no { result ≡ false → ¬ IsSafe catalog.now [] }
@@ -24,7 +24,7 @@ pub fn is_safe(catalog: &Catalog) -> bool
     safe(catalog, Loss::none())
 }
 
-/// The rows whose primary key stands twice.
+/// The rows with a repeated primary key.
 fn twice(alloc: Global, catalog: &Catalog, rows: &[Cells]) -> LoadFault
     requires { AreTableColumns catalog.now rows.now }
     ensures { IsTwiceFault catalog.now rows.now result }
@@ -32,12 +32,12 @@ fn twice(alloc: Global, catalog: &Catalog, rows: &[Cells]) -> LoadFault
     let _rules = catalog.projection_count();
     match first_repeat(alloc, &rows[catalog.key as usize]) {
         Ok(Some(repeat)) => LoadFault::Twice(repeat),
-        // where a key stands twice there is one
+        // a repeated key has a first repeat
         Ok(None) | Err(_) => LoadFault::Memory,
     }
 }
 
-/// Why rows are refused, where `build` gives this fault.
+/// Why rows are refused, given the fault that `build` answered.
 fn refusal(alloc: Global, catalog: &Catalog, rows: &[Cells], fault: Fault) -> LoadFault
     requires columns { AreTableColumns catalog.now rows.now }
     requires refused { MemoryOr fault (build_fault catalog.now (rows_in rows.now) ≡ Some fault) }
@@ -50,12 +50,12 @@ fn refusal(alloc: Global, catalog: &Catalog, rows: &[Cells], fault: Fault) -> Lo
             s,
             rows: rows_in_range(catalog, rows, p, s),
         },
-        // no other fault is one of rows
+        // `build` has no other fault about rows
         _ => LoadFault::Memory,
     }
 }
 
-/// The files of a new store that holds the table of these rows: as `build`, but a refusal names the rows.
+/// The files of a new store with the table of these rows. Unlike `build`, a refusal names the rows.
 pub fn build_rows<R: Threads + Sync, G: Gate + Sync>(
     run: &Run<'_, R, G>,
     catalog: &Catalog,

@@ -1,4 +1,4 @@
-//! How many rows there are, and how many lie in a range.
+//! Numbers of rows, in all and in a range.
 ghost use Rattle.std.specs.Prelude.{◌≡◌, ◌<◌, ◌==◌, length};
 ghost use Rattle.std.specs.List.{filter};
 ghost use Rattle.cs_rows.specs.WalkedView.{count_of};
@@ -7,7 +7,7 @@ ghost use Rattle.cs_recovery.specs.Columns.{AreTableColumns, rows_in};
 
 use cs_schema::{Catalog, Cells};
 
-/// How many rows columns have.
+/// The number of rows of the columns.
 pub fn count_rows(cells: &[Cells]) -> usize
     ensures { result ≡ count_of cells.now }
 {
@@ -17,7 +17,7 @@ pub fn count_rows(cells: &[Cells]) -> usize
     }
 }
 
-/// How many rows lie in the range of a segment.
+/// The number of rows in the range of a segment.
 pub(crate) fn rows_in_range(catalog: &Catalog, rows: &[Cells], p: u16, s: u16) -> usize
     requires projection { p < length catalog.now.projections }
     requires columns { AreTableColumns catalog.now rows.now }

@@ -1,4 +1,4 @@
-//! How the columns and the primary key of two catalogs differ.
+//! How the columns and the primary keys of two catalogs differ.
 ghost use Rattle.std.specs.Prelude.{◌≡◌, ◌<◌, true, length};
 ghost use Rattle.std.specs.List.{position};
 ghost use Rattle.cs_schema.specs.Rules.{same_text};
@@ -7,21 +7,21 @@ ghost use Rattle.cs_tables.specs.Differences.{first_difference, first_of_other_k
 
 use cs_schema::{Catalog, Column, Kind};
 
-/// How the columns or the primary key of a new catalog differ from those of the old one, which are taken by name. Columns are
-/// counted from 0.
+/// How the columns or the primary key of a new catalog differ from those of the old one. Columns are matched by name
+/// and counted from 0.
 #[derive(Debug, Clone, Copy, PartialEq, Eq)]
 pub enum Difference {
-    /// The new catalog has no column with the name of this one of the old.
+    /// The new catalog has no column with the name of this old one.
     Missing { column: usize },
-    /// The old catalog has no column with the name of this one of the new.
+    /// The old catalog has no column with the name of this new one.
     Unknown { column: usize },
-    /// This column of the new catalog is of another kind than that of its name in the old.
+    /// This column of the new catalog has another kind than the old one with its name.
     Kind { column: usize },
     /// The primary keys have different names.
     Key,
 }
 
-/// The number of the first column of this name.
+/// The number of the first column with this name.
 fn find_column(columns: &[Column], name: &str) -> Option<usize>
     ensures { result ≡ position (λ c. same_text c.name name.now) columns.now }
 {
@@ -30,7 +30,7 @@ fn find_column(columns: &[Column], name: &str) -> Option<usize>
         .position(|column| column.name.as_str() == name)
 }
 
-/// The number of the column of a name that one has.
+/// The number of the column with this name, which exists.
 #[tactic(auto, using(crate::proofs::NameLemmas::position_parts))]
 pub(crate) fn column_named(columns: &[Column], name: &str) -> usize
     requires { has_column columns.now name.now ≡ true }
@@ -57,7 +57,7 @@ fn has_column_of_kind(columns: &[Column], name: &str, kind: Kind) -> bool
     columns.iter().any(|column| column.name.as_str() == name && column.kind == kind)
 }
 
-/// The first column without one of its name among others.
+/// The first column whose name none of the others has.
 fn first_without(columns: &[Column], others: &[Column]) -> Option<usize>
     ensures { result ≡ first_without columns.now others.now }
 {
@@ -66,14 +66,14 @@ fn first_without(columns: &[Column], others: &[Column]) -> Option<usize>
         .position(|column| !has_column(others, column.name.as_str()))
 }
 
-/// The first column without one of its name and kind among others.
+/// The first column whose name and kind none of the others has.
 fn first_of_other_kind(columns: &[Column], others: &[Column]) -> Option<usize>
     ensures { result ≡ first_of_other_kind columns.now others.now }
 {
     columns.iter().position(|column| !has_column_of_kind(others, column.name.as_str(), column.kind))
 }
 
-/// Whether the primary keys of two catalogs have one name.
+/// Whether the primary keys of two catalogs have the same name.
 fn have_same_key(old: &Catalog, new: &Catalog) -> bool
     ensures { result ≡ have_same_key old.now new.now }
 {
@@ -81,7 +81,7 @@ fn have_same_key(old: &Catalog, new: &Catalog) -> bool
     old.columns[old.key as usize].name.as_str() == new.columns[new.key as usize].name.as_str()
 }
 
-/// The first difference between the columns of two catalogs, which are taken by name, and their primary keys.
+/// The first difference between the columns of two catalogs, matched by name, and their primary keys.
 pub(crate) fn first_difference(old: &Catalog, new: &Catalog) -> Option<Difference>
     ensures { result ≡ first_difference old.now new.now }
 {

@@ -13,16 +13,16 @@ use std::thread::Threads;
 /// Why a store's table was not written.
 #[derive(Debug, Drop)]
 pub enum DumpFault {
-    /// Why the files that survive hold no table.
+    /// Why the surviving files hold no table.
     Store(Fault),
     /// The text could not be written.
     Text(CsvFault),
 }
 
-/// Writes the table that the survivors of a loss hold as CSV: the names of the columns, and the rows by primary key. Nothing
-/// is written before the whole table is known.
+/// Writes the table that the survivors of a loss hold as CSV: a header with the names of the columns, then the rows by
+/// primary key. Nothing is written before the whole table is known.
 ///
-/// Refusals of the store are those of `table`. After a fault of the text some of it may be written.
+/// Fails on a store as `table` does. After a fault of the text, part of it may have been written.
 pub fn dump<R: Threads + Sync, G: Gate + Sync, W: Write + Drop>(
     run: &Run<'_, R, G>,
     catalog: &Catalog,

@@ -1,4 +1,4 @@
-//! A store laid out anew.
+//! Laying out a store anew.
 ghost use Rattle.std.specs.Prelude.{length};
 ghost use Rattle.cs_store.specs.FileSet.{contents_of};
 ghost use Rattle.cs_recovery.specs.Columns.{AreTableColumns};
@@ -15,7 +15,7 @@ use cs_schema::{Catalog, Cells, Loss};
 use std::marker::Sync;
 use std::thread::Threads;
 
-/// The files of the new store, and how many rows its table has.
+/// The files of the new store, and the number of rows of its table.
 #[derive(Drop)]
 pub struct Relaid {
     pub files: FileSet,
@@ -32,7 +32,7 @@ fn store_fault(fault: Fault) -> RelayoutFault
     }
 }
 
-/// A new store of rows with different primary keys.
+/// A new store of rows with distinct primary keys.
 fn build_store<R: Threads + Sync, G: Gate + Sync>(
     run: &Run<'_, R, G>,
     catalog: &Catalog,
@@ -54,17 +54,17 @@ fn build_store<R: Threads + Sync, G: Gate + Sync>(
     match fault {
         LoadFault::Memory => Err(RelayoutFault::Memory),
         LoadFault::Full { p, s, rows } => Err(RelayoutFault::Full { p, s, rows }),
-        // no two keys are the same, and no text was read
+        // keys are distinct, and no text was read
         _ => unreachable!(),
     }
 }
 
-/// The files of a new store under another catalog of the same columns, which are taken by name and in any order. It holds the
+/// The files of a new store under another catalog with the same columns, matched by name, in any order. It holds the
 /// table that the survivors of a loss of the old store hold.
 ///
-/// The first refusal that applies comes: `Differs` with the first difference, which is of the old columns that the new catalog
-/// lacks, then of the new ones that the old lacks, then of the kinds of the new ones, then of the primary keys; `Unsafe`;
-/// `Store` with a refusal of `table`; `Full` of the least range with too many rows. `Memory` may take the place of any answer.
+/// The first refusal that applies is answered: `Differs` with the first difference (old columns that the new catalog
+/// lacks, then new ones that the old one lacks, then kinds of new columns, then primary keys); `Unsafe`; `Store` with a
+/// refusal of `table`; `Full` of the first range with too many rows. `Memory` may take the place of any answer.
 pub fn relayout<R: Threads + Sync, G: Gate + Sync>(
     run: &Run<'_, R, G>,
     old: &Catalog,

@@ -1,8 +1,8 @@
-//! Tables and stores: a new store from a CSV, the table of a store as CSV, and a store laid out anew under another catalog of
-//! the same columns.
+//! Tables and stores: a new store from a CSV, the table of a store as CSV, and a store laid out anew under another
+//! catalog with the same columns.
 //!
-//! Promises that the files of a load hold exactly the table of the CSV's rows, that a dump's text is that of the table which
-//! the surviving files hold, and that a new layout holds exactly that table, its columns taken by name.
+//! The files of a load hold exactly the table of the CSV's rows, the text of a dump is that of the table which the
+//! surviving files hold, and a new layout holds exactly that table.
 #![tactic(auto)]
 
 mod arranging;

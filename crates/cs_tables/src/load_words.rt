@@ -1,11 +1,11 @@
-//! Why rows make no store, in words.
+//! Describes why rows make no store.
 
 use crate::load_fault::{LoadFault, Repeat};
 use cs_csv::{CsvWords, Excerpt};
 use cs_schema::{Catalog, Value};
 use std::fmt;
 
-/// Why a text makes no store of this catalog, as one line without its end. The header is record 0.
+/// Displays why a text makes no store of this catalog, as one line without its end. The header is record 0.
 #[derive(Clone, Copy)]
 pub struct LoadWords<'a> {
     pub catalog: &'a Catalog,
@@ -40,7 +40,7 @@ impl LoadWords<'_> {
         }
     }
 
-    /// Two records with one primary key.
+    /// Two records with the same primary key.
     fn write_repeat<W: fmt::Write>(
         &self,
         f: &mut fmt::Formatter<W>,

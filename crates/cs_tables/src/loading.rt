@@ -11,7 +11,7 @@ use std::io::Read;
 use std::marker::Sync;
 use std::thread::Threads;
 
-/// The files of a new store, and how many rows its table has.
+/// The files of a new store, and the number of rows of its table.
 #[derive(Drop)]
 pub struct Loaded {
     pub files: FileSet,
@@ -28,10 +28,11 @@ fn text_fault(fault: CsvFault) -> LoadFault
     }
 }
 
-/// The files of a new store of a catalog that holds the table of the rows of a CSV.
+/// The files of a new store under a catalog, with the table of a CSV's rows.
 ///
-/// The first refusal that applies comes: `Unsafe`; the first fault of the text; `Twice` of the first row with the primary key
-/// of an earlier one; `Full` of the least range with too many rows. `Memory` may take the place of any answer.
+/// The first refusal that applies is answered: `Unsafe`; the first fault of the text; `Twice` of the first row with the
+/// primary key of an earlier one; `Full` of the first range with too many rows. `Memory` may take the place of any
+/// answer.
 pub fn load<R: Threads + Sync, G: Gate + Sync, I: Read + Drop>(
     run: &Run<'_, R, G>,
     catalog: &Catalog,

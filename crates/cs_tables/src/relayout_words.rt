@@ -1,4 +1,4 @@
-//! Why a store is not laid out anew, in words.
+//! Describes why a store is not laid out anew.
 
 use crate::differences::Difference;
 use crate::relayout_fault::RelayoutFault;
@@ -6,7 +6,7 @@ use crate::{LoadFault, LoadWords};
 use cs_schema::{Catalog, Kind};
 use std::fmt;
 
-/// Why a store of the old catalog is not laid out under the new one, as one line without its end.
+/// Displays why a store of the old catalog is not laid out under the new one, as one line without its end.
 #[derive(Clone, Copy)]
 pub struct RelayoutWords<'a> {
     pub old: &'a Catalog,
@@ -23,7 +23,7 @@ fn column_name(catalog: &Catalog, column: usize) -> &str {
 }
 
 impl RelayoutWords<'_> {
-    /// A column of two kinds.
+    /// A column with two kinds.
     fn write_kinds<W: fmt::Write>(&self, f: &mut fmt::Formatter<W>, column: usize) -> fmt::Result {
         let new = self.new;
         let name = column_name(new, column);
@@ -37,7 +37,7 @@ impl RelayoutWords<'_> {
         )
     }
 
-    /// Why the new catalog takes no rows, in the words of a load.
+    /// Why the new catalog refuses the rows, in the words of a load.
     fn write_refusal<W: fmt::Write>(
         &self,
         f: &mut fmt::Formatter<W>,

@@ -1,4 +1,4 @@
-//! The first primary key that stands twice.
+//! The first repeated primary key.
 ghost use Rattle.std.specs.Prelude.{◌≡◌, ◌<◌, length, IfOk, IfSome, IfNone};
 ghost use Rattle.cs_schema.specs.Values.{values};
 ghost use Rattle.cs_tables.specs.Repeats.{AreDistinctBefore, IsFirstRepeat};
@@ -8,7 +8,7 @@ use cs_schema::{Cells, Value};
 use std::alloc::{AllocError, Global};
 use std::collections::BTreeMap;
 
-/// The first cell of a column that is also an earlier one.
+/// The first cell of a column that equals an earlier one.
 pub(crate) fn first_repeat(alloc: Global, cells: &Cells) -> Result<Option<Repeat>, AllocError>
     ensures some { IfOk result (λ found. IfSome found (λ repeat. IsFirstRepeat (values cells.now) repeat.first repeat.again repeat.key)) }
     ensures none { IfOk result (λ found. IfNone found (AreDistinctBefore (values cells.now) (length (values cells.now)))) }

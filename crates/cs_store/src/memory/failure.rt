@@ -4,8 +4,7 @@ ghost use Rattle.cs_store.specs.Fault.{CountsFault};
 
 use crate::StoreFault;
 
-/// A planned failure: `after` calls go well, the next one fails with this fault, and later ones go
-/// well again.
+/// A planned failure: `after` calls succeed, the next one fails with this fault, and later ones succeed again.
 #[derive(Clone, Copy, Debug, PartialEq, Eq)]
 pub struct Failure {
     pub after: u64,
@@ -15,7 +14,7 @@ pub struct Failure {
 impl Failure {
     ghost use Rattle.cs_store.specs.Plan.{due, later};
 
-    /// The fault of this call, if the plan has it fail. It counts the device's faults.
+    /// The fault of this call, if the plan makes it fail. Faults of the device are counted.
     pub(super) fn strike(plan: &mut Option<Failure>, faults: &mut u64) -> Option<StoreFault>
         ensures fault { result ≡ due plan.old }
         ensures plan { plan.new ≡ later plan.old }

@@ -6,7 +6,7 @@ use crate::{FileSet, Sink, StoreFault};
 use cs_schema::FileName;
 use std::alloc::Global;
 
-/// A sink that keeps what it took.
+/// A sink that keeps the files and the mark that it was given.
 #[derive(Drop)]
 pub struct MemorySink {
     pub files: FileSet,
@@ -17,7 +17,7 @@ pub struct MemorySink {
 }
 
 impl MemorySink {
-    /// A sink that has taken these files and no mark.
+    /// A sink with these files and no mark.
     pub fn new(alloc: Global, files: FileSet, failure: Option<Failure>) -> Self
         ensures files { result.files ≡ files }
         ensures unmarked { result.mark ≡ None }

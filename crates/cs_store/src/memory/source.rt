@@ -6,7 +6,7 @@ use crate::{FileSet, Source, StoreFault};
 use cs_schema::FileName;
 use std::alloc::Global;
 
-/// A source that holds a file set.
+/// A source of the files of a file set.
 #[derive(Drop)]
 pub struct MemorySource {
     pub files: FileSet,
