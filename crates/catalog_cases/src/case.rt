@@ -1,18 +1,18 @@
-//! A case: a sample catalog, an edit of it, and what is read of that.
+//! A case: a sample catalog, an edit of it, and what is read of the result.
 use crate::description::describe;
 use anyhow::{Result, anyhow};
 use cs_catalog::{Explanation, explain, read_catalog};
 use cs_schema::samples::{CITIES, SPLIT_COLUMNS, THREE_PROJECTIONS, TWO_ORDERS};
 use std::alloc::{AllocError, Global};
 
-/// The lines of a case, so far.
+/// The lines of a case so far.
 #[derive(Drop)]
 pub struct Case {
     /// The base and the title.
     head: String,
-    /// The lines that are taken out.
+    /// The lines to remove.
     old: String,
-    /// The lines that are put in their place.
+    /// The lines to insert in their place.
     new: String,
 }
 
@@ -45,7 +45,7 @@ fn read(alloc: Global, text: &str) -> Result<String> {
     }
 }
 
-/// The rule that a catalog's text breaks, and in words how.
+/// The rule that a catalog's text breaks, with a description.
 fn explained(alloc: Global, text: &str) -> Result<String> {
     let line = match explain(alloc, text.as_bytes())? {
         Some(found) => line_of(alloc, &found),
@@ -60,7 +60,7 @@ fn line_of(alloc: Global, found: &Explanation) -> Result<String, AllocError> {
 }
 
 impl Case {
-    /// A case with no line yet.
+    /// A case without lines.
     pub fn new(alloc: Global) -> Case {
         Case {
             head: String::new(alloc),
@@ -69,7 +69,7 @@ impl Case {
         }
     }
 
-    /// Takes in a line.
+    /// Adds a line.
     pub fn read(&mut self, line: &str) -> Result<(), AllocError> {
         if let Some(old) = line.strip_prefix("-") {
             push_line(&mut self.old, old)
@@ -92,7 +92,7 @@ impl Case {
         Ok(format!(in alloc; "{before}{new}{after}")?)
     }
 
-    /// The title, and what is asked of the edited catalog.
+    /// The title, and the answer for the edited catalog.
     pub fn answer(&self, alloc: Global) -> Result<String> {
         let Some((base, title)) = self.head.as_str().split_once(": ") else {
             return Err(anyhow!("a case begins with its base"));

@@ -1,9 +1,9 @@
-//! Reads catalogs, and prints what each says or why it is refused.
+//! Reads catalogs and prints what each says, or why it is refused.
 //!
-//! Standard input has cases, each ended by a blank line: a line `BASE: TITLE`, then an edit of the sample catalog
-//! BASE. A line `explain BASE: TITLE` asks in words how the edited catalog breaks a rule. Lines `-LINE`, one after the
-//! other, are what is taken out where they first stand in the sample, and lines `+LINE` are put in their place; with no
-//! line `-` they are put in front of the sample. The base `nothing` is empty.
+//! Standard input has cases, each ended by a blank line: a line `BASE: TITLE`, then an edit of the sample catalog BASE.
+//! A line `explain BASE: TITLE` asks for a description of how the edited catalog breaks a rule. Consecutive lines
+//! `-LINE` are removed where they first occur in the sample, and lines `+LINE` are inserted in their place; without
+//! lines `-` they are put in front of the sample. The base `nothing` is empty.
 #![tactic(auto)]
 
 mod case;

@@ -1,4 +1,4 @@
-//! The command line of the recovery tool that scripts rely on: the commands of cs_commands over the system's folders.
+//! The recovery tool for scripts: the commands of `cs_commands` over the system's folders.
 #![tactic(auto)]
 
 use cs_commands::{Folders, Stop, report, run};

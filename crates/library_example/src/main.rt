@@ -1,4 +1,4 @@
-//! Recovers two lost sites of the store in the folder `store` into a new folder `out`, by calls of the library alone.
+//! Recovers two lost sites of the store in the folder `store` into a new folder `out`, with calls of the library alone.
 #![tactic(auto)]
 
 use anyhow::{Result, anyhow};
@@ -8,10 +8,10 @@ use cs_rebuild::rebuild;
 use cs_schema::Loss;
 use cs_store::{load, save};
 
-/// How many threads a round may have.
+/// The maximum number of threads of a round.
 const WORKERS: u32 = 4;
 
-/// How many rows a task has.
+/// The number of rows of a task.
 const CUT: u32 = 65_536;
 
 fn main(rt: HostRuntime) -> Result<()> {

@@ -1,6 +1,6 @@
-//! pinepolo, the operator's program: checks column stores, and rebuilds what lost sites took from them.
+//! pinepolo, the operator's program: checks column stores and rebuilds what lost sites took from them.
 //!
-//! The verbs are pinepolo_run's; here they meet the system's words, folders and streams.
+//! `pinepolo_run` has the verbs; here they get the system's arguments, folders and streams.
 #![tactic(auto)]
 
 use pinepolo_args::parse;
@@ -11,7 +11,7 @@ use std::io::IsTerminal;
 use std::process::ExitCode;
 use std::{env, io, thread};
 
-/// How many processors are taken where the system does not say.
+/// The number of processors if the system does not say.
 const ONE_PROCESSOR: u32 = 1;
 
 fn main(rt: HostRuntime) -> ExitCode {

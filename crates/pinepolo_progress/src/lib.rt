@@ -1,7 +1,7 @@
-//! How far work has come: a gate that counts what it is told, and shows it on a terminal as one line.
+//! How far work has come: a gate that counts what it observes, and shows it on a terminal as one line.
 //!
-//! A gate changes no answer. Whoever begins a piece counts it, and writes the line where one is due and nobody else is
-//! writing; so nobody waits for anybody, and there is no thread that only shows.
+//! A gate changes no answer. Whoever begins a piece counts it, and writes the line if one is due and nobody else is
+//! writing. So nobody waits, and no thread exists only to show progress.
 #![tactic(auto)]
 
 mod line;

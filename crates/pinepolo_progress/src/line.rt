@@ -1,4 +1,4 @@
-//! The line.
+//! The progress line.
 use crate::progress::Progress;
 use crate::shown::Shown;
 use crate::stage::Stage;
@@ -13,44 +13,44 @@ use std::time::Clock;
 /// How long a verb works before it shows a line, in milliseconds.
 const PATIENCE: u64 = 300;
 
-/// How long a line stands at least, in milliseconds.
+/// The minimum time between two lines, in milliseconds.
 const PAUSE: u64 = 100;
 
-/// A terminal's commands to go to the line's begin and to erase it.
+/// Terminal control codes: carriage return, erase to the end of the line.
 const ERASED: &str = "\r\x1b[K";
 
 /// A gate that counts, and shows on a terminal how far work has come.
 ///
-/// Its words are changed in single steps by whoever begins a piece. A line that can't be written is left out.
+/// Whoever begins a piece changes its counters by single atomic steps. A line that cannot be written is skipped.
 #[derive(Drop)]
 pub struct ProgressLine<C, E> {
     clock: C,
     screen: E,
-    /// How many rows a piece of a walk has.
+    /// The number of rows of a piece of a walk.
     piece_rows: u64,
-    /// 1 where lines are shown.
+    /// 1 if lines are shown.
     shows: AtomicU64,
     /// The number of the stage.
     stage: AtomicU64,
-    /// The word of the loss that is tried, or 0.
+    /// The loss that is tried, as a word, or 0.
     tried: AtomicU64,
-    /// How many rounds were opened.
+    /// The number of rounds that were opened.
     rounds: AtomicU64,
-    /// How many pieces the round has, with those of rounds that were open when it began.
+    /// The number of pieces of the round, with those of rounds that were open when it began.
     pieces: AtomicU64,
-    /// How many of them were begun.
+    /// The number of pieces that have begun.
     begun: AtomicU64,
-    /// How many rows of a table were read.
+    /// The number of rows of a table that were read.
     read: AtomicU64,
-    /// The time from which on a line is due, in milliseconds of the clock.
+    /// The time at which the next line is due, in milliseconds of the clock.
     due: AtomicU64,
     /// 1 while somebody writes.
     writing: AtomicU64,
-    /// 1 where a line stands.
+    /// 1 if a line is on the screen.
     stands: AtomicU64,
 }
 
-/// A line in the place of the one that stands.
+/// Displays a line in place of the one on the screen.
 #[derive(Clone, Copy)]
 struct Line(Shown);
 
@@ -68,8 +68,8 @@ fn milliseconds<C: Clock>(clock: &C) -> Option<u64> {
 }
 
 impl<C: Clock, E> ProgressLine<C, E> {
-    /// A gate that was told of nothing. It shows lines only where its screen is a terminal. `piece_rows` is how many rows
-    /// a piece of a walk has.
+    /// A gate that has observed nothing. It shows lines only if its screen is a terminal. `piece_rows` is the number of
+    /// rows of a piece of a walk.
     pub fn new(clock: C, screen: E, is_terminal: bool, piece_rows: u64) -> Self {
         let due = match milliseconds(&clock) {
             Some(now) => now.saturating_add(PATIENCE),
@@ -94,13 +94,13 @@ impl<C: Clock, E> ProgressLine<C, E> {
 }
 
 impl<C, E> ProgressLine<C, E> {
-    /// Counts pieces anew.
+    /// Resets the counters of pieces.
     fn forget(&self) {
         self.pieces.store(0, Ordering::SeqCst);
         self.begun.store(0, Ordering::SeqCst);
     }
 
-    /// What it was told so far.
+    /// What it has observed so far.
     pub fn shown(&self) -> Shown {
         Shown {
             stage: Stage::of_number(self.stage.load(Ordering::SeqCst)),
@@ -115,7 +115,7 @@ impl<C, E> ProgressLine<C, E> {
 }
 
 impl<C: Clock, E: Print> ProgressLine<C, E> {
-    /// Whether a line is due, and then when the next one is.
+    /// Whether a line is due; if so, sets when the next one is.
     fn next_due(&self) -> Option<u64> {
         if self.shows.load(Ordering::SeqCst) == 0 {
             return None;
@@ -127,7 +127,7 @@ impl<C: Clock, E: Print> ProgressLine<C, E> {
         Some(now.saturating_add(PAUSE))
     }
 
-    /// Writes the line where one is due and nobody else writes.
+    /// Writes the line if one is due and nobody else is writing.
     fn show(&self) {
         let Some(next) = self.next_due() else {
             return;

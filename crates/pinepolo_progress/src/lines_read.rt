@@ -1,12 +1,12 @@
-//! A table that tells how far it has been read.
+//! A table that reports how far it has been read.
 ghost use Rattle.std.specs.Prelude.{◌≡◌};
 
 use crate::progress::Progress;
 use std::io;
 use std::io::Read;
 
-/// The text of a table, which tells a gate of its rows as they are read: of as many as lines end, though a cell may have line
-/// breaks too.
+/// A table's text that reports its rows to a gate as they are read. It counts the ends of lines, though a cell may
+/// contain some too.
 #[derive(Drop)]
 pub struct LinesRead<'a, I, G> {
     input: I,
@@ -22,7 +22,7 @@ impl<'a, I, G> LinesRead<'a, I, G> {
     }
 }
 
-/// How many lines end among some bytes.
+/// The number of line ends among some bytes.
 fn line_ends(bytes: &[u8]) -> u64 {
     bytes.iter().filter(|byte| **byte == b'\n').count() as u64
 }

@@ -1,22 +1,22 @@
-//! Gates that show what they are told.
+//! Gates that show what they observe.
 use crate::stage::Stage;
 use cs_board::{Gate, OpenGate};
 use cs_schema::Loss;
 
-/// A gate that may show how far a verb has come. It can change no answer.
+/// A gate that may show how far a verb has come. It cannot change any answer.
 pub trait Progress: Gate {
-    /// The verb is at this stage, which has no pieces.
+    /// The verb has reached this stage, which has no pieces.
     fn reached(&self, _stage: Stage) {}
 
-    /// So many more rows of a table were read.
+    /// This many more rows of a table were read.
     fn read_rows(&self, _more: u64) {}
-    /// What comes is done to find whether this loss explains a store.
+    /// From now on, work is done to find out whether this loss explains a store.
     fn tried(&self, _loss: Loss) {}
 
-    /// Nothing is to be shown from here on.
+    /// Nothing is shown from now on.
     fn silence(&self) {}
 
-    /// The verb has ended: what is shown is taken back.
+    /// The verb has ended: the line is erased.
     fn erase(&self) {}
 }
 

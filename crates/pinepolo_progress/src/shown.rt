@@ -4,22 +4,22 @@ use cs_board::Round;
 use cs_schema::Loss;
 use std::fmt;
 
-/// How far a verb has come, in words of one line.
+/// How far a verb has come. Its `Display` is one line.
 #[derive(Clone, Copy, Debug)]
 pub struct Shown {
-    /// What it is at.
+    /// The current stage.
     pub stage: Stage,
-    /// The loss that is tried, if one is.
+    /// The loss that is tried, if any.
     pub tried: Option<Loss>,
-    /// How many rounds were opened.
+    /// The number of rounds that were opened.
     pub rounds: u64,
-    /// How many pieces the round has, with those of rounds that were open when it began.
+    /// The number of pieces of the round, with those of rounds that were open when it began.
     pub pieces: u64,
-    /// How many of them were begun.
+    /// The number of pieces that have begun.
     pub begun: u64,
-    /// How many rows of a table were read.
+    /// The number of rows of a table that were read.
     pub read: u64,
-    /// How many rows a piece of a walk has, but for the last ones of segments, which have fewer.
+    /// The number of rows of a piece of a walk. The last piece of a segment may have fewer.
     pub piece_rows: u64,
 }
 

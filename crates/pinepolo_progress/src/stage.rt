@@ -1,18 +1,18 @@
-//! What a verb is at.
+//! The stages of a verb.
 ghost use Rattle.std.specs.Prelude.{◌≡◌, ◌<◌};
 ghost use Rattle.pinepolo_progress.specs.Numbers.{number_of};
 
 use cs_board::Round;
 use std::fmt;
 
-/// What a verb is at.
+/// The stages of a verb.
 #[derive(Clone, Copy, Debug, PartialEq, Eq)]
 pub enum Stage {
     /// Files are read.
     Reading,
     /// A table is read.
     Table,
-    /// Files are looked at, each by itself.
+    /// Files are inspected, each by itself.
     Inspecting,
     /// A round of pieces is done.
     Round(Round),
@@ -21,7 +21,7 @@ pub enum Stage {
 }
 
 impl Stage {
-    /// The number that stands for it in a word that threads share.
+    /// The stage as a number, which threads share in a word.
     pub fn number(self) -> u64
         ensures { result ≡ number_of self }
     {
@@ -38,7 +38,7 @@ impl Stage {
         }
     }
 
-    /// What a number below 9 stands for.
+    /// The stage with a number below 9.
     pub fn of_number(number: u64) -> Stage
         ensures { number < 9 → number_of result ≡ number }
     {

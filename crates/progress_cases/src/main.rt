@@ -1,4 +1,4 @@
-//! Shows how the line of a gate moves, by a clock that is 60 milliseconds on at each look.
+//! Shows how the progress line moves, by a clock that advances 60 milliseconds each time it is read.
 #![tactic(auto)]
 
 use anyhow::Result;
@@ -8,10 +8,10 @@ use std::io;
 use std::sync::atomic::{AtomicU64, Ordering};
 use std::time::{Clock, Duration};
 
-/// How far each look is from the one before, in milliseconds.
+/// How far the clock advances each time, in milliseconds.
 const STEP: u64 = 60;
 
-/// A clock that is some steps on at each look.
+/// A clock that advances each time it is read.
 #[derive(Drop)]
 struct Ticks {
     now: AtomicU64,
@@ -35,8 +35,8 @@ fn gate<P: Print>(stream: P, is_terminal: bool) -> ProgressLine<Ticks, P> {
     ProgressLine::new(clock, stream, is_terminal, 65_536)
 }
 
-/// Tells a gate of a table that is read, of a walk in four pieces, of two rounds of columns that are open beside one of images,
-/// and of what is written.
+/// Reports to a gate: a table that is read, a walk in four pieces, two rounds of columns that are open beside one of
+/// images, and files that are written.
 fn tell<G: Progress>(gate: &G) {
     gate.reached(Stage::Table);
     for _ in 0..4 {

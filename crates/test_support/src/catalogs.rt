@@ -1,16 +1,16 @@
-//! Catalogs, and changed texts of those in `cs_schema::samples`.
+//! Catalogs, and edited texts of those in `cs_schema::samples`.
 use std::alloc::{AllocError, Global};
 
-/// A text, and what stands in its place, where it stands first.
+/// A text, and what replaces its first occurrence.
 pub type Edit<'a> = (&'a str, &'a str);
 
-/// The catalog as it stands.
+/// No edit.
 pub const AS_IT_IS: &[Edit] = &[];
 
-/// The catalog for safety by rows.
+/// The edit that makes a catalog safe by rows.
 pub const BY_ROWS: &[Edit] = &[SAFE_BY_ROWS];
 
-/// What makes a catalog one for safety by rows.
+/// Makes a catalog safe by rows.
 pub const SAFE_BY_ROWS: Edit = ("version = 1\n", "version = 2\nsafety = \"rows\"\n");
 
 /// One projection of one column of ints, plain.
@@ -29,7 +29,7 @@ sites = [1]
 joins = []
 "#;
 
-/// One projection whose columns have each of the four codes.
+/// One projection whose columns have each of the four encodings.
 pub const FOUR_CODES: &str = r#"version = 1
 table = "t"
 key = "a"
@@ -48,7 +48,8 @@ sites = [1]
 joins = []
 "#;
 
-/// The text with these edits, one after the other. If one of them finds nothing, the text is empty, which is no catalog.
+/// The text with these edits, one after the other. If one of them finds nothing, the text is empty, which is not a
+/// catalog.
 pub fn edited(alloc: Global, text: &str, edits: &[Edit]) -> Result<String, AllocError> {
     let mut whole = String::from_str(alloc, text)?;
     for (old, new) in edits {

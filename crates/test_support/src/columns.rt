@@ -1,8 +1,8 @@
-//! Columns of cells that stand in a test.
+//! Columns of cells, written down in tests.
 use cs_schema::{Cells, Code, Texts, Word};
 use std::alloc::{AllocError, Global};
 
-/// The cells of a column of a segment.
+/// The cells of a segment's column.
 #[derive(Clone, Copy)]
 pub enum Column<'a> {
     Ints(&'a [i64]),
@@ -10,7 +10,7 @@ pub enum Column<'a> {
 }
 
 impl Column<'_> {
-    /// The number of its cells.
+    /// The number of cells.
     pub fn len(&self) -> usize {
         match self {
             Column::Ints(ints) => ints.len(),
@@ -18,7 +18,7 @@ impl Column<'_> {
         }
     }
 
-    /// Whether one cell stands at both places.
+    /// Whether the cells at two indices are equal.
     fn same(&self, one: usize, other: usize) -> bool {
         match self {
             Column::Ints(ints) => ints.get(one) == ints.get(other),
@@ -26,7 +26,7 @@ impl Column<'_> {
         }
     }
 
-    /// How a segment's file names the kind of its cells.
+    /// The number of the cells' kind in a segment's file.
     fn kind(&self) -> u8 {
         match self {
             Column::Ints(_) => 1,
@@ -34,7 +34,7 @@ impl Column<'_> {
         }
     }
 
-    /// Appends the cell at this place, if there is one.
+    /// Appends the cell at an index, if there is one.
     fn push_cell(&self, out: &mut Vec<u8>, at: usize) -> Result<(), AllocError> {
         match self {
             Column::Ints(ints) => push_int(out, ints.get(at)),
@@ -42,7 +42,7 @@ impl Column<'_> {
         }
     }
 
-    /// The column as the product holds it. A text that is too long is left out.
+    /// The column in the library's form. A text that is too long is left out.
     pub fn cells(&self, alloc: Global) -> Result<Cells, AllocError> {
         match self {
             Column::Ints(ints) => Ok(Cells::Ints(Vec::from_slice(alloc, ints)?)),
@@ -51,7 +51,7 @@ impl Column<'_> {
     }
 }
 
-/// The columns as the product holds them.
+/// The columns in the library's form.
 pub fn cells_of(alloc: Global, columns: &[Column]) -> Result<Vec<Cells>, AllocError> {
     let mut out = Vec::new(alloc);
     for column in columns {
@@ -93,7 +93,7 @@ pub fn push_number(out: &mut Vec<u8>, number: usize) -> Result<(), AllocError> {
     out.extend_from_slice(&number.to_be_bytes())
 }
 
-/// Appends columns, each in its code, as they stand in a segment's file. A column without a code is left out.
+/// Appends columns, each in its encoding, as a segment's file has them. A column without an encoding is left out.
 pub fn push_columns(
     out: &mut Vec<u8>,
     alloc: Global,
@@ -109,7 +109,7 @@ pub fn push_columns(
     Ok(())
 }
 
-/// The text of a column, in each code but that of bitmaps, of which it is empty.
+/// The text of a column in each encoding except bitmaps, for which it is empty.
 fn text_of(alloc: Global, code: Code, column: Column) -> Result<Vec<u8>, AllocError> {
     let mut out = Vec::new(alloc);
     match (code, column) {
@@ -121,7 +121,7 @@ fn text_of(alloc: Global, code: Code, column: Column) -> Result<Vec<u8>, AllocEr
     Ok(out)
 }
 
-/// The text of a column that changes seldom.
+/// The run-length text of a column.
 fn push_runs(out: &mut Vec<u8>, column: Column) -> Result<(), AllocError> {
     let rows = column.len();
     let mut start = 0usize;
@@ -136,7 +136,7 @@ fn push_runs(out: &mut Vec<u8>, column: Column) -> Result<(), AllocError> {
     Ok(())
 }
 
-/// Groups of seven bits, the low one first.
+/// Groups of seven bits, least significant first.
 fn push_groups(out: &mut Vec<u8>, number: u64) -> Result<(), AllocError> {
     let mut left = number;
     for _ in 0..9 {
@@ -149,7 +149,7 @@ fn push_groups(out: &mut Vec<u8>, number: u64) -> Result<(), AllocError> {
     Ok(out.push((left % 128) as u8)?)
 }
 
-/// The text of a column of ints that never fall.
+/// The delta text of a column of ascending ints.
 fn push_differences(out: &mut Vec<u8>, ints: &[i64]) -> Result<(), AllocError> {
     let mut last = 0i64;
     for (at, int) in ints.iter().enumerate() {

@@ -1,9 +1,9 @@
-//! Copies of sets of files.
+//! Copies of file sets.
 use cs_schema::FileName;
 use cs_store::FileSet;
 use std::alloc::{AllocError, Global};
 
-/// Puts copies of other files among these.
+/// Adds copies of other files to these.
 pub fn put_all(alloc: Global, files: &mut FileSet, others: &FileSet) -> Result<(), AllocError> {
     for i in 0..others.len() {
         let (name, bytes) = others.at(i);
@@ -31,7 +31,7 @@ pub fn without(alloc: Global, files: &FileSet, name: FileName) -> Result<FileSet
     Ok(copy)
 }
 
-/// Whether these files stand among others, byte for byte.
+/// Whether these files are among others, byte for byte.
 pub fn are_among(files: &FileSet, others: &FileSet) -> bool {
     for i in 0..files.len() {
         let (name, bytes) = files.at(i);

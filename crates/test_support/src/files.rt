@@ -1,10 +1,11 @@
-//! Files of a store, written by hand. What fits no number of a file becomes the largest number: so the file is damaged.
+//! Files of a store, written by hand. A number that does not fit its field becomes the largest one, so that the file is
+//! damaged.
 use crate::columns::{Column, push_columns, push_number};
 use cs_schema::Code;
 use cs_segment::seal::seal;
 use std::alloc::{AllocError, Global};
 
-/// What a delta's file says.
+/// The contents of a delta's file.
 #[derive(Clone, Copy)]
 pub struct Delta<'a> {
     /// 1, or 2 for layers.
@@ -12,7 +13,7 @@ pub struct Delta<'a> {
     pub rows: u32,
     /// The highest key.
     pub top: u32,
-    /// All that stands after the highest key: the number of items, or of layers, and these.
+    /// Everything after the highest key: the number of items or layers, and these.
     pub items: &'a [u8],
 }
 
@@ -24,7 +25,7 @@ pub fn rows_of(columns: &[Column]) -> usize {
     }
 }
 
-/// A file that begins with this mark and these numbers of two bytes.
+/// The beginning of a file: this mark and these numbers of two bytes.
 fn begun(alloc: Global, mark: &[u8], numbers: &[u16]) -> Result<Vec<u8>, AllocError> {
     let mut out = mark.to_vec(alloc)?;
     for number in numbers {
@@ -33,7 +34,7 @@ fn begun(alloc: Global, mark: &[u8], numbers: &[u16]) -> Result<Vec<u8>, AllocEr
     Ok(out)
 }
 
-/// The file of a segment whose columns have these codes.
+/// The file of a segment whose columns have these encodings.
 pub fn segment_file(
     alloc: Global,
     codes: &[Code],
@@ -65,7 +66,7 @@ pub fn delta_file(alloc: Global, p: u16, s: u16, delta: Delta) -> Result<Vec<u8>
     Ok(out)
 }
 
-/// The file of a delta of so many rows that deletes some of them.
+/// The file of a delta that deletes some rows of a segment with this many.
 pub fn deleting_file(
     alloc: Global,
     p: u16,
@@ -107,7 +108,7 @@ pub fn join_file(
     Ok(out)
 }
 
-/// What stands before a file's digest, and the digest.
+/// The bytes followed by their digest.
 pub fn sealed(alloc: Global, body: &[u8]) -> Result<Vec<u8>, AllocError> {
     let mut bytes = body.to_vec(alloc)?;
     seal(&mut bytes)?;

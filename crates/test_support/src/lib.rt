@@ -1,5 +1,5 @@
-//! What the tests of several crates need: files of stores, written here by hand with no encoder of the product, and changes
-//! of catalogs, of files and of sets of files.
+//! What the tests of several crates need: files of stores, written by hand without the library's encoders, and edits of
+//! catalogs, files and file sets.
 #![tactic(auto)]
 
 pub mod catalogs;

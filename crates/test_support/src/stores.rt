@@ -13,7 +13,7 @@ pub struct Parts<'a> {
     pub joins: &'a [(u16, u16, u16, &'a [(u16, u32)])],
 }
 
-/// The codes of a projection's columns: none of a projection that the catalog doesn't have.
+/// The encodings of a projection's columns; none if the catalog does not have it.
 fn codes_of(catalog: &Catalog, p: u16) -> &[Code] {
     match catalog.projections.get(p as usize) {
         Some(projection) => projection.codes.as_slice(),
@@ -21,7 +21,7 @@ fn codes_of(catalog: &Catalog, p: u16) -> &[Code] {
     }
 }
 
-/// Puts a segment whose columns are written in the catalog's codes, and a delta without items.
+/// Puts a segment whose columns are in the catalog's encodings, and a delta without items.
 pub fn put_segment(
     alloc: Global,
     files: &mut FileSet,
