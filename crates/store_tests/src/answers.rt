@@ -1,4 +1,5 @@
-//! What a store answers, asked with few and many workers, and with small and large cuts, and in what order its rounds open.
+//! What a store answers to calls with few and many workers and small and large cuts, and the order in which its rounds
+//! open.
 use crate::rounds::Opened;
 use crate::stores::Store;
 use cs_rebuild::{check, check_gated, rebuild, rebuild_gated};
@@ -12,10 +13,10 @@ use std::thread::Threads;
 use test_support::files::sealed;
 use test_support::stores::loss_of;
 
-/// A file: its name, its length, and what stands before its digest, in hexadecimal digits.
+/// A file: its name, its length, and the bytes before its digest in hexadecimal.
 pub type Written = (FileName, usize, &'static str);
 
-/// Why a store is refused: a `Fault` that holds no `Loss`, since no constant can lend one.
+/// Why a store is refused: a `Fault` without a `Loss`, since no constant can lend one.
 #[derive(Clone, Copy)]
 pub enum Refusal<'a> {
     Site,
@@ -46,20 +47,20 @@ impl Refusal<'_> {
     }
 }
 
-/// What a rebuild or a check is asked, and answers.
+/// A call of `rebuild` or `check`, and its answer.
 #[derive(Drop)]
 pub enum Ask<'a> {
-    /// The loss of these sites costs just these files.
+    /// The loss of these sites costs exactly these files.
     Files(&'a [u8], &'a [Written]),
-    /// The loss of these sites costs just these files, which come back as they stand in the store.
+    /// The loss of these sites costs exactly these files, which are rebuilt to the bytes that they have in the store.
     Restored(&'a [u8], &'a [FileName]),
     /// A rebuild after the loss of these sites is refused.
     Refused(&'a [u8], Refusal<'a>),
-    /// A check for so many lost sites.
+    /// A check for this many lost sites.
     Checked(u8, Result<u64, Refusal<'a>>),
 }
 
-/// Asks a store, and asks for the answers.
+/// Calls a store and expects the answers.
 pub fn expect(rt: &(impl Threads + Sync + Abort), store: &Store, asks: &[Ask]) -> Result<(), Fail> {
     for ask in asks {
         match ask {
@@ -101,8 +102,8 @@ fn expect_rebuilt(
     Ok(())
 }
 
-/// Asks that the rounds of a rebuild open one after the other: files, walk, images and joins once, and then those of columns, if
-/// anything is lost. One that is refused may end after any of them.
+/// Expects that the rounds of a rebuild open in order: Files, Walk, Images and Joins once each, then those of Columns,
+/// if anything is lost. If it is refused, it may end after any of them.
 fn expect_rounds(rt: &(impl Threads + Sync + Abort), store: &Store, sites: &[u8]) {
     let gate = Opened::none();
     let out = rebuild_gated(
@@ -123,7 +124,7 @@ fn expect_rounds(rt: &(impl Threads + Sync + Abort), store: &Store, sites: &[u8]
     }
 }
 
-/// Asks that the rounds of a check open one after the other, files, walk, images and joins, each once.
+/// Expects that the rounds of a check open in order: Files, Walk, Images and Joins, once each.
 fn expect_rounds_of_check(rt: &(impl Threads + Sync + Abort), store: &Store, k: u8) {
     let gate = Opened::none();
     let rows = check_gated(
@@ -171,7 +172,7 @@ fn expect_refused(rt: &impl Abort, fault: Fault, wanted: &Ask) -> Result<(), Fai
     Ok(())
 }
 
-/// The bytes that hexadecimal digits stand for. What else stands there is for reading only.
+/// The bytes of hexadecimal digits. Other characters are only for readers.
 fn bytes_of(alloc: Global, digits: &str) -> Result<Vec<u8>, Fail> {
     let mut out = Vec::new(alloc);
     let mut high = None;
@@ -192,13 +193,13 @@ fn bytes_of(alloc: Global, digits: &str) -> Result<Vec<u8>, Fail> {
     Ok(out)
 }
 
-/// The file of which these digits say what stands before its digest.
+/// The file whose bytes before the digest these digits are.
 fn file_of(alloc: Global, digits: &str) -> Result<Vec<u8>, Fail> {
     let body = bytes_of(alloc, digits)?;
     Ok(sealed(alloc, body.as_slice())?)
 }
 
-/// Asks that these are just these files.
+/// Expects exactly these files.
 pub fn expect_written(
     rt: &impl Abort,
     alloc: Global,
@@ -214,7 +215,7 @@ pub fn expect_written(
     Ok(())
 }
 
-/// Asks that these are just the files of these names, as they stand in the store.
+/// Expects exactly the files of these names, with the bytes that they have in the store.
 fn expect_restored(
     rt: &impl Abort,
     store: &Store,

@@ -16,7 +16,8 @@ use test_support::columns::{Column, cells_of};
 use test_support::samples::{CITY_PARTS, ORDER_PARTS};
 use test_support::stores::{Parts, loss_of};
 
-/// A store without changes, its rows in columns in some order and by primary key, and losses with how many files they cost.
+/// A store without changes, its rows in some order and by primary key, and losses with the number of files that they
+/// cost.
 #[derive(Drop)]
 struct Case<'a> {
     text: &'a str,
@@ -50,7 +51,7 @@ const IN_THREE_ORDERS: Case = Case {
     losses: &[(&[], 0), (&[1], 2), (&[2, 3], 4), (&[4, 6], 4)],
 };
 
-/// Whether these are the cells of a column.
+/// Whether the cells are those of a column.
 fn are_cells_of(cells: &Cells, column: Column) -> bool {
     match (cells, column) {
         (Cells::Ints(found), Column::Ints(ints)) => found.as_slice() == ints,
@@ -71,7 +72,7 @@ fn are_texts(found: &Texts, texts: &[&str]) -> bool {
     true
 }
 
-/// How a store is built, and its table handed out.
+/// How a store is built and its table handed out.
 fn run_of<R: Threads + Sync>(rt: &R, alloc: Global, cut: u32) -> Run<'_, R, OpenGate>
     requires { (1 ≤ cut) × (cut ≤ 1048576) }
 {
@@ -100,7 +101,7 @@ fn built<R: Threads + Sync>(
     Ok(build(&run, &store.catalog, rows.as_slice()))
 }
 
-/// Asks that each file stands among others with the same bytes.
+/// Expects that each file is among others with the same bytes.
 fn expect_among(rt: &impl Abort, files: &FileSet, others: &FileSet) {
     for i in 0..files.len() {
         let (name, bytes) = files.at(i);
@@ -108,7 +109,7 @@ fn expect_among(rt: &impl Abort, files: &FileSet, others: &FileSet) {
     }
 }
 
-/// Asks that the table of these files is handed out after a loss, by primary key.
+/// Expects that the table of these files is handed out after a loss, by primary key.
 fn expect_table<R: Threads + Sync + Abort>(
     rt: &R,
     store: &Store,
@@ -127,7 +128,7 @@ fn expect_table<R: Threads + Sync + Abort>(
     Ok(())
 }
 
-/// Asks that a loss costs so many of these files, which come back.
+/// Expects that a loss costs this many of these files, which are rebuilt.
 fn expect_rebuilt(
     rt: &(impl Threads + Sync + Abort),
     store: &Store,
@@ -143,7 +144,7 @@ fn expect_rebuilt(
     Ok(())
 }
 
-/// Asks that a store is built of rows, and of what is lost of it each file comes back, and the table whatever is lost.
+/// Expects that a store is built of rows, and that after each loss its files are rebuilt and its table is handed out.
 fn expect_built(
     rt: &(impl Threads + Sync + Abort),
     store: &Store,
@@ -174,7 +175,7 @@ fn expect_losses(
     Ok(())
 }
 
-/// Asks it by a rule of safety, of stores that are cut small and large.
+/// Expects it under a rule of safety, with small and large cuts.
 fn expect_case(
     rt: &(impl Threads + Sync + AllocGlobal + Abort),
     case: &Case,

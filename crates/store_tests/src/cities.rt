@@ -1,4 +1,4 @@
-//! Two projections on three sites, one of texts and cut in two, with a join each way.
+//! Two projections on three sites, one of texts and in two segments, with a join each way.
 use crate::answers::{Ask, Refusal, Written};
 use crate::plays::{Play, Step, expect_plays};
 use cs_schema::FileName;
@@ -29,10 +29,10 @@ const LA: &str = "4353534547303031 0001 0000 00000002 0002
     01 02 0000000b 02 6c61 00000001 00000002
     04 01 00000010 0000000000000005 0000000000000003";
 
-/// No changes of two rows.
+/// The delta without items for two rows.
 const UNCHANGED: &str = "435344454c303031 0001 0000 00000002 00000002 00000000";
 
-/// The files that the loss of the second site costs, the last three as they stand in both stores below.
+/// The files that the loss of the second site costs. The last three are those of both stores below.
 const LOST: [Written; 4] = [
     (
         JOIN,
@@ -66,7 +66,7 @@ const LOST_WITH_A_DEAD_KEY: [Written; 4] = [
 ];
 
 /// The rows (1, "ny", 7), (3, "la", 5), (4, "la", 3). The second row of the first projection is deleted; its keys into
-/// the lost segment are others than those that come.
+/// the lost segment differ from the new ones.
 const WITH_A_DEAD_KEY: Parts = Parts {
     segments: &[
         (

@@ -1,6 +1,6 @@
-//! Gates that hold workers until so many are at work at once, also where rows are walked along joins and joins are verified,
-//! and count the pieces. A lost segment's columns are encoded one after the other: so where a column has fewer pieces than there
-//! are workers, the rounds before these alone are held.
+//! Gates that hold workers until enough are at work at once, also while rows are walked along joins and joins are
+//! verified, and count the pieces. The columns of a lost segment are encoded one after the other, so if a column has
+//! fewer pieces than there are workers, only the rounds before are held.
 ghost use Rattle.std.specs.Prelude.{◌≤◌};
 
 use crate::answers::{Written, expect_written};
@@ -18,17 +18,17 @@ use test_support::catalogs::{AS_IT_IS, BY_ROWS, Edit};
 use test_support::samples::{JOINED_PARTS, ORDER_PARTS};
 use test_support::stores::{Parts, loss_of};
 
-/// How long a piece is held at most.
+/// How long a piece is held at most, in turns of a loop.
 const TURNS: u64 = 1_000_000_000;
 
-/// Holds the first pieces of a round until one more is begun: so as many workers are at work at once.
+/// Holds the first pieces of a round until one more has begun, so that as many workers are at work at once.
 #[derive(Drop)]
 struct Crowd {
-    /// How many rounds are held.
+    /// The number of rounds that are held.
     held: u64,
-    /// The last piece that is waited for.
+    /// The last piece to wait for.
     last: u32,
-    /// How often each of the first pieces was begun, by its number.
+    /// How often each of the first pieces has begun, by its number.
     begun: [AtomicU64; 4],
     entered: AtomicU64,
     gave_up: AtomicU64,
@@ -50,7 +50,7 @@ impl Crowd {
         }
     }
 
-    /// Waits until the last piece was begun more often than this.
+    /// Waits until the last piece has begun more often than this.
     fn wait(&self, before: u64) {
         let Some(last) = self.begun.get(self.last as usize) else {
             return;
@@ -106,20 +106,19 @@ const THREE_ORDERS: Lost = Lost {
 /// More rounds than there are.
 const ALL: u64 = 100;
 
-/// The rounds of files and of the walk.
+/// The rounds Files and Walk.
 const FIRST: u64 = 2;
 
 const NONE: u64 = 0;
 
-/// Edits of the catalog, how many workers there are, how many rows a piece of work has, how many rounds are held, and in how
-/// many pieces the store is rebuilt.
+/// Edits of the catalog, the numbers of workers, of rows of a piece, of rounds that are held, and of pieces of the
+/// rebuild.
 type Rebuild<'a> = (&'a [Edit<'a>], u32, u32, u64, u64);
 
-/// Edits of the catalog, for how many lost sites the store is checked, how many workers there are, how many rows a piece of
-/// work has, and in how many pieces the store is checked.
+/// Edits of the catalog, the numbers of lost sites, of workers, of rows of a piece, and of pieces of the check.
 type Check<'a> = (&'a [Edit<'a>], u8, u32, u32, u64);
 
-// The pieces are those of the files, the walk, the images, the joins, and the columns that are written.
+// The pieces are those of the files, the walk, the images, the joins, and the written columns.
 const TWO_REBUILD_JOINED: [Rebuild; 2] = [
     (AS_IT_IS, 2, 1, ALL, 2 + 2 + 2 + 2 + 6),
     (BY_ROWS, 2, 1, ALL, 2 + 4 + 2 + 2 + 6),
@@ -152,7 +151,7 @@ const FOUR_CHECK_THREE_ORDERS: [Check; 2] = [
     (BY_ROWS, 1, 4, 1, 6 + 12 + 6),
 ];
 
-// The walk has four rows, and each column that is written two.
+// The walk has four rows, and each written column two.
 const CUT_REBUILDS: [Rebuild; 4] = [
     (AS_IT_IS, 1, 1, NONE, 4 + 4 + 4 + 8),
     (AS_IT_IS, 1, 2, NONE, 4 + 2 + 4 + 4),
@@ -167,7 +166,7 @@ const CUT_CHECKS: [Check; 4] = [
     (AS_IT_IS, 2, 1, 4, 6 + 1 + 6),
 ];
 
-/// How many workers there are, and how many rows a piece of work has.
+/// The numbers of workers and of rows of a piece.
 #[derive(Drop)]
 struct Work {
     workers: u32,
@@ -181,7 +180,7 @@ fn work_of(rt: &impl Abort, workers: u32, cut: u32) -> Work {
     Work { workers, cut }
 }
 
-/// Asks that so many workers rebuild the store at once in each round that is held, in so many pieces.
+/// Expects that this many workers rebuild the store at once in each round that is held, in this many pieces.
 fn expect_rebuilds(
     rt: &(impl Threads + Sync + AllocGlobal + Abort),
     lost: &Lost,
@@ -203,7 +202,7 @@ fn expect_rebuild(
     expect_rebuilt(rt, &store, lost, &work, *held, *pieces)
 }
 
-/// Asks that so many workers check the store at once in each round, in so many pieces.
+/// Expects that this many workers check the store at once in each round, in this many pieces.
 fn expect_checks(
     rt: &(impl Threads + Sync + AllocGlobal + Abort),
     lost: &Lost,
@@ -266,7 +265,7 @@ fn expect_checked(
     assert_eq!(rt; answer, Ok(rows));
 }
 
-/// Asks that so many pieces were entered, and none held in vain.
+/// Expects that this many pieces began, and none was held in vain.
 fn expect_entered(rt: &impl Abort, gate: &Crowd, pieces: u64) {
     let entered = gate.entered.load(Ordering::SeqCst);
     let gave_up = gate.gave_up.load(Ordering::SeqCst);

@@ -1,4 +1,4 @@
-//! Of two damaged files the lesser is named, by each number of workers and each cut.
+//! Of two damaged files the first by name is answered, with any number of workers and any cut.
 use crate::answers::{Ask, Refusal, expect};
 use crate::stores::Store;
 use cs_schema::FileName;
@@ -21,7 +21,7 @@ const SURVIVING: [FileName; 8] = [
     FileName::Del { p: 2, s: 1 },
 ];
 
-/// Damages two files for a while.
+/// Damages two files for one call.
 fn expect_lesser(
     rt: &(impl Threads + Sync + Abort),
     store: &mut Store,

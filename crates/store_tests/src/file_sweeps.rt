@@ -1,5 +1,5 @@
-//! The file of a join index, cut short or with a byte changed, is damaged. With a byte changed and sealed again it is
-//! damaged, or the file of what is read of it. The files of segments and of deltas are tried so beside their readers.
+//! The file of a join index that is cut short or has a changed byte is damaged. With a changed byte and a new digest it
+//! is damaged, or the file of what is read from it. Segments and deltas are tried likewise beside their readers.
 ghost use Rattle.std.specs.Prelude.{◌≤◌, length};
 
 use cs_jix::{JoinIndex, read_jix};
@@ -16,7 +16,7 @@ fn is_damaged(alloc: Global, bytes: &[u8]) -> bool {
     read_jix(alloc, 0, 0, 1, bytes).err() == Some(FileFault::Damaged)
 }
 
-/// The file of a join index, by its layout.
+/// The file of a join index by its layout.
 fn written(alloc: Global, join: &JoinIndex) -> Result<Vec<u8>, Fail> {
     let mut entries = Vec::new(alloc);
     for i in 0..join.top() {
@@ -25,7 +25,7 @@ fn written(alloc: Global, join: &JoinIndex) -> Result<Vec<u8>, Fail> {
     Ok(join_file(alloc, 0, 0, 1, entries.as_slice())?)
 }
 
-/// Whether the bytes are the file of what is read of them.
+/// Whether the bytes are the file of what is read from them.
 fn are_written(alloc: Global, bytes: &[u8]) -> Result<bool, Fail> {
     match read_jix(alloc, 0, 0, 1, bytes) {
         Ok(join) => Ok(written(alloc, &join)?.as_slice() == bytes),
@@ -33,7 +33,7 @@ fn are_written(alloc: Global, bytes: &[u8]) -> Result<bool, Fail> {
     }
 }
 
-/// Whether a file is damaged where it is cut short at a byte, and where that byte is changed.
+/// Whether a file is damaged if it is cut short at a byte, and if that byte is changed.
 fn is_guarded(alloc: Global, bytes: &[u8], at: usize) -> Result<bool, Fail>
     requires { at ≤ length bytes.now }
 {
@@ -41,7 +41,7 @@ fn is_guarded(alloc: Global, bytes: &[u8], at: usize) -> Result<bool, Fail>
     Ok(is_damaged(alloc, &bytes[..at]) && is_damaged(alloc, &changed))
 }
 
-/// Whether the file with a changed byte and a digest of its own is damaged, or one text.
+/// Whether the file with a changed byte and a new digest is damaged or a canonical file.
 fn is_damaged_or_written(alloc: Global, at: usize) -> Result<bool, Fail> {
     let body = changed(alloc, ENTRIES, at)?;
     let bytes = sealed(alloc, body.as_slice())?;
@@ -64,10 +64,10 @@ fn each_byte_of_a_join_index_is_guarded(rt: HostRuntime) -> Result<(), Fail> {
     Ok(())
 }
 
-/// What stands before the second entry.
+/// The bytes before the second entry.
 const BEFORE_SECOND: &[u8; 24] = b"CSJIX001\0\0\0\0\0\x01\0\0\0\x03\0\x01\0\0\0\x01";
 
-/// And after it.
+/// The bytes after it.
 const AFTER_SECOND: &[u8; 6] = b"\0\0\0\0\0\x02";
 
 /// The file with another second entry.
@@ -79,7 +79,7 @@ fn with_second_entry(alloc: Global, segment: u16, key: u32) -> Result<Vec<u8>, F
     Ok(sealed(alloc, body.as_slice())?)
 }
 
-/// How many entries there are, the second and the third.
+/// The number of entries, the second and the third.
 fn read_with_second_entry(
     alloc: Global,
     segment: u16,

@@ -7,7 +7,7 @@ use std::alloc::Global;
 use std::test::Fail;
 use test_support::columns::Column;
 
-/// One column in two projections, the first cut where the second is full.
+/// One column in two projections. The first is cut at the point at which the second is full.
 const CUT_WHERE_FULL: &str = r#"version = 1
 table = "t"
 key = "id"
@@ -31,10 +31,10 @@ sites = [2]
 joins = []
 "#;
 
-/// The most rows of a range.
+/// The maximum number of rows of a range.
 const MOST: u32 = 1_048_576;
 
-/// Puts a segment of the first projection with so many ints, each 1 more than the one before it.
+/// Puts a segment of the first projection with this many consecutive ints.
 fn put_rising(store: &mut Store, s: u16, first: i64, rows: u32) -> Result<(), Fail> {
     let mut ints = Vec::new(store.alloc);
     for row in 0..rows {
@@ -43,7 +43,7 @@ fn put_rising(store: &mut Store, s: u16, first: i64, rows: u32) -> Result<(), Fa
     store.put_segment(0, s, &[Column::Ints(&ints)])
 }
 
-/// The first segment has as many rows as fit into a range, and the second one more.
+/// The first segment has as many rows as fit into a range, the second one more.
 fn with_one_too_many(alloc: Global) -> Result<Store, Fail> {
     let mut store = Store::of(alloc, CUT_WHERE_FULL)?;
     put_rising(&mut store, 0, 0, MOST)?;

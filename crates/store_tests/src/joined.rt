@@ -1,4 +1,4 @@
-//! Two projections that hold the table between them, along joins, and a third that holds it alone.
+//! Two projections that hold the table together, along joins, and a third that holds it alone.
 use crate::answers::{Ask, Refusal, Written};
 use crate::plays::{Play, Step, expect_plays};
 use cs_schema::FileName;
@@ -7,7 +7,7 @@ use std::test::Fail;
 use test_support::catalogs::{AS_IT_IS, BY_ROWS};
 use test_support::samples::JOINED_PARTS;
 
-/// The rows (2, 6, 8), (1, 5, 9), and no changes of two rows.
+/// The rows (2, 6, 8), (1, 5, 9), and the delta without items for two rows.
 pub const LOST: [Written; 2] = [
     (
         FileName::Seg { p: 2, s: 0 },
@@ -28,7 +28,7 @@ const TO_SECOND: [(u16, u32); 2] = [(0, 3), (0, 2)];
 
 const TO_FIRST: [(u16, u32); 3] = [(0, 0), (0, 2), (0, 1)];
 
-/// What the first site has, and the join index that leads there.
+/// The files of the first site, and the join index that leads there.
 const FIRST_FILES: [FileName; 4] = [
     FileName::Seg { p: 0, s: 0 },
     FileName::Del { p: 0, s: 0 },
@@ -64,7 +64,7 @@ const MISPLACED: Refusal = Refusal::Misplaced { p: 2, s: 0 };
 
 const MISLED: Refusal = Refusal::Misled { p: 1, s: 0, q: 0 };
 
-/// Join indexes to the second projection, each in the place of the one before it, and what they come to.
+/// Join indexes to the second projection, each in place of the one before, and their answers.
 const ASTRAY_TO_SECOND: [Step; 6] = [
     Step::Join(0, 0, 1, &[(0, 3), (0, 1)]),
     Step::Asked(&[
@@ -97,13 +97,13 @@ const BACK_ALL_ASTRAY: Step = Step::Asked(&[
     Ask::Refused(&[3], BACK_ASTRAY),
 ]);
 
-/// Leads two rows to each other's.
+/// Leads two rows to each other's row.
 const CROSSED: Step = Step::Join(1, 0, 0, &[(0, 0), (0, 1), (0, 2)]);
 
-/// Leads a row to none.
+/// Leads a row to no row.
 const BEYOND: Step = Step::Join(1, 0, 0, &[(0, 0), (0, 3), (0, 1)]);
 
-// The rows of an anchor don't follow the join back, but by rows each row is walked.
+// The rows of an anchor do not follow the join back, but by rows each row is walked.
 const ASTRAY_TO_FIRST_PLAYS: [Play; 2] = [
     (
         AS_IT_IS,

@@ -8,12 +8,12 @@ use test_support::catalogs::{Edit, SAFE_BY_ROWS};
 use test_support::columns::Column;
 use test_support::stores::Parts;
 
-/// The rows (5, 2), (5, 4), (7, 1), (7, 3): equal ids stand by the second column, the key.
+/// The rows (5, 2), (5, 4), (7, 1), (7, 3): equal ids are ordered by the second column, the key.
 const BY_ID: &str = "4353534547303031 0000 0000 00000004 0002
     04 01 00000020 0000000000000005 0000000000000005 0000000000000007 0000000000000007
     04 01 00000020 0000000000000002 0000000000000004 0000000000000001 0000000000000003";
 
-/// The rows by their key.
+/// The rows by key.
 const BY_KEY: &str = "4353534547303031 0001 0000 00000004 0002
     04 01 00000020 0000000000000007 0000000000000005 0000000000000007 0000000000000005
     04 01 00000020 0000000000000001 0000000000000002 0000000000000003 0000000000000004";
@@ -59,7 +59,7 @@ const ANSWERED: Step = Step::Asked(&[
     Ask::Files(&[2], &SECOND),
 ]);
 
-/// The rows (5, 2) and (7, 2) have one key.
+/// The rows (5, 2) and (7, 2) have the same key.
 const ONE_KEY_TWICE: Step = Step::Segment(
     0,
     0,

@@ -1,4 +1,4 @@
-//! Where the laws on accepted losses and on answers end: stores one step past their limits.
+//! The limits of the laws about accepted losses and answers: stores one step past them.
 use crate::answers::{Ask, Refusal, Written};
 use crate::joined;
 use crate::plays::{Play, Step, expect_plays};
@@ -12,13 +12,13 @@ use test_support::samples::{JOINED_PARTS, ORDER_PARTS};
 
 // ---- changed sites: three projections, safe for each loss of two sites
 
-/// The first site has the row (1, 31) in the place of (1, 30).
+/// The first site has the row (1, 31) instead of (1, 30).
 const FIRST_LIES: Step = Step::Segment(0, 0, &[Column::Ints(&[1, 2]), Column::Ints(&[31, 10])]);
 
-/// And so has the fourth.
+/// So has the fourth.
 const FOURTH_LIES: Step = Step::Segment(1, 1, &[Column::Ints(&[3, 1]), Column::Ints(&[20, 31])]);
 
-/// And the sixth.
+/// So has the sixth.
 const SIXTH_LIES: Step = Step::Segment(2, 1, &[Column::Ints(&[1]), Column::Ints(&[31])]);
 
 const SECOND_MISPLACED: Step = Step::Asked(&[Ask::Checked(
@@ -33,7 +33,7 @@ const THIRD_MISPLACED: Step = Step::Asked(&[Ask::Checked(
 
 const FOUR_ROWS: Step = Step::Asked(&[Ask::Checked(2, Ok(4))]);
 
-// What is changed on up to two sites is refused; on three, a check for two takes another table for the first.
+// Changes on up to two sites are refused. After changes on three, a check for two takes another table for the original.
 const LIES: [Play; 7] = [
     (AS_IT_IS, &ORDER_PARTS, &[FIRST_LIES, SECOND_MISPLACED]),
     (AS_IT_IS, &ORDER_PARTS, &[FOURTH_LIES, SECOND_MISPLACED]),
@@ -83,7 +83,7 @@ const FIRST_FALSE: Written = (
      04 01 00000010 000000000000001f 000000000000000a",
 );
 
-/// No changes of two rows.
+/// The delta without items for two rows.
 const FIRST_UNCHANGED: Written = (
     FileName::Del { p: 0, s: 0 },
     56,
@@ -120,7 +120,7 @@ const THIRD_UNCHANGED: Written = (
     "435344454c303031 0002 0001 00000001 00000001 00000000",
 );
 
-// One site lies: no other loss of one site is accepted than its own.
+// One site lies: its loss is the only accepted loss of one site.
 const ONE_LIE: [Step; 2] = [
     FOURTH_LIES,
     Step::Asked(&[
@@ -164,9 +164,9 @@ fn one_lie_more_than_is_corrected(rt: HostRuntime) -> Result<(), Fail> {
     expect_plays(&rt, THREE_PROJECTIONS, &ONE_LIE_MORE_PLAY)
 }
 
-// ---- join indexes: two projections that hold the table between them, and a third that holds it alone
+// ---- join indexes: two projections that hold the table together, and a third that holds it alone
 
-/// What the loss of the second site costs: its fresh keys are 1 and 2, so the first's join index is written anew.
+/// What the loss of the second site costs: its new keys are 1 and 2, so the first's join index is rewritten.
 const RENUMBERED: [Written; 4] = [
     (
         FileName::Jix { p: 0, s: 0, q: 1 },
@@ -191,7 +191,7 @@ const RENUMBERED: [Written; 4] = [
     ),
 ];
 
-// The join index of the answer is put in place, then one with a row that has no key.
+// The join index of the answer is put in place, then one with a row without a key.
 const CHANGED_JOIN: [Step; 6] = [
     Step::LastByteChanged(FileName::Seg { p: 1, s: 0 }),
     Step::Asked(&[Ask::Files(&[2], &RENUMBERED)]),
@@ -234,7 +234,7 @@ const FIRST_AGAIN: [Written; 4] = [
     ),
 ];
 
-// The first site names the second's rows by each other's keys: a loss of either is accepted, one that has neither is not.
+// The first site names the second's rows by each other's keys: a loss of either is accepted, a loss of neither is not.
 const CROSSED_KEYS: [Step; 2] = [
     Step::Join(0, 0, 1, &[(0, 2), (0, 3)]),
     Step::Asked(&[

@@ -1,5 +1,5 @@
-//! Tests of whole stores: their files are made from plain rows, rebuilt and checked; of walks of what survives, and of the orders
-//! of rows; of which losses are safe, and plans.
+//! Tests of whole stores, whose files are made from plain rows, rebuilt and checked; of walks of what survives; of the
+//! orders of rows; of safe losses and plans.
 #![tactic(auto)]
 
 #[cfg(test)]

@@ -18,23 +18,23 @@ const PLAIN: &str = "4353534547303031 0000 0000 00000004 0002
     04 01 00000020 0000000000000001 0000000000000002 0000000000000003 0000000000000004
     04 01 00000020 000000000000001e 000000000000000a 0000000000000014 000000000000000a";
 
-/// The second column in runs.
+/// The second column as runs.
 const RUNS: &str = "4353534547303031 0000 0000 00000004 0002
     04 01 00000020 0000000000000001 0000000000000002 0000000000000003 0000000000000004
     01 01 00000040 000000000000001e 00000001 00000001  000000000000000a 00000002 00000001
                    0000000000000014 00000003 00000001  000000000000000a 00000004 00000001";
 
-/// The first column in differences, the second in bitmaps.
+/// The first column as differences, the second as bitmaps.
 const BITMAPS: &str = "4353534547303031 0000 0000 00000004 0002
     03 01 0000000f 00000001 0000000000000001 01 01 01
     02 01 00000044 000000000000000a 00000004 00000001 00000001 00000001 00000001
                    0000000000000014 00000002 00000002 00000001
                    000000000000001e 00000002 00000000 00000001";
 
-/// No changes of four rows.
+/// The delta without items for four rows.
 const UNCHANGED: &str = "435344454c303031 0000 0000 00000004 00000004 00000000";
 
-/// No changes of three rows.
+/// The delta without items for three rows.
 const THREE_UNCHANGED: &str = "435344454c303031 0000 0000 00000003 00000003 00000000";
 
 /// The rows (1, 30), (3, 20), (4, 10).
@@ -72,7 +72,7 @@ const FIRST_DELETED: Delta = Delta {
     items: b"\0\0\0\x01\x02\0\0\0\0",
 };
 
-/// The first row is deleted in a first layer; a second one gives the row that is now the first the cell 15.
+/// The first row is deleted in a first layer; a second layer sets the cell of the row that is now first to 15.
 const THEN_CHANGED: Delta = Delta {
     version: 2,
     rows: 4,
@@ -90,7 +90,7 @@ const AS_RUNS: [Written; 2] = [(SEG, 158, RUNS), DEL_UNCHANGED];
 
 const AS_BITMAPS: [Written; 2] = [(SEG, 145, BITMAPS), DEL_UNCHANGED];
 
-/// The codes of the lost segment, and its files.
+/// The encodings of the lost segment, and its files.
 const CODES: [Play; 3] = [
     (
         AS_IT_IS,
@@ -132,7 +132,7 @@ fn is_rebuilt_from_a_changed_image(rt: HostRuntime) -> Result<(), Fail> {
     expect_plays(&rt, TWO_ORDERS, &CHANGED_IMAGES_PLAY)
 }
 
-/// The segment that the first site has.
+/// The segment of the first site.
 const FIRST_SEGMENT: Step = Step::Segment(
     0,
     0,

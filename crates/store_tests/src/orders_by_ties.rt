@@ -1,4 +1,4 @@
-//! Rows of one sort value stand by primary key.
+//! Rows with the same sort value are ordered by primary key.
 ghost use Rattle.std.specs.Prelude.{◌≤◌};
 
 use crate::stores::Store;
@@ -14,7 +14,7 @@ use std::thread::Threads;
 use test_support::columns::Column;
 use test_support::stores::loss_of;
 
-/// The rows (i, i mod 7) for i below 5,000, of which the second order is lost.
+/// The rows (i, i mod 7) for i below 5,000. The second order is lost.
 fn remainders(alloc: Global) -> Result<Store, Fail> {
     let mut ids = Vec::new(alloc);
     let mut remainders = Vec::new(alloc);

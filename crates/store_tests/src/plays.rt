@@ -1,4 +1,4 @@
-//! Stores that are changed and asked, one step after the other.
+//! Stores that are changed and called, one step after the other.
 use crate::answers::{Ask, expect};
 use crate::stores::Store;
 use cs_schema::FileName;
@@ -11,27 +11,27 @@ use test_support::columns::Column;
 use test_support::files::{Delta, changed};
 use test_support::stores::Parts;
 
-/// The edits of a catalog, the parts of a store under it, and what is done to the store and asked of it in turn.
+/// The edits of a catalog, the parts of a store under it, and the steps.
 pub type Play<'a> = (&'a [Edit<'a>], &'a Parts<'a>, &'a [Step<'a>]);
 
-/// What is done to a store, or asked of it.
+/// A change of a store, or a call.
 #[derive(Drop)]
 pub enum Step<'a> {
     Asked(&'a [Ask<'a>]),
-    /// Puts a segment there, by `p` and `s`, and its delta without items.
+    /// Puts a segment by `p` and `s`, and its delta without items.
     Segment(u16, u16, &'a [Column<'a>]),
-    /// Puts the delta of a segment there.
+    /// Puts the delta of a segment.
     Delta(u16, u16, Delta<'a>),
-    /// Puts a join index there, by `p`, `s` and `q`.
+    /// Puts a join index by `p`, `s` and `q`.
     Join(u16, u16, u16, &'a [(u16, u32)]),
-    /// Puts a file of one byte there.
+    /// Puts a file of one byte.
     OneByte(FileName),
     LastByteChanged(FileName),
     LastByteCut(FileName),
     TakenAway(FileName),
 }
 
-/// Goes through the plays of a catalog, and asks for each answer.
+/// Runs the plays of a catalog and expects each answer.
 pub fn expect_plays(
     rt: &(impl Threads + Sync + AllocGlobal + Abort),
     catalog: &str,

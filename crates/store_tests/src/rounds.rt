@@ -1,11 +1,11 @@
-//! Gates that note in what order the rounds open.
+//! Gates that note the order in which the rounds open.
 use cs_board::{Gate, Round};
 use std::sync::atomic::{AtomicU64, Ordering};
 
-/// The number of the rounds of columns, of which each lost segment has one.
+/// The number of the rounds of columns. Each lost segment has one.
 const COLUMNS: u64 = 5;
 
-/// Notes the round that opened last, by its number, and how many didn't open in their turn.
+/// Notes the number of the round that opened last, and how many opened out of order.
 #[derive(Drop)]
 pub struct Opened {
     last: AtomicU64,
@@ -21,7 +21,7 @@ impl Opened {
         }
     }
 
-    /// The number of the round that opened last, where each opened right after the one before it.
+    /// The number of the round that opened last, if all opened in order.
     pub fn last_in_order(&self) -> Option<u64> {
         if self.astray.load(Ordering::SeqCst) > 0 {
             return None;
@@ -30,7 +30,7 @@ impl Opened {
     }
 }
 
-/// The number of a round, from 1 on.
+/// The number of a round, from 1.
 fn number(round: Round) -> u64 {
     match round {
         Round::Files => 1,

@@ -1,4 +1,4 @@
-//! Which losses are safe, and plans.
+//! Safe losses and plans.
 use cs_catalog::read_catalog;
 use cs_safety::{alive, ksafe, plan, safe};
 use cs_schema::samples::{CITIES, SPLIT_COLUMNS, THREE_PROJECTIONS, TWO_ORDERS};
@@ -7,18 +7,18 @@ use std::alloc::{AllocGlobal, Global};
 use std::process::Abort;
 use test_support::catalogs::{BY_ROWS, edited};
 
-/// The catalog of a text, which is safe where whole projections are.
+/// The catalog of a text, with safety of whole projections.
 fn whole(rt: &(impl Abort + AllocGlobal), text: &str) -> Catalog {
     read_catalog(rt.alloc(), text.as_bytes()).expect(rt, "a catalog")
 }
 
-/// The catalog, safe by rows.
+/// The catalog with safety by rows.
 fn by_rows(rt: &(impl Abort + AllocGlobal), text: &str) -> Catalog {
     let text = edited(rt.alloc(), text, BY_ROWS).expect(rt, "memory");
     whole(rt, text.as_str())
 }
 
-/// Whether so many lost sites are safe, or else this is the fault's text.
+/// Whether this many lost sites are safe, or the fault has this text.
 fn answers(alloc: Global, catalog: &Catalog, k: u8, wanted: &str) -> bool {
     match ksafe(catalog, k) {
         Ok(()) => wanted == "safe",
@@ -29,7 +29,7 @@ fn answers(alloc: Global, catalog: &Catalog, k: u8, wanted: &str) -> bool {
     }
 }
 
-/// Catalogs, and what they answer for no lost site, for one, for two and for three.
+/// Catalogs, and their answers for 0, 1, 2 and 3 lost sites.
 const ANSWERS: [(&str, [&str; 4]); 4] = [
     (
         TWO_ORDERS,
@@ -49,7 +49,7 @@ const ANSWERS: [(&str, [&str; 4]); 4] = [
     ),
 ];
 
-/// Whether a catalog answers so for each number of lost sites, and refuses four.
+/// Whether a catalog has these answers, and refuses four sites.
 fn answers_all(alloc: Global, catalog: &Catalog, wanted: &[&str; 4]) -> bool {
     for (k, answer) in (0u8..).zip(wanted.iter()) {
         if !answers(alloc, catalog, k, answer) {

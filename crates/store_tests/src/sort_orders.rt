@@ -1,4 +1,4 @@
-//! The orders of rows in segments, and rows that have none.
+//! The orders of rows in segments, and rows without orders.
 ghost use Rattle.std.specs.Prelude.{◌≡◌, ◌<◌, ◌^◌, length, map};
 
 use cs_catalog::read_catalog;
@@ -41,7 +41,7 @@ fn int_key(rt: &impl Abort, catalog: &Catalog, walked: &Walked, row: u32) -> i64
     }
 }
 
-/// The int keys of a segment's rows, in their order. Each row has to stand at its place there.
+/// The int keys of a segment's rows, in order. Each row must be at its place.
 fn keys_in(
     rt: &(impl Threads + Sync + Abort + AllocGlobal),
     catalog: &Catalog,
@@ -79,7 +79,7 @@ fn two_columns(rt: &(impl Abort + AllocGlobal), ids: Vec<i64>, values: Vec<i64>)
     vec![in rt.alloc(); Cells::Ints(ids), Cells::Ints(values)].expect(rt, "two columns")
 }
 
-/// 5,000 ids in another order than their own, and their remainders by 7.
+/// 5,000 ids out of order, and their remainders by 7.
 fn ids_and_remainders(rt: &(impl Abort + AllocGlobal)) -> Vec<Cells> {
     let mut ids = Vec::new(rt.alloc());
     let mut remainders = Vec::new(rt.alloc());
@@ -131,7 +131,7 @@ fn cities(rt: &(impl Abort + AllocGlobal), rows: &[(i64, &str)]) -> Vec<Cells> {
     )
 }
 
-/// Whether the rows of cities stand in this order of their ids in a segment of the second projection.
+/// Whether the rows of cities are in this order of their ids in a segment of the second projection.
 fn stand_in_order(
     rt: &(impl Threads + Sync + Abort + AllocGlobal),
     rows: &[(i64, &str)],
@@ -152,7 +152,7 @@ fn ties_by_a_key_that_the_projection_lacks(rt: HostRuntime) {
 
 #[test]
 fn texts_that_begin_others(rt: HostRuntime) {
-    // of more than seven bytes only the cells tell texts apart
+    // texts of more than seven bytes differ only in their cells
     let rows = [
         (3, "abcdefgi"),
         (8, "abcdefgh"),
@@ -173,7 +173,7 @@ fn refuses_a_key_that_stands_twice(rt: HostRuntime) {
     assert!(rt; fault == Some(OrderFault::Twice));
 }
 
-/// Columns of so many ids from 0 on, each with itself as its value.
+/// Columns of the ids from 0 on, each with itself as its value.
 fn counted(rt: &(impl Abort + AllocGlobal), count: u32) -> Vec<Cells> {
     let mut ids = Vec::new(rt.alloc());
     let mut values = Vec::new(rt.alloc());
@@ -186,7 +186,7 @@ fn counted(rt: &(impl Abort + AllocGlobal), count: u32) -> Vec<Cells> {
 
 #[test]
 fn refuses_the_first_full_range(rt: HostRuntime) {
-    // Three ids lie below the first cut, and fifteen below the second.
+    // Three ids are below the first cut, and fifteen below the second.
     let catalog = catalog(&rt, THREE_PROJECTIONS);
     for (count, fault) in [
         (1_048_576 + 4, Some(OrderFault::Full { p: 0, s: 1 })),

@@ -10,7 +10,7 @@ use test_support::file_sets::without;
 use test_support::files::{Delta, delta_file, join_file};
 use test_support::stores::{Parts, put_parts, put_segment};
 
-/// A catalog, and files for it.
+/// A catalog and files for it.
 #[derive(Drop)]
 pub struct Store {
     pub alloc: Global,
@@ -19,7 +19,7 @@ pub struct Store {
 }
 
 impl Store {
-    /// No files yet.
+    /// A store without files.
     pub fn of(alloc: Global, text: &str) -> Result<Store, Fail> {
         let Ok(catalog) = read_catalog(alloc, text.as_bytes()) else {
             return Err(Fail::from("the catalog is not read"));
@@ -45,7 +45,7 @@ impl Store {
         Store::made(alloc, text.as_str(), parts)
     }
 
-    /// Puts a segment whose columns are written in the catalog's codes, and a delta without items.
+    /// Puts a segment whose columns are in the catalog's encodings, and a delta without items.
     pub fn put_segment(&mut self, p: u16, s: u16, columns: &[Column]) -> Result<(), Fail> {
         let catalog = &self.catalog;
         Ok(put_segment(self.alloc, &mut self.files, catalog, (p, s), columns)?)
@@ -92,7 +92,7 @@ impl Store {
         }
     }
 
-    /// Takes a file away.
+    /// Removes a file.
     pub fn take_away(&mut self, name: FileName) -> Result<(), Fail> {
         self.files = without(self.alloc, &self.files, name)?;
         Ok(())

@@ -1,4 +1,4 @@
-//! Small stores, whose files are written by hand. A store that can't be made ends the trial.
+//! Small stores whose files are written by hand. A store that cannot be made fails the test.
 pub mod catalogs;
 
 ghost use Rattle.std.specs.Prelude.{◌≡◌, ◌<◌, length, map, IfOk};
@@ -112,7 +112,7 @@ impl<'a> Store<'a> {
             .put_join(p as usize, s as usize, q as usize, join);
     }
 
-    /// Rows of the anchor of the loss's plan. Want of memory where there is no plan, or no such rows.
+    /// Walks rows of the anchor of the loss's plan. Out of memory if there is no plan, or there are no such rows.
     pub fn walk(
         &self,
         alloc: Global,
@@ -136,7 +136,7 @@ impl<'a> Store<'a> {
         walk.range(alloc, from, to)
     }
 
-    /// The rows of all surviving segments that are numbered so, or all of them where there are fewer.
+    /// Walks the rows with these numbers of all surviving segments, or all rows if there are fewer.
     pub fn walk_by_rows(
         &self,
         alloc: Global,

@@ -16,7 +16,7 @@ const UPPER_IDS: Written = (
      04 01 00000010 0000000000000014 000000000000000a",
 );
 
-/// The rows (2, 10), (4, 10) of the second.
+/// The rows (2, 10), (4, 10) of the second projection.
 const LOWER_VALUES: Written = (
     FileName::Seg { p: 1, s: 0 },
     94,
@@ -25,7 +25,7 @@ const LOWER_VALUES: Written = (
      01 01 00000010 000000000000000a 00000001 00000002",
 );
 
-/// What stands on the sites 2 and 3.
+/// The files of the sites 2 and 3.
 pub const LOST: [Written; 4] = [
     UPPER_IDS,
     (
@@ -41,7 +41,7 @@ pub const LOST: [Written; 4] = [
     ),
 ];
 
-/// What stands on the sites 1, 3 and 6: a segment of each projection.
+/// The files of the sites 1, 3 and 6: a segment of each projection.
 const LOST_OF_EACH: [Written; 6] = [
     (
         FileName::Seg { p: 0, s: 0 },
@@ -91,7 +91,7 @@ fn sound_with_ample_memory(rt: HostRuntime) -> Result<(), Fail> {
     expect_plays(&rt, THREE_PROJECTIONS, &SOUND_PLAYS)
 }
 
-// No projection is left whole, but no row stands in lost segments alone.
+// No projection is left whole, but no row is in lost segments alone.
 const SEGMENT_OF_EACH_PLAYS: [Play; 2] = [
     (
         BY_ROWS,
@@ -118,7 +118,7 @@ const LEAST_DAMAGED: FileName = FileName::Seg { p: 1, s: 1 };
 
 const LATER_DAMAGED: FileName = FileName::Del { p: 2, s: 0 };
 
-// What stands under a lost name is not looked at, and of the others the least name is told.
+// Files under lost names are not looked at; of the others the first bad one by name is answered.
 const DAMAGED: [Step; 7] = [
     Step::OneByte(LOST_SEGMENT),
     Step::Asked(&[Ask::Files(&[2, 3], &LOST)]),

@@ -1,4 +1,4 @@
-//! A gate is told of a piece before the piece is begun.
+//! A gate is called before each piece begins.
 ghost use Rattle.std.specs.Prelude.{◌≡◌, ◌≤◌, true, ⊤};
 
 use cs_board::{Gate, Work, run};
@@ -8,11 +8,10 @@ use std::sync::atomic::{AtomicU64, Ordering};
 use std::test::Fail;
 use std::thread::Threads;
 
-/// How many pieces there are.
+/// The number of pieces.
 const PIECES: u32 = 7;
 
-/// What is known of the pieces, a bit for each: those that the gate was told of, and those that were begun untold or told of
-/// once they were begun.
+/// What is known of the pieces, a bit for each: those that the gate was told of, and those that began before it was.
 #[derive(Drop)]
 struct Notes {
     told: AtomicU64,
@@ -34,7 +33,7 @@ impl Gate for Notes {
     }
 }
 
-/// Pieces that note when they are begun.
+/// Pieces that note when they begin.
 #[derive(Drop)]
 struct Noting<'a> {
     notes: &'a Notes,
@@ -79,7 +78,7 @@ impl Work for Noting<'_> {
     ghost one_fault = { λ work i f g below at here. at ∙ sym here };
 }
 
-/// The pieces that were begun, those that the gate was told of, and those that it was told of too late.
+/// The pieces that began, those that the gate was told of, and those that it was told of too late.
 fn notes_of<R: Threads + Sync>(rt: &R, alloc: Global, workers: u32) -> Result<[u64; 3], Fail>
     requires { (1 ≤ workers) × (workers ≤ 64) }
 {

@@ -7,7 +7,8 @@ use test_support::catalogs::{AS_IT_IS, BY_ROWS};
 use test_support::columns::Column;
 use test_support::stores::Parts;
 
-/// The first projection has each column; the two others are cut in two, and each joins with the first both ways.
+/// The first projection has every column; the two others have two segments each, and each has a join with the first
+/// both ways.
 const STAR: &str = r#"version = 1
 table = "t"
 key = "id"
@@ -39,7 +40,7 @@ sites = [4, 5]
 joins = ["a"]
 "#;
 
-/// The rows (1, 2, 7), (2, 1, 5), (3, 1, 8), (4, 3, 3). The second stands in the first segment of both other projections.
+/// The rows (1, 2, 7), (2, 1, 5), (3, 1, 8), (4, 3, 3). The second is in the first segment of both other projections.
 const WHOLE: Parts = Parts {
     segments: &[
         (

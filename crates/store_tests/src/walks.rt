@@ -57,7 +57,7 @@ fn gives(
     }
 }
 
-/// Whether two walks of a row each give these rows.
+/// Whether two walks of one row each give these rows.
 fn gives_in_parts(store: &Store<'_>, alloc: Global, loss: Loss, rows: &[&[i64]]) -> bool {
     let Ok(mut first) = store.walk(alloc, loss, 0, 1) else {
         return false;
@@ -90,7 +90,7 @@ fn ranges_of_a_plan_with_ample_memory(rt: HostRuntime) {
     assert!(rt; gives(&store, alloc, loss, 0, 1, &[&[1, 5, 9]]));
 }
 
-/// Two rows that lead to the second projection, the second of them astray.
+/// Two rows that lead to the second projection; the second one is astray.
 fn numbered_cities<'a>(rt: &(impl Abort + AllocGlobal), catalog: &'a Catalog) -> Store<'a> {
     let mut store = Store::of(rt, catalog);
     store.put_segment(rt, 0, 0, &[&[1, 2], &[2, 2], &[7, 5]], &[]);
@@ -99,7 +99,7 @@ fn numbered_cities<'a>(rt: &(impl Abort + AllocGlobal), catalog: &'a Catalog) ->
     store
 }
 
-/// Asks for the keys of the rows of the plan of no loss, whole and as they are lent, and which of these rows are astray.
+/// Expects the keys of the rows of the plan without a loss, copied and borrowed, and which of these rows are astray.
 fn expect_keys(rt: &(impl Abort + AllocGlobal), store: &Store<'_>) {
     let alloc = rt.alloc();
     let catalog = store.survivors.catalog();
@@ -123,7 +123,7 @@ fn expect_keys(rt: &(impl Abort + AllocGlobal), store: &Store<'_>) {
     assert!(rt; is_astray(walk.follow_range(0, 2)));
 }
 
-// The first projection has each column, and its rows lead to the second all the same.
+// The first projection has every column, and its rows still lead to the second.
 #[test]
 fn keys_of_an_anchor(rt: HostRuntime) {
     let catalog = catalog(&rt, NUMBERED_CITIES);
@@ -131,7 +131,8 @@ fn keys_of_an_anchor(rt: HostRuntime) {
     expect_keys(&rt, &store);
 }
 
-/// The rows of the plan of no loss, in one walk. Want of memory where there is no plan, or the range ends before it begins.
+/// The rows of the plan without a loss, in one walk. Out of memory if there is no plan, or the range ends before it
+/// begins.
 fn walk_once(store: &Store<'_>, alloc: Global, from: usize, to: usize) -> Result<Walked, WalkFault>
     ensures { IfOk result (λ walked. walked.kinds ≡ map (λ c. c.kind) store.now.survivors.catalog.columns) }
 {
@@ -177,8 +178,8 @@ fn images_and_joins_that_were_put(rt: HostRuntime) {
     assert!(rt; survivors.join(1, 1, 0).is_none());
 }
 
-/// Whether the walk by rows gives these rows, at once and in two pieces, and `once` and `join_once` leave those of them where each
-/// key stands once.
+/// Whether the walk by rows gives these rows, at once and in two parts, and `once` and `join_once` keep those of them
+/// with each key once.
 fn gives_once(
     rt: &(impl AllocGlobal + Threads + Sync),
     store: &Store<'_>,
@@ -207,7 +208,7 @@ fn gives_once(
         && shows(&walked, catalog, once)
 }
 
-/// Whether no rows are no rows where each key stands once, in one piece and in none.
+/// Whether no rows stay no rows when repeats are removed, in one part and in none.
 fn keeps_no_rows(rt: &(impl AllocGlobal + Threads + Sync), catalog: &Catalog) -> bool {
     let alloc = rt.alloc();
     let Ok(mut none) = Walked::none(alloc, catalog) else {
@@ -225,7 +226,7 @@ fn keeps_no_rows(rt: &(impl AllocGlobal + Threads + Sync), catalog: &Catalog) ->
     one.rows() == 0 && no_piece.rows() == 0
 }
 
-// No projection is alive, and each row stands in a surviving segment.
+// No projection is alive, and each row is in a surviving segment.
 #[test]
 fn rows_of_surviving_segments_with_ample_memory(rt: HostRuntime) {
     let catalog = catalog(&rt, THREE_ORDERS);
@@ -248,7 +249,7 @@ fn rows_of_surviving_segments_with_ample_memory(rt: HostRuntime) {
     assert!(rt; keeps_no_rows(&rt, store.survivors.catalog()));
 }
 
-// One segment is left, in which a key stands twice.
+// One segment is left, in which a key occurs twice.
 #[test]
 fn rows_with_a_key_twice(rt: HostRuntime) {
     let catalog = catalog(&rt, TWO_ORDERS);
@@ -259,8 +260,8 @@ fn rows_with_a_key_twice(rt: HostRuntime) {
     assert!(rt; gives_once(&rt, &store, loss, &all, &all[..3]));
 }
 
-// One segment of the second projection is lost: the projection is marked for two rows, which are full without it. The row that
-// survives there leads back to the first of all, whose walk finds the same row.
+// One segment of the second projection is lost: the projection is marked for two rows, which are full without it. The
+// row that survives there leads back to the first of all, whose walk finds the same row.
 #[test]
 fn rows_with_a_marked_projection(rt: HostRuntime) {
     let loss = Loss::none().with(2);

@@ -1,6 +1,6 @@
 //! The catalogs of small stores whose columns are ints.
 
-// Two columns in three projections of two segments each, on six sites, with no join.
+// Two columns in three projections of two segments each, on six sites, without joins.
 pub const THREE_ORDERS: &str = r#"version = 2
 safety = "rows"
 table = "t"
@@ -38,7 +38,7 @@ sites = [5, 6]
 joins = []
 "#;
 
-// The second projection lacks the key and is cut in two. Each joins to the other.
+// The second projection lacks the key and has two segments. Each projection joins to the other.
 pub const NUMBERED_CITIES: &str = r#"version = 2
 safety = "rows"
 table = "t"
@@ -71,7 +71,7 @@ sites = [2, 3]
 joins = ["a"]
 "#;
 
-// Two columns in two projections of one segment each, on two sites, with no join.
+// Two columns in two projections of one segment each, on two sites, without joins.
 pub const TWO_ORDERS: &str = r#"version = 2
 safety = "rows"
 table = "t"
