@@ -1,4 +1,4 @@
-//! What each line is answered, and what it asks of the places.
+//! The answer to each command line, and what it asks of the places.
 use crate::expecting::{Trial, USAGE, expect_all};
 use crate::stores::{
     Stored, joined, sample_store, three_projections, three_projections_by_rows, with_an_empty_site,
@@ -14,7 +14,7 @@ const OUTSIDE: &str = "fault: loss names a site outside the catalog\n";
 
 const SAMPLE: &str = "p0.s0.seg 126\np0.s0.del 56\nok files=2\n";
 
-/// Lines over the sample's store, whose two sites have two files each.
+/// Command lines over the sample's store, whose two sites have two files each.
 const LINES: [Trial; 17] = [
     ("", 0, SAMPLE, "", "", 0),
     ("check 1 S", 0, "ok rows=4 k=1\n", "", "S", 0),
@@ -49,7 +49,7 @@ const LINES: [Trial; 17] = [
     ),
 ];
 
-/// Words that are no command.
+/// Words that are not a command.
 const OTHER_WORDS: [&str; 25] = [
     "check",
     "check 256 S",

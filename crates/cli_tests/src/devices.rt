@@ -1,4 +1,4 @@
-//! Stores whose files can't be read or written, one after the other, and streams that are full.
+//! Stores whose files cannot be read or written, one after the other, and streams that are full.
 use crate::expecting::{Trial, expect, words};
 use crate::places::places_of;
 use crate::stores::{Stored, joined, sample_store, three_projections};
@@ -13,7 +13,7 @@ use std::test::Fail;
 use std::thread::Threads;
 use test_support::file_sets::without;
 
-/// The files that survive, and what is told where the read of one fails.
+/// The files that survive, and the text if reading one fails.
 const READS: [(FileName, &str); 6] = [
     (FileName::Seg { p: 0, s: 0 }, "fault: read p0.s0.seg\n"),
     (FileName::Del { p: 0, s: 0 }, "fault: read p0.s0.del\n"),
@@ -45,7 +45,7 @@ const JOINED_WRITES: [&str; 3] = [
 
 const NO_MEMORY: &str = "fault: want of memory\n";
 
-/// Tries a line where the read of a file fails.
+/// Runs a line while the read of a file fails.
 fn expect_unread(
     rt: &(impl Threads + Sync + AllocGlobal + Abort),
     stored: &Stored,
@@ -70,7 +70,7 @@ fn names_each_read_that_fails(rt: HostRuntime) -> Result<(), Fail> {
     Ok(())
 }
 
-/// Tries a line where a call that writes fails.
+/// Runs a line while a call that writes fails.
 fn expect_unwritten(
     rt: &(impl Threads + Sync + AllocGlobal + Abort),
     stored: &Stored,
@@ -82,7 +82,8 @@ fn expect_unwritten(
     expect(rt, &mut places, trial)
 }
 
-/// Tries a line where each call that writes fails in turn, of the device and for want of memory. The texts are those of the device.
+/// Runs a line while each call that writes fails in turn, for the device and for memory. The texts are those of the
+/// device.
 fn expect_unwritten_each(
     rt: &(impl Threads + Sync + AllocGlobal + Abort),
     stored: &Stored,
@@ -116,7 +117,7 @@ fn names_a_file_that_is_not_there(rt: HostRuntime) -> Result<(), Fail> {
     expect(&rt, &mut places, &("check 1 S", 1, "", missing, "S", 0))
 }
 
-/// The bytes of a catalog, if there are any, and what a recovery is answered.
+/// The bytes of a catalog, if there are any, and the answer to a recovery.
 const CATALOGS: [(Option<&[u8]>, u8, &str); 3] = [
     (None, 4, "fault: read catalog.toml\n"),
     (Some(b"="), 1, "fault: catalog: not TOML\n"),
@@ -161,7 +162,7 @@ fn names_an_output_that_can_not_be_made(rt: HostRuntime) -> Result<(), Fail> {
 
 const DAMAGED: &str = "fault: damaged p1.s1.seg\n";
 
-/// Lines over a store with a damaged file, and an output that is there already: that would come after the store's fault.
+/// Lines over a store with a damaged file and an output that exists already: that fault would come after the store's.
 const REFUSED: [Trial; 5] = [
     ("check 3 S", 1, "", "fault: unsafe loss: 1,3,5\n", "S", 0),
     (
@@ -205,7 +206,7 @@ fn asks_for_no_output_of_a_refused_store(rt: HostRuntime) -> Result<(), Fail> {
     Ok(())
 }
 
-/// A line, the room of standard output and of standard error, and what is left of them.
+/// A line, the room of standard output and of standard error, and what is left of it.
 const FULL: [(&str, (usize, usize), (usize, usize)); 6] = [
     ("", (0, 99), (0, 99)),
     ("", (1, 99), (0, 99)),
@@ -215,7 +216,7 @@ const FULL: [(&str, (usize, usize), (usize, usize)); 6] = [
     ("restore", (99, 5), (99, 0)),
 ];
 
-/// A line's status where the streams have this room, and the room that is left.
+/// A line's status if the streams have this room, and the room that is left.
 fn left_of(
     rt: &(impl Threads + Sync + AllocGlobal),
     stored: &Stored,

@@ -1,4 +1,4 @@
-//! What a line is answered, and what it asks of the places.
+//! The answer to each command line, and what it asks of the places.
 use crate::places::{MemoryPlaces, places_of};
 use crate::stores::Stored;
 use cs_commands::{Places, run};
@@ -12,8 +12,8 @@ use test_support::file_sets::are_among;
 pub const USAGE: &str =
     "usage: cs_cli [check K STORE | recover [--workers N] [--cut R] STORE OUT SITE...]\n";
 
-/// A line, its status, what standard output and standard error get, the paths that were asked for, and how many files were
-/// written.
+/// A line, its status, the texts of standard output and standard error, the paths that were asked for, and the number
+/// of files written.
 pub type Trial = (
     &'static str,
     u8,
@@ -23,7 +23,7 @@ pub type Trial = (
     usize,
 );
 
-/// A line's status, and what standard output and standard error get.
+/// A line's status, and the texts of standard output and standard error.
 #[derive(Drop)]
 pub struct Answer {
     status: u8,
@@ -53,7 +53,7 @@ pub fn answer_of<R: Threads + Sync + AllocGlobal, P: Places>(
     Ok(Answer { status, out, err })
 }
 
-/// Asks for a line's status and texts.
+/// Expects a line's status and texts.
 pub fn expect_answer(
     rt: &impl Abort,
     line: &str,
@@ -67,7 +67,7 @@ pub fn expect_answer(
     assert_eq!(rt; (answer.status, texts), (status, wanted), "{line}");
 }
 
-/// Runs a line over these places, and asks for all that comes of it.
+/// Runs a line over these places, and expects all its results.
 pub fn expect(
     rt: &(impl Threads + Sync + AllocGlobal + Abort),
     places: &mut MemoryPlaces,
@@ -79,7 +79,7 @@ pub fn expect(
     expect_taken(rt, places, trial)
 }
 
-/// Asks for the paths, for so many files in the output, each as it stands in the store, and for the mark.
+/// Expects the paths, this many files in the output, each with its bytes in the store, and the mark.
 fn expect_taken(rt: &impl Abort, places: &MemoryPlaces, trial: &Trial) -> Result<(), Fail> {
     let (line, status, _, _, asked, files) = *trial;
     let taken = places.taken.try_borrow()?;
@@ -94,7 +94,7 @@ fn expect_taken(rt: &impl Abort, places: &MemoryPlaces, trial: &Trial) -> Result
     Ok(())
 }
 
-/// Tries lines over places with this store, where nothing fails.
+/// Runs lines over places with this store, with nothing failing.
 pub fn expect_all(
     rt: &(impl Threads + Sync + AllocGlobal + Abort),
     stored: &Stored,

@@ -10,7 +10,7 @@ use cs_store::StoreFault;
 use std::alloc::Global;
 use std::rt::Files;
 
-/// The limits of files of the catalog of two orders, and where none is read.
+/// The limits of files under the catalog of two orders, and without a catalog.
 const LIMITS: [(FileName, u64, u64); 3] = [
     (FileName::Seg { p: 0, s: 0 }, 41_943_102, 34_359_738_368),
     (FileName::Del { p: 0, s: 0 }, 192_938_049, 34_359_738_368),
@@ -62,7 +62,7 @@ fn reads_a_catalog_up_to_its_limit(rt: HostRuntime) {
     }
 }
 
-/// Three bytes, where the bound has room for them.
+/// Three bytes, if the bound has room for them.
 fn abc(alloc: Global, limit: u64) -> Result<Vec<u8>, StoreFault>
     requires { limit < 2 ^ 63 }
 {

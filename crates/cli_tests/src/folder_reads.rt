@@ -12,19 +12,19 @@ use std::{fs, io};
 
 const SEGMENT: FileName = FileName::Seg { p: 0, s: 0 };
 
-/// What stands under the name of a segment.
+/// What is under the name of a segment.
 #[derive(Clone, Copy)]
 enum Place<'a> {
     Folder,
     /// A link.
     Link(&'a str),
-    /// A link to a file beside it that has this text.
+    /// A link to a file beside it with this text.
     LinkTo(&'a str),
-    /// A file of so many bytes.
+    /// A file of this many bytes.
     Sparse(u64),
 }
 
-/// Folders with a segment, what stands there, and the length of what is read.
+/// Folders with a segment, what is there, and the length of what is read.
 const PLACES: [(&str, &str, Place, Result<Option<usize>, StoreFault>); 5] = [
     (
         "kinds/a",

@@ -13,7 +13,7 @@ const DELTA: FileName = FileName::Del { p: 0, s: 0 };
 
 const JOIN_INDEX: FileName = FileName::Jix { p: 1, s: 0, q: 0 };
 
-/// What stands in the files of an output.
+/// The contents of the files of an output.
 const WRITTEN: [(&str, &str); 3] = [
     ("written/out/p0.s0.seg", "segment"),
     ("written/out/p1.s0.q0.jix", ""),
@@ -36,7 +36,7 @@ fn has_text(rt: &(impl Files + AllocGlobal), path: &str, wanted: &str) -> bool {
     }
 }
 
-/// Whether what was read is a file of these bytes, or no file.
+/// Whether a file with these bytes was read, or no file.
 fn is_file(read: Result<Option<Vec<u8>>, StoreFault>, wanted: Option<&[u8]>) -> bool {
     match read {
         Ok(Some(bytes)) => wanted == Some(bytes.as_slice()),
@@ -45,7 +45,7 @@ fn is_file(read: Result<Option<Vec<u8>>, StoreFault>, wanted: Option<&[u8]>) -> 
     }
 }
 
-/// Whether the store in a folder has a segment of these bytes, without a delta and a catalog.
+/// Whether the store in a folder has a segment of these bytes, but no delta and no catalog.
 fn has_segment_alone<R: Files + Drop>(alloc: Global, rt: R, path: &str, wanted: &[u8]) -> bool {
     let Ok(mut store) = StoreFolder::new(alloc, rt, path, FileLimits::Fixed) else {
         return false;

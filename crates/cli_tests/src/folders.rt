@@ -1,4 +1,4 @@
-//! The program, over folders of the system that are made where the tests run.
+//! The program over folders of the system that are made where the tests run.
 use crate::expecting::{answer_of, expect_answer};
 use crate::stores::{Stored, sample_store};
 use cs_commands::{Folders, Places};
@@ -10,7 +10,7 @@ use std::rt::Files;
 use std::test::Fail;
 use std::thread::Threads;
 
-/// A line, its status, and what standard output and standard error get.
+/// A line, its status, and the texts of standard output and standard error.
 type Line = (&'static str, u8, &'static str, &'static str);
 
 /// Lines over the sample's store, in a folder of its own.
@@ -33,7 +33,7 @@ const LINES: [Line; 6] = [
     ),
 ];
 
-/// Runs lines over places, and asks for their statuses and texts.
+/// Runs lines over places, and expects their statuses and texts.
 fn expect_over<P: Places>(
     rt: &(impl Threads + Sync + AllocGlobal + Abort),
     places: &mut P,
@@ -70,7 +70,7 @@ fn put_file(
 
 const TOO_LONG: [Line; 1] = [("check 1 tried/S", 4, "", "fault: read p1.s0.seg\n")];
 
-/// Puts a file there that is longer than any.
+/// Puts a file that is longer than any may be.
 fn put_too_long(rt: &impl Files, path: &str) -> Result<(), Fail> {
     let file = File::create(rt, path)?;
     Ok(file.set_len(40_000_000_000)?)
@@ -78,7 +78,7 @@ fn put_too_long(rt: &impl Files, path: &str) -> Result<(), Fail> {
 
 const NO_FILE: [Line; 1] = [("check 1 tried/S", 4, "", "fault: read p0.s0.del\n")];
 
-/// Puts a folder in the place of a file.
+/// Puts a folder in place of a file.
 fn put_folder(rt: &impl Files, path: &str) -> Result<(), Fail> {
     fs::remove_file(rt, path)?;
     Ok(fs::create_dir(rt, path)?)

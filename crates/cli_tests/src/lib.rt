@@ -1,4 +1,4 @@
-//! Trials of the commands, over places in memory and over folders.
+//! Tests of the commands, over places in memory and over folders.
 #![tactic(auto)]
 
 #[cfg(test)]

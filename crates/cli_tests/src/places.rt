@@ -27,9 +27,9 @@ pub struct Taken {
 pub struct MemoryPlaces {
     pub catalog: Option<Vec<u8>>,
     pub files: FileSet,
-    /// The files as they stood at first.
+    /// The original files.
     pub whole: FileSet,
-    /// The path at which the store was asked for, and then that of the output.
+    /// The path at which the store was asked for, then that of the output.
     pub asked: String,
     pub watch: Watch,
     /// The file whose read fails, and why.
@@ -49,7 +49,7 @@ pub struct SharedOutput {
     alloc: Global,
 }
 
-/// Places with this store, where nothing fails.
+/// Places with this store, with nothing failing.
 pub fn places_of(alloc: Global, stored: &Stored) -> Result<MemoryPlaces, Fail> {
     let taken = Taken {
         files: FileSet::new(alloc)?,

@@ -1,4 +1,4 @@
-//! A store in memory, which many threads can read at once.
+//! A store in memory that many threads can read at once.
 ghost use Rattle.std.specs.Prelude.{◌≡◌, ◌≤◌, ⊤, IsErrOf};
 ghost use Rattle.cs_store.specs.Fault.{CountsFault};
 

@@ -31,7 +31,7 @@ fn whole(alloc: Global, text: &str, parts: &Parts) -> Result<Stored, Fail> {
     })
 }
 
-/// Two projections that join to each other, and a third that holds every column, on three sites.
+/// Two projections that join to each other, and a third that has every column, on three sites.
 pub fn joined(alloc: Global) -> Result<Stored, Fail> {
     whole(alloc, SPLIT_COLUMNS, &JOINED_PARTS)
 }
@@ -62,14 +62,14 @@ pub fn sample_store(alloc: Global) -> Result<Stored, Fail> {
     })
 }
 
-/// The sample's store, with a third site on which nothing stands.
+/// The sample's store, with a third site without files.
 pub fn with_an_empty_site(alloc: Global) -> Result<Stored, Fail> {
     let mut stored = sample_store(alloc)?;
     stored.catalog = catalog_of(alloc, sample::CATALOG, &[("sites = 2\n", "sites = 3\n")])?;
     Ok(stored)
 }
 
-/// The bytes of a changed catalog.
+/// The bytes of an edited catalog.
 fn catalog_of(alloc: Global, text: &str, edits: &[Edit]) -> Result<Vec<u8>, Fail> {
     let text = edited(alloc, text, edits)?;
     Ok(Vec::from_slice(alloc, text.as_bytes())?)

@@ -2,7 +2,7 @@
 use std::io;
 use std::io::Write;
 
-/// A stream that takes so many bytes and then fails.
+/// A stream that takes this many bytes and then fails.
 #[derive(Drop)]
 pub struct Full {
     pub room: usize,

@@ -1,4 +1,4 @@
-//! What the work of a command is told: its pieces, and whether two are at work at once.
+//! What the gate of a command observes: its pieces, and whether two are at work at once.
 use crate::expecting::{Trial, expect};
 use crate::places::places_of;
 use crate::stores::{Stored, three_projections};
@@ -9,10 +9,10 @@ use std::sync::atomic::{AtomicU64, Ordering};
 use std::test::Fail;
 use std::thread::Threads;
 
-/// Counts the pieces, and holds the first of the first round of work until the second of that round is begun.
+/// Counts the pieces, and holds the first of the first round until the second of that round has begun.
 #[derive(Drop)]
 pub struct Watch {
-    /// How long a piece is held at most.
+    /// How long a piece is held at most, in turns of a loop.
     pub turns: u64,
     entered: AtomicU64,
     firsts: AtomicU64,
@@ -54,7 +54,7 @@ impl Gate for Watch {
     }
 }
 
-/// A line, in how many pieces its work is done, and whether two of them are at work at once.
+/// A line, the number of pieces of its work, and whether two of them are at work at once.
 const LINES: [(&str, u64, bool); 6] = [
     ("recover S O 2 3", 13, false),
     ("recover --workers 2 --cut 1 S O 2 3", 20, true),
@@ -64,7 +64,7 @@ const LINES: [(&str, u64, bool); 6] = [
     ("recover S O 2 3 --cut 65536", 13, false),
 ];
 
-/// In how many pieces a line's work is done, and whether one was held in vain.
+/// The number of pieces of a line's work, and whether one was held in vain.
 fn pieces_of(
     rt: &(impl Threads + Sync + AllocGlobal + Abort),
     stored: &Stored,

@@ -1,4 +1,4 @@
-//! What of a catalog's crate the program of `catalog_cases` doesn't print.
+//! What the program of `catalog_cases` does not print of the crate of catalogs.
 use cs_catalog::{CatalogFault, read_catalog};
 use cs_schema::samples::TWO_ORDERS;
 use cs_schema::{Catalog, FileName, Loss, Value};
@@ -6,7 +6,7 @@ use std::alloc::{AllocError, Global};
 use std::fmt;
 use std::fmt::Write;
 
-/// A text with a part that is repeated, each time with its number.
+/// A text with a repeated part, numbered each time.
 struct Repeated {
     before: &'static str,
     unit: &'static str,
@@ -96,7 +96,7 @@ fn loses_sites(rt: HostRuntime) {
     assert!(rt; loss.count() == 2 && loss == none.with(1).with(16));
 }
 
-/// The catalog of two orders, of which the first is cut at 10.
+/// The catalog of two orders, the first of which is cut at 10.
 fn cut_orders(alloc: Global) -> Result<Catalog, CatalogFault> {
     let Some((first, rest)) = TWO_ORDERS.split_once("cuts = []\nsites = [1]") else {
         return Err(CatalogFault::Toml);
@@ -107,7 +107,7 @@ fn cut_orders(alloc: Global) -> Result<Catalog, CatalogFault> {
     read_catalog(alloc, text.as_bytes())
 }
 
-/// The paths of the files that survive a loss, each with a space behind it.
+/// The paths of the files that survive a loss, each followed by a space.
 fn surviving(alloc: Global, catalog: &Catalog, loss: Loss) -> Result<String, AllocError> {
     let mut paths = String::new(alloc);
     for name in &catalog.surviving(alloc, loss)? {

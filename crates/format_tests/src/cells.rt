@@ -7,7 +7,7 @@ use std::alloc::{AllocError, Global};
 /// 256 times the letter a.
 const LETTERS: [u8; 256] = [97; 256];
 
-/// So many letters.
+/// `count` letters.
 fn letters(count: usize) -> &'static str
     requires { count ≤ 256 }
 {
@@ -17,7 +17,7 @@ fn letters(count: usize) -> &'static str
     }
 }
 
-/// Whether a word keeps a text of so many bytes, and is greater than an int.
+/// Whether a word keeps a text of this many bytes, and is greater than an int.
 fn is_word(text: &str, length: usize) -> bool {
     match Word::new(text) {
         Ok(word) => {
@@ -35,7 +35,7 @@ fn words_have_at_most_255_bytes(rt: HostRuntime) {
     }
 }
 
-/// Adds a text to a block, where it has at most 255 bytes.
+/// Adds a text to a block, if it has at most 255 bytes.
 fn push_text(texts: &mut Texts, text: &str) -> Result<bool, AllocError> {
     match Word::new(text) {
         Ok(word) => {
@@ -56,7 +56,7 @@ fn is_twice(texts: &Texts, letters: &str) -> bool {
         && texts.compare(5, texts, 0).is_lt()
 }
 
-/// Whether so many letters are kept between other texts, and copied as they are.
+/// Whether this many letters are kept between other texts, and copied unchanged.
 fn keeps_letters(alloc: Global, count: usize) -> Result<bool, AllocError>
     requires { count ≤ 255 }
 {
@@ -88,7 +88,7 @@ fn least_cells(rt: HostRuntime) {
     assert_eq!(rt; Word::empty().as_str(), "");
 }
 
-/// The ints 5 and 3, then 4 and 3 once more.
+/// The ints 5 and 3, then 4 and 3 again.
 fn grown(alloc: Global) -> Result<Cells, AllocError> {
     let mut cells = Cells::new(alloc, Kind::Int);
     cells.push(Value::Int(5))?;

@@ -8,7 +8,7 @@ fn cities(rt: &HostRuntime) -> Result<Catalog, Fail> {
     Ok(read_catalog(rt.alloc(), CITIES.as_bytes())?)
 }
 
-/// The cells of a column: each int with a comma behind it, each text between `<` and `>`.
+/// The cells of a column: each int followed by a comma, each text between `<` and `>`.
 fn column_text(rt: &HostRuntime, cells: &Cells) -> Result<String, Fail> {
     let alloc = rt.alloc();
     let mut text = format!(in alloc; "")?;
@@ -51,7 +51,7 @@ fn read(rt: &HostRuntime, text: &[u8]) -> Result<String, Fail> {
     }
 }
 
-/// Texts, and the columns that they are read as.
+/// Texts, and the columns that are read from them.
 const READ: [(&str, &str); 15] = [
     ("id,city,v\n", "|||"),
     ("id,city,v", "|||"),
@@ -113,7 +113,7 @@ const REFUSED: [(&str, &str); 17] = [
         "id,city,v\n0123456789012345678901234567890123456789a,a,2\n",
         "record 1: id is no int: \"0123456789012345678901234567890123456789\"",
     ),
-    // of two cells that of the table's first column, wherever it stands
+    // of two faulty cells, that of the table's first column, wherever it is in the record
     ("v,city,id\nx,a,y\n", "record 1: id is no int: \"y\""),
     ("id,city,v\nx,a,1\n1,a\n", "record 1: id is no int: \"x\""),
 ];
@@ -134,7 +134,7 @@ fn refuses_by_the_first_fault(rt: HostRuntime) -> Result<(), Fail> {
     Ok(())
 }
 
-/// What a text of one row with this city is read as.
+/// What is read from a text of one row with this city.
 fn read_city(rt: &HostRuntime, city: &str) -> Result<String, Fail> {
     let text = format!(in rt.alloc(); "id,city,v\n1,{city},2\n")?;
     read(rt, text.as_bytes())

@@ -1,4 +1,4 @@
-//! Bitmaps of a column that was cut in pieces.
+//! Bitmaps of a column that was encoded in parts.
 ghost use Rattle.std.specs.Prelude.{◌<◌, ◌≤◌};
 
 use crate::made::are_made;
@@ -14,7 +14,8 @@ const TEXT: &[u8] = b"\0\0\0\0\0\0\0\0\0\0\0\x04\0\0\0\0\0\0\0\x02\0\0\0\x04\0\0
 \0\0\0\0\0\0\0\x01\0\0\0\x06\0\0\0\x02\0\0\0\x02\0\0\0\x01\0\0\0\x01\0\0\0\x02\0\0\0\x01\
 \0\0\0\0\0\0\0\x02\0\0\0\x04\0\0\0\x04\0\0\0\x01\0\0\0\x02\0\0\0\x01";
 
-/// The part of cells that were cut in pieces of this length, the last of which may be shorter. Of too many the first few.
+/// The part of cells that were cut into pieces of this length, the last of which may be shorter. Of too many cells the
+/// first few.
 fn pieced(alloc: Global, cells: &[i64], size: usize) -> Result<BitmapsPart<i64>, AllocError>
     requires { (0 < size) × (size ≤ 1048576) }
 {
@@ -29,7 +30,7 @@ fn pieced(alloc: Global, cells: &[i64], size: usize) -> Result<BitmapsPart<i64>,
     Ok(whole)
 }
 
-/// The text of cells that were cut in pieces of this length.
+/// The text of cells that were cut into pieces of this length.
 fn pieced_text(alloc: Global, cells: &[i64], size: usize) -> Result<Vec<u8>, AllocError>
     requires { (0 < size) × (size ≤ 1048576) }
 {

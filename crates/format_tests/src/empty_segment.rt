@@ -1,4 +1,4 @@
-//! A segment of no rows, with a column in each code.
+//! A segment without rows, with a column in each encoding.
 use crate::deltas::images::image_of;
 use cs_catalog::read_catalog;
 use cs_schema::Cells;
@@ -10,7 +10,7 @@ use test_support::files::sealed;
 const SEGMENT: &[u8] = b"CSSEG001\0\0\0\0\0\0\0\0\0\x04\
 \x03\x01\0\0\0\0\x01\x01\0\0\0\0\x02\x02\0\0\0\0\x04\x02\0\0\0\0";
 
-/// No changes of no rows, without the digest.
+/// The delta without items for no rows, without the digest.
 const DELTA: &[u8] = b"CSDEL001\0\0\0\0\0\0\0\0\0\0\0\0\0\0\0\0";
 
 /// Whether there are four columns, each of no cells.

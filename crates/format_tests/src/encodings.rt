@@ -1,4 +1,4 @@
-//! Codes of columns: texts given to the byte, cut and joined, and bytes that are no text.
+//! Encodings: texts given to the byte, cut and joined, and bytes that are no text.
 ghost use Rattle.std.specs.Prelude.{◌≡◌, ◌≤◌, ℤ, List, ◌++◌, length, IfOk};
 
 use crate::made::are_made;
@@ -11,7 +11,7 @@ use cs_codec::runs::Runs;
 use cs_schema::Word;
 use std::alloc::{AllocError, Global};
 
-/// The text of two lists, one after the other, each of which had a part of its own.
+/// The text of two lists, one after the other, each encoded as a part of its own.
 fn joined<E: Encoding<i64>>(
     alloc: Global,
     front: &[i64],
@@ -28,7 +28,7 @@ fn joined<E: Encoding<i64>>(
     E::write(alloc, &whole)
 }
 
-/// The first cut of the cells whose parts have not this text together.
+/// The first cut of the cells whose parts do not have this text together.
 fn wrong_cut<E: Encoding<i64>>(alloc: Global, cells: &[i64], text: &[u8]) -> Option<usize>
     requires { (list : List ℤ) → length list ≤ length cells.now → E.fits list }
 {
@@ -40,7 +40,7 @@ fn wrong_cut<E: Encoding<i64>>(alloc: Global, cells: &[i64], text: &[u8]) -> Opt
     None
 }
 
-/// Whether these are the cells that are read of a text.
+/// Whether these cells are read from a text.
 fn reads<E: Encoding<i64>>(alloc: Global, text: &[u8], wanted: &[i64]) -> bool
     requires { length wanted.now ≤ 1048576 }
 {
@@ -50,7 +50,7 @@ fn reads<E: Encoding<i64>>(alloc: Global, text: &[u8], wanted: &[i64]) -> bool
     }
 }
 
-/// Whether the bytes are the text of no list of so many cells.
+/// Whether the bytes are not the text of a list of this many cells.
 fn refuses<C: Cell, E: Encoding<C>>(alloc: Global, bytes: &[u8], rows: u32) -> bool
     requires { rows ≤ 1048576 }
 {
@@ -60,7 +60,7 @@ fn refuses<C: Cell, E: Encoding<C>>(alloc: Global, bytes: &[u8], rows: u32) -> b
 /// The cells 1, 4, 7, 7, 8, 12.
 const RISING_TEXT: [u8; 17] = [0, 0, 0, 1, 0, 0, 0, 0, 0, 0, 0, 1, 3, 3, 0, 1, 4];
 
-/// A part of cells that don't fall, each of which had a part of its own. Of others the first few.
+/// A part of ascending cells, each of which had a part of its own. Of other cells the first few.
 fn rising(alloc: Global, cells: &[i64]) -> Result<DifferencesPart, AllocError> {
     let mut whole = Differences::encode(alloc, &[])?;
     for cell in cells {
@@ -73,7 +73,7 @@ fn rising(alloc: Global, cells: &[i64]) -> Result<DifferencesPart, AllocError> {
     Ok(whole)
 }
 
-/// The text of cells that were cut in two. Of cells that fall the text of the first few.
+/// The text of cells that were cut in two. Of cells that do not ascend, the text of the first few.
 fn cut(alloc: Global, front: &[i64], back: &[i64]) -> Result<Vec<u8>, AllocError> {
     let left = rising(alloc, front)?;
     let right = rising(alloc, back)?;
@@ -102,7 +102,7 @@ fn differences_are_read(rt: HostRuntime) {
 
 #[test]
 fn bytes_that_are_no_differences(rt: HostRuntime) {
-    // The second group of bits could be left out.
+    // the second group of bits is redundant
     let longer = [0, 0, 0, 1, 0, 0, 0, 0, 0, 0, 0, 0, 0x80, 0];
     for (bytes, rows) in [
         (RISING_TEXT.as_slice(), 5),
@@ -116,7 +116,7 @@ fn bytes_that_are_no_differences(rt: HostRuntime) {
     }
 }
 
-/// The least and the greatest of all cells.
+/// The smallest and the greatest of all cells.
 const WIDEST_TEXT: [u8; 22] = [
     0, 0, 0, 1, 0x80, 0, 0, 0, 0, 0, 0, 0, 0xff, 0xff, 0xff, 0xff, 0xff, 0xff, 0xff, 0xff, 0xff, 1,
 ];
@@ -128,7 +128,7 @@ fn the_widest_difference(rt: HostRuntime) {
     assert!(rt; reads::<Differences>(rt.alloc(), &WIDEST_TEXT, &[i64::MIN, i64::MAX]));
 }
 
-/// 130 times the cell 7: a block of 128 cells and one of the others. That of 129 times has a byte less.
+/// 130 times the cell 7: a block of 128 cells, and one more block. That of 129 cells has a byte less.
 const SEVENS_TEXT: &[u8; 152] = b"\0\0\0\x01\0\0\0\0\0\0\0\x07\0\0\0\0\0\0\0\
 \0\0\0\0\0\0\0\0\0\0\0\0\0\0\0\0\0\0\0\0\0\0\0\0\0\0\0\0\0\0\0\0\0\0\0\0\0\0\0\0\
 \0\0\0\0\0\0\0\0\0\0\0\0\0\0\0\0\0\0\0\0\0\0\0\0\0\0\0\0\0\0\0\0\0\0\0\0\0\0\0\0\
@@ -244,7 +244,7 @@ fn are_words(words: &[Word], wanted: &[&str]) -> bool {
             .all(|(word, text)| word.as_str() == *text)
 }
 
-/// Whether a text is read as these words, and written again as it was.
+/// Whether a text is read as these words, and written again unchanged.
 fn is_text_of_words(alloc: Global, text: &[u8], wanted: &[&str]) -> Result<bool, CodecFault>
     requires { length wanted.now ≤ 1048576 }
 {

@@ -1,4 +1,4 @@
-//! Bytes that no line of catalog_cases can be.
+//! Bytes that cannot be a line of `catalog_cases`.
 use cs_catalog::explain;
 use cs_schema::samples::TWO_ORDERS;
 

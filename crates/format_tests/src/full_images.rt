@@ -31,7 +31,7 @@ const FULL: &[u8] = b"CSSEG001\0\0\0\0\0\x10\0\0\0\x01\
 const ONE_MORE: &[u8] = b"CSDEL001\0\0\0\0\0\x10\0\0\0\x10\0\x01\0\0\0\x01\
 \x01\0\0\0\0\0\x10\0\x01\0\0\0\0\0\0\0\x07";
 
-/// The row of `ONE_MORE` in the place of what was the first, without the digest.
+/// The row of `ONE_MORE` in place of the first, without the digest.
 const ANOTHER: &[u8] = b"CSDEL001\0\0\0\0\0\x10\0\0\0\x10\0\x01\0\0\0\x02\
 \x01\0\0\0\0\0\x10\0\x01\0\0\0\0\0\0\0\x07\x02\0\0\0\0";
 

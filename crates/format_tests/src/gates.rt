@@ -1,4 +1,4 @@
-//! Gates that hold workers, and count the pieces that are begun.
+//! Gates that hold workers and count the pieces that have begun.
 ghost use Rattle.std.specs.Prelude.{◌≡◌, ◌<◌, ◌≤◌, ◌^◌, false, length};
 
 use crate::squares::{Squares, has_answers, is_refused_at_one};
@@ -6,10 +6,10 @@ use cs_board::{Gate, Work, run, run_in_turn};
 use std::sync::atomic::{AtomicU64, Ordering};
 use std::thread::Threads;
 
-// A gate that waits in vain gives up after so many turns.
+// A gate that waits in vain gives up after this many turns of a loop.
 const TURNS: u64 = 1_000_000_000;
 
-// Holds each piece below a number until so many pieces are begun.
+// Holds each piece below a number until this many pieces have begun.
 #[derive(Drop)]
 struct Holding {
     below: u32,
@@ -33,7 +33,8 @@ impl Gate for Holding {
     }
 }
 
-// Whether so many workers answer the squares, at a gate that holds each piece below a number until all pieces are begun.
+// Whether this many workers answer the squares, at a gate that holds each piece below a number until all pieces have
+// begun.
 fn square_while_held(
     rt: &(impl Threads + Sync + AllocGlobal),
     workers: u32,
@@ -69,7 +70,7 @@ fn shares_are_not_fixed(rt: HostRuntime) {
     assert!(rt; square_while_held(&rt, 2, 1, &[0, 1, 4, 9]));
 }
 
-// Counts the pieces that are begun, and adds up their numbers.
+// Counts the pieces that have begun, and adds up their numbers.
 #[derive(Drop)]
 struct Counting {
     entered: AtomicU64,

@@ -1,4 +1,4 @@
-//! Join indexes: their files, and bytes that are none.
+//! Join indexes: their files, and bytes that are not one.
 use crate::made::are_made;
 use cs_jix::{read_jix, write_jix};
 use cs_segment::fault::FileFault;
@@ -47,14 +47,14 @@ fn is_damaged(alloc: Global, q: u16, bytes: &[u8]) -> bool {
 fn files_are_damaged(rt: HostRuntime) {
     let mut bytes = sealed(rt.alloc(), &BODY).expect(&rt, "a file");
     bytes.push(0).expect(&rt, "a byte more");
-    // Another target, no bytes, a byte less, a byte more.
+    // another target, no bytes, a byte less, a byte more
     for (q, len) in [(0u16, 68usize), (1, 0), (1, 67), (1, 69)] {
         let text = bytes.as_slice().get(..len).expect(&rt, "so many bytes");
         assert!(rt; is_damaged(rt.alloc(), q, text), "{len} bytes");
     }
 }
 
-/// What is read of the file with one byte of its body changed.
+/// What is read from the file with one byte of its body changed.
 fn fault_of(alloc: Global, at: usize, value: u8) -> Result<Option<FileFault>, AllocError> {
     let mut bytes = BODY.as_slice().to_vec(alloc)?;
     if at < bytes.len() {

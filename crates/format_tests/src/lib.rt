@@ -1,5 +1,5 @@
-//! Tests of the layers that files are read and written by: vectors, printed text, hostile bytes; of saves whose files are
-//! written side by side; of the board that work is drawn from, and of rounds over it.
+//! Tests of the layers that read and write files: vectors, printed text, hostile bytes; of saves whose files are
+//! written in parallel; of the claim board, and of rounds over it.
 #![tactic(auto)]
 
 #[cfg(test)]

@@ -1,4 +1,4 @@
-//! Pieces of columns: their texts in each code, and which of them join.
+//! Parts of columns: their texts in each encoding, and which of them join.
 ghost use Rattle.std.specs.Prelude.{◌≤◌};
 
 use crate::made::are_made;
@@ -18,14 +18,14 @@ const BITMAPS: &[u8] = &[
     1, 97, 0, 0, 0, 2, 0, 0, 0, 0, 0, 0, 0, 2, 1, 98, 0, 0, 0, 2, 0, 0, 0, 2, 0, 0, 0, 1,
 ];
 
-/// Columns of three rows by their code, and the same column in its code.
+/// Columns of three rows by their encoding, and the same column in its encoding.
 const CODES: [(Code, &[u8]); 3] = [
     (Code::Plain, PLAIN),
     (Code::Runs, RUNS),
     (Code::Bitmaps, BITMAPS),
 ];
 
-/// The column of three rows that is read of the bytes, as a piece in a code that fits all columns.
+/// The column of three rows that is read from the bytes, as a part in an encoding that fits all columns.
 fn piece_of(alloc: Global, from: Code, bytes: &[u8], to: Code) -> Result<Piece, CodecFault> {
     let cells = read_column(alloc, from, Kind::Text, bytes, 3)?;
     let to = match to {
@@ -39,7 +39,7 @@ fn text_of(alloc: Global, piece: Piece) -> Result<Vec<u8>, AllocError> {
     write_piece(alloc, &piece)
 }
 
-/// The text of the column in another code.
+/// The text of the column in another encoding.
 fn written(alloc: Global, from: Code, bytes: &[u8], to: Code) -> Result<Vec<u8>, CodecFault> {
     let piece = piece_of(alloc, from, bytes, to)?;
     Ok(text_of(alloc, piece)?)
@@ -66,7 +66,7 @@ fn runs_merge_where_pieces_join_with_ample_memory(rt: HostRuntime) {
     assert!(rt; are_made(text_of(alloc, whole), &[1, 97, 0, 0, 0, 1, 0, 0, 0, 2]));
 }
 
-/// Whether this is the text of the runs of the texts a, a, b that begin from one of them up to another.
+/// Whether this is the text of the runs of the texts a, a, b that begin within a range of them.
 fn is_part(alloc: Global, from: usize, to: usize, wanted: &[u8]) -> bool
     requires { (from ≤ to) × (to ≤ 3) }
 {
@@ -97,7 +97,7 @@ fn pieces_of_two_codes_do_not_join(rt: HostRuntime) {
     assert!(rt; !do_join(runs, bitmaps));
 }
 
-/// Whether no bytes are no texts in a code.
+/// Whether no bytes are a column without texts in an encoding.
 fn reads_no_texts(alloc: Global, code: Code) -> bool {
     match read_column(alloc, code, Kind::Text, &[], 0) {
         Ok(cells) => cells.is_empty() && cells.kind() == Kind::Text,

@@ -24,7 +24,8 @@ fn segments(alloc: Global, count: u16) -> Result<FileSet, Fail> {
     Ok(files)
 }
 
-/// Saves five segments to a sink with this writer, and asks for the answer, the lengths of the files that it took, and the mark.
+/// Saves five segments to a sink with this writer, and expects the answer, the lengths of the files that it took, and
+/// the mark.
 fn expect_save(
     rt: &(impl Threads + Sync + AllocGlobal + Abort),
     writer: Option<Failing>,

@@ -1,4 +1,4 @@
-//! Segments' files: vectors, each byte of them changed, and long files that several threads read.
+//! Files of segments: vectors, each of their bytes changed, and long files that several threads read.
 mod growing;
 mod hostile;
 mod long_files;
@@ -29,7 +29,7 @@ pub fn two_orders(rt: &(impl Abort + AllocGlobal)) -> Catalog
     catalog
 }
 
-/// Whether the bytes are no file of a segment.
+/// Whether the bytes are not the file of a segment.
 pub fn is_damaged(alloc: Global, catalog: &Catalog, p: u16, s: u16, bytes: &[u8]) -> bool
     requires { p < length catalog.now.projections }
 {

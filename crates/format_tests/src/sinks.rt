@@ -9,7 +9,7 @@ use std::alloc::Global;
 use std::cell::RefCell;
 use std::rc::Rc;
 
-/// A writer that fails at the files of one projection's segments with a number from the first on.
+/// A writer that fails at the files of one projection's segments from a number on.
 #[derive(Drop)]
 pub struct Failing {
     pub from: u16,
@@ -24,7 +24,7 @@ impl FileWriter for Failing {
     }
 }
 
-/// What a sink took: the lengths of the files, in the order of their puts, and the mark.
+/// What a sink took: the lengths of the files, in the order of the puts, and the mark.
 #[derive(Drop)]
 pub struct Noted {
     pub lengths: Vec<usize>,

@@ -1,4 +1,4 @@
-//! A board played through by hand, and rounds of squares of which some are refused.
+//! A board played through by hand, and rounds of squares of which some fail.
 ghost use Rattle.std.specs.Prelude.{◌≡◌, IfSome};
 ghost use Rattle.std.specs.List.{Contains};
 
@@ -14,7 +14,7 @@ pub enum SquareFault {
     Refused(u32),
 }
 
-// The square of each number below a count. Two numbers are refused, and at one memory is wanting.
+// The square of each number below a count. Two numbers fail, and one runs out of memory.
 #[derive(Drop)]
 pub struct Squares {
     pub count: u32,
@@ -86,7 +86,7 @@ impl Work for Squares {
     ghost one_fault = { λ work i f g below at here. at ∙ sym here };
 }
 
-// Draws the numbers below 3 with two seats: 0 and 2 with the first, 1 with the second. The answer is 1 and 2.
+// Claims the numbers below 3 from two seats: 0 and 2 from the first, 1 from the second. The answer is 1 and 2.
 fn draw_three(board: &Board, a: &mut Seat, b: &mut Seat) -> Option<(u32, u32)>
     requires at { (a.old.board ≡ board.now) × (b.old.board ≡ board.now) }
     requires running { (a.old.over ≡ 0) × (b.old.over ≡ 0) }
@@ -143,7 +143,7 @@ pub fn has_answers<F: Drop>(round: Result<Vec<u64>, RunFault<F>>, wanted: &[u64]
     }
 }
 
-// Whether a round ends at piece 1, which is refused.
+// Whether a round ends at piece 1, which fails.
 pub fn is_refused_at_one(round: Result<Vec<u64>, RunFault<SquareFault>>) -> bool {
     matches!(round, Err(RunFault::At(1, SquareFault::Refused(1))))
 }

@@ -44,7 +44,7 @@ const NAMES: [FileName; 5] = [
 
 const SEGMENT: FileName = FileName::Seg { p: 0, s: 0 };
 
-/// Files of all names but the second, put in another order, and one that the catalog doesn't have.
+/// Files of all names but the second, put in another order, and one that the catalog does not have.
 fn files(alloc: Global) -> Result<FileSet, AllocError> {
     let mut files = FileSet::new(alloc)?;
     for (i, name) in NAMES.iter().enumerate().rev() {
@@ -56,7 +56,7 @@ fn files(alloc: Global) -> Result<FileSet, AllocError> {
     Ok(files)
 }
 
-/// The names of the files in their order, each with a space behind it.
+/// The names of the files in their order, each followed by a space.
 fn listed(alloc: Global, files: &FileSet) -> Result<String, fmt::Error> {
     let mut names = String::new(alloc);
     for i in 0..files.len() {
@@ -79,7 +79,7 @@ fn lists_in_the_order_of_names(rt: HostRuntime) {
     assert!(rt; files.get(NAMES[1]).is_none());
 }
 
-/// Whether a load ends with this fault at a failure that came, where the source counted so many faults.
+/// Whether a load fails with this fault at the planned failure, and the source counted this many faults.
 fn load_fails(
     alloc: Global,
     catalog: &Catalog,
@@ -107,7 +107,7 @@ fn names_the_read_that_failed(rt: HostRuntime) {
     }
 }
 
-/// Whether these are the names of the first of the files, so many.
+/// Whether these are the first `count` of the files.
 fn are_first(first: &FileSet, files: &FileSet, count: usize) -> bool {
     if first.len() != count || files.len() < count {
         return false;
@@ -120,7 +120,7 @@ fn are_first(first: &FileSet, files: &FileSet, count: usize) -> bool {
     true
 }
 
-/// Whether a save ends with this fault at a failure that came, where the sink counted so many faults and took no mark.
+/// Whether a save fails with this fault at the planned failure, and the sink counted this many faults and took no mark.
 fn save_fails(
     alloc: Global,
     files: &FileSet,

@@ -11,16 +11,16 @@ use cs_segment::seal::seal;
 use std::alloc::{AllocError, Global};
 use test_support::files::{changed, sealed};
 
-/// No changes of four rows.
+/// A delta without items for four rows.
 const EMPTY: &[u8] = b"CSDEL001\0\0\0\0\0\0\0\x04\0\0\0\x04\0\0\0\0";
 
-/// A layer that gives key 4 once more.
+/// A layer that assigns key 4 again.
 const SAME_KEY: &[u8] = b"\0\0\0\x01\x01\0\0\0\0\0\0\0\x04\0\0\0\0\0\0\0\x05";
 
 /// A layer without the fifth row.
 const FIFTH_ROW: &[u8] = b"\0\0\0\x01\x02\0\0\0\x04";
 
-/// A layer that counts more items than it has.
+/// A layer that claims more items than it has.
 const HOSTILE: &[u8] = b"\xff\xff\xff\xff\x02\0\0\0\0";
 
 fn write_cell(out: &mut Vec<u8>, cell: &ItemCell) -> Result<(), AllocError> {
@@ -57,7 +57,7 @@ fn write_item(out: &mut Vec<u8>, item: &Item) -> Result<(), AllocError> {
     Ok(())
 }
 
-/// What stands before the items of a delta of one layer, or before its layers.
+/// The bytes before the items of a delta of one layer, or before its layers.
 fn write_head(out: &mut Vec<u8>, delta: &Delta) -> Result<(), AllocError> {
     let mark: &[u8] = if delta.version == 1 {
         b"CSDEL001"
@@ -93,7 +93,7 @@ fn written(alloc: Global, delta: &Delta) -> Result<Vec<u8>, AllocError> {
     Ok(out)
 }
 
-/// Whether the bytes are the file of what is read of them.
+/// Whether the bytes are the file of what is read from them.
 fn is_written_again(alloc: Global, catalog: &Catalog, bytes: &[u8]) -> bool
     requires { 0 < length catalog.now.projections }
 {
@@ -103,7 +103,7 @@ fn is_written_again(alloc: Global, catalog: &Catalog, bytes: &[u8]) -> bool
     }
 }
 
-/// Whether the bytes are the file of no delta.
+/// Whether the bytes are not the file of a delta.
 fn is_damaged(alloc: Global, catalog: &Catalog, bytes: &[u8]) -> bool
     requires { 0 < length catalog.now.projections }
 {
@@ -126,7 +126,7 @@ fn is_guarded(alloc: Global, catalog: &Catalog, bytes: &[u8]) -> Result<bool, Al
     Ok(true)
 }
 
-/// Whether the body with any byte changed, sealed again, is damaged or is the file of what is read of it.
+/// Whether the body with any byte changed and a new digest is damaged or is the file of what is read from it.
 fn is_one_text(alloc: Global, catalog: &Catalog, body: &[u8]) -> Result<bool, AllocError>
     requires { 0 < length catalog.now.projections }
 {
@@ -140,7 +140,7 @@ fn is_one_text(alloc: Global, catalog: &Catalog, body: &[u8]) -> Result<bool, Al
     Ok(true)
 }
 
-/// Whether the file of a delta, given without its digest, is written again as it was, and guarded against changes.
+/// Whether the file of a delta, given without its digest, is written again unchanged, and guarded against changes.
 fn is_read_exactly(alloc: Global, catalog: &Catalog, body: &[u8]) -> Result<bool, AllocError>
     requires { 0 < length catalog.now.projections }
 {
@@ -171,7 +171,7 @@ fn empty_deltas_are_written_with_ample_memory(rt: HostRuntime) {
     assert!(rt; are_made(write_empty_delta(rt.alloc(), 0, 0, 4), &wanted));
 }
 
-/// How many layers a file says that it has, and those that it has. No delta has such a file.
+/// The number of layers that a file claims, and its layers. No delta has such a file.
 const NO_DELTAS: [(u8, &[&[u8]]); 7] = [
     (0, &[]),
     (4, &[NO_ITEMS, NO_ITEMS, NO_ITEMS, NO_ITEMS]),
@@ -182,7 +182,7 @@ const NO_DELTAS: [(u8, &[&[u8]]); 7] = [
     (1, &[HOSTILE]),
 ];
 
-/// Whether layers make the file of no delta.
+/// Whether the file of these layers is damaged.
 fn are_damaged(
     alloc: Global,
     catalog: &Catalog,

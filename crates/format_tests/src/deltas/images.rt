@@ -17,7 +17,7 @@ const THREE_ROWS: &[u8] = b"CSSEG001\0\0\0\0\0\0\0\x03\0\x01\x04\x01\0\0\0\x18\
 const TWO_ROWS: &[u8] = b"CSSEG001\0\0\0\0\0\0\0\x02\0\x01\x04\x01\0\0\0\x10\
 \0\0\0\0\0\0\0\x0a\0\0\0\0\0\0\0\x14";
 
-/// The image of a segment and a delta that stand in these files.
+/// The image of a segment and a delta in these files.
 fn image_of_files(
     alloc: Global,
     catalog: &Catalog,
@@ -33,7 +33,7 @@ fn image_of_files(
     merge(alloc, &segment, &delta)
 }
 
-/// The image of a segment and a delta that stand in files, given without their digests.
+/// The image of a segment and a delta in files that are given without their digests.
 pub fn image_of(
     alloc: Global,
     catalog: &Catalog,
@@ -66,7 +66,7 @@ fn shows(image: &Image, ints: &[i64], keys: &[u32]) -> bool
     }
 }
 
-/// Layers in version 2, and whether they are those of a delta: the ints and keys of its image over 10, 20, 30.
+/// Layers in version 2, and the ints and keys of their image over 10, 20, 30, if they are those of a delta.
 struct Layers {
     count: u8,
     layers: &'static [&'static [u8]],
@@ -101,7 +101,7 @@ const MERGED: [Layers; 4] = [
     },
 ];
 
-/// Whether the image of the three rows and these layers is as it should be.
+/// Whether the image of the three rows and these layers is as expected.
 fn is_merged(alloc: Global, catalog: &Catalog, wanted: &Layers) -> Result<bool, FileFault>
     requires { 0 < length catalog.now.projections }
 {

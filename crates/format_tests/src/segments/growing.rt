@@ -1,4 +1,4 @@
-//! A file that grows, column by column.
+//! A file that grows column by column.
 ghost use Rattle.std.specs.Prelude.{◌<◌, ◌≤◌, length, IfOk};
 ghost use Rattle.cs_segment.specs.Growing.{joined};
 
@@ -16,7 +16,7 @@ const FIRST: &[u8; 32] =
 const SECOND: &[u8; 32] =
     b"\0\0\0\0\0\0\0\x1e\0\0\0\0\0\0\0\x0a\0\0\0\0\0\0\0\x14\0\0\0\0\0\0\0\x0a";
 
-/// The text of a column in one piece.
+/// The text of a column in one part.
 fn piece_of(alloc: Global, text: &[u8; 32]) -> Result<Vec<Vec<u8>>, AllocError>
     ensures { IfOk result (λ pieces. length (joined pieces.items) ≤ 32) }
 {
@@ -25,7 +25,7 @@ fn piece_of(alloc: Global, text: &[u8; 32]) -> Result<Vec<Vec<u8>>, AllocError>
     Ok(pieces)
 }
 
-/// Puts a column of plain ints into a file, where it waits or doesn't.
+/// Puts a column of plain ints into a file, deferred or not.
 fn put(
     rt: &(impl Threads + Sync + AllocGlobal),
     file: &mut GrowingFile,
@@ -39,7 +39,7 @@ fn put(
     file.push_pieces(rt, Code::Plain, Kind::Int, pieces)
 }
 
-/// The file of the plain rows, of which the first column waits or doesn't, and so the second.
+/// The file of the plain rows. The first column is deferred or not, and so is the second.
 fn grown(
     rt: &(impl Threads + Sync + AllocGlobal),
     catalog: &Catalog,

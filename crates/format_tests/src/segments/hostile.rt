@@ -1,9 +1,9 @@
-//! Bytes that are no segment.
+//! Bytes that are not a segment.
 use super::{PLAIN, is_damaged, two_orders};
 use std::alloc::{AllocError, Global};
 use test_support::files::sealed;
 
-/// The bytes with four of them the highest.
+/// The bytes with four of them set to 255.
 fn with_a_high_count(alloc: Global, bytes: &[u8], at: usize) -> Result<Vec<u8>, AllocError> {
     let mut out = Vec::new(alloc);
     for (i, byte) in bytes.iter().enumerate() {

@@ -47,7 +47,7 @@ fn long_files_are_read_by_threads_with_ample_memory(rt: HostRuntime) {
     assert!(rt; is_long(&segment));
 }
 
-/// Whether threads find that the bytes are no file of the first segment.
+/// Whether threads find that the bytes are not the file of the first segment.
 fn par_is_damaged(rt: &(impl Threads + Sync + AllocGlobal), catalog: &Catalog, bytes: &[u8]) -> bool
     requires { 0 < length catalog.now.projections }
 {

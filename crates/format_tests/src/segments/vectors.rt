@@ -15,11 +15,12 @@ use std::alloc::{AllocError, Global};
 use test_support::catalogs::FOUR_CODES;
 use test_support::files::{changed, sealed};
 
-/// No rows, under each code.
+/// No rows, under each encoding.
 const EMPTY: &[u8; 42] = b"CSSEG001\0\0\0\0\0\0\0\0\0\x04\
 \x03\x01\0\0\0\0\x01\x01\0\0\0\0\x02\x02\0\0\0\0\x04\x02\0\0\0\0";
 
-/// Three rows under each code: 1, 2, 3 as differences, 5, 5, 6 in runs, x, x, y in bitmaps, and an empty text, ab and c, plain.
+/// Three rows under each encoding: 1, 2, 3 as differences, 5, 5, 6 as runs, x, x, y as bitmaps, and an empty text, ab
+/// and c, plain.
 const FULL: &[u8; 122] = b"CSSEG001\0\0\0\0\0\0\0\x03\0\x04\
 \x03\x01\0\0\0\x0e\0\0\0\x01\0\0\0\0\0\0\0\x01\x01\x01\
 \x01\x01\0\0\0\x20\0\0\0\0\0\0\0\x05\0\0\0\x01\0\0\0\x02\0\0\0\0\0\0\0\x06\0\0\0\x03\0\0\0\x01\
@@ -100,7 +101,7 @@ const VECTORS: [Vector; 7] = [
     },
 ];
 
-/// A piece for each column.
+/// A part for each column.
 fn pieces_of(
     alloc: Global,
     catalog: &Catalog,
@@ -119,7 +120,7 @@ fn pieces_of(
     Ok(pieces)
 }
 
-/// A file that was read, written again: the same bytes.
+/// A file that is read and written again: the same bytes.
 fn again(
     alloc: Global,
     catalog: &Catalog,
@@ -135,7 +136,7 @@ fn again(
     Ok(write_segment(alloc, catalog, p, s, segment.rows, &pieces)?)
 }
 
-/// Whether the bytes are written again as they were, where they are a segment's file.
+/// Whether the bytes are written again unchanged, if they are a segment's file.
 fn is_written_again(alloc: Global, catalog: &Catalog, p: u16, s: u16, bytes: &[u8]) -> bool
     requires { p < length catalog.now.projections }
 {
@@ -166,7 +167,7 @@ fn is_guarded(
     Ok(true)
 }
 
-/// Whether the body with any byte changed, sealed again, is damaged or is written again as it was.
+/// Whether the body with any byte changed and a new digest is damaged or is written again unchanged.
 fn is_one_text(
     alloc: Global,
     catalog: &Catalog,
@@ -188,7 +189,7 @@ fn is_one_text(
     Ok(true)
 }
 
-/// Whether a vector is written again as it was, and no other bytes near it are read as it is.
+/// Whether a vector is written again unchanged, and no other bytes near it are read as it is.
 fn is_read_exactly(alloc: Global, catalog: &Catalog, vector: &Vector) -> Result<bool, AllocError>
     requires { vector.now.p < length catalog.now.projections }
 {
