@@ -1,0 +1,91 @@
+//! The calls of a file system.
+ghost use Rattle.std.specs.Prelude.{◌≡◌, ℕ, List, IfOk, OnOk, OnErr};
+ghost use Rattle.cs_file_system.specs.Calls.{Adds, Always, Calls, IsNoMore, IsSettled, IsSynced, MayAdd, finish, keep, remove, rename, sync, sync_folder, write};
+ghost use Rattle.cs_file_system.specs.Seeing.{IsSeen};
+
+use crate::standing::Standing;
+use std::io;
+
+/// A file system whose calls are remembered. A path is the bytes of its text.
+pub trait FileSystem {
+    /// A new file that is open.
+    type File: Drop;
+
+    /// The calls that were made so far, the last one first. The file system of the system, of which no contract is told, makes
+    /// no claim (no such calls).
+    ghost made: { Self → Calls → Type 0 };
+
+    /// An open file is the one that was made at this path.
+    ghost is_at: { Self.File → List ℕ → Type 0 };
+
+    /// What stands at a path.
+    fn look(&mut self, path: &str) -> io::Result<Standing>
+        ensures ok { IfOk result (λ found. IsSeen found path.now (made self.old) (made self.new)) }
+        ensures err { OnErr result (IsNoMore (made self.old) (made self.new)) };
+
+    /// Makes a new file of these bytes. Until a sync they may not be on the disk.
+    fn write_new(&mut self, path: &str, bytes: &[u8]) -> io::Result<Self::File>
+        ensures file { IfOk result (λ file. is_at file path.now) }
+        ensures ok { OnOk result (Adds (write path.now) (made self.old) (made self.new)) }
+        ensures err { OnErr result (MayAdd (write path.now) (made self.old) (made self.new)) };
+
+    /// Makes the mark, of these bytes, that a folder is whole. The folder's names are on the disk.
+    fn write_mark(&mut self, folder: &str, path: &str, bytes: &[u8]) -> io::Result<Self::File>
+        requires { Always (made self.old) (IsSettled folder.now) }
+        ensures file { IfOk result (λ file. is_at file path.now) }
+        ensures ok { OnOk result (Adds (write path.now) (made self.old) (made self.new)) }
+        ensures err { OnErr result (MayAdd (write path.now) (made self.old) (made self.new)) };
+
+    /// Gives the file beside a path the owner and the mode of what stands there, or where that is no file, of the folder.
+    fn give_owner(&mut self, folder: &str, path: &str, beside: &str) -> io::Result<()>
+        ensures { IsNoMore (made self.old) (made self.new) };
+
+    /// Brings the bytes of a file to the disk.
+    fn sync(&mut self, path: &str, file: &mut Self::File) -> io::Result<()>
+        requires { is_at file.old path.now }
+        ensures ok { OnOk result (Adds (sync path.now) (made self.old) (made self.new)) }
+        ensures err { OnErr result (IsNoMore (made self.old) (made self.new)) };
+
+    /// Gives a new file, whose bytes are on the disk, another name, in the place of what has that name.
+    fn rename(&mut self, from: &str, to: &str) -> io::Result<()>
+        requires { Always (made self.old) (IsSynced from.now) }
+        ensures ok { OnOk result (Adds (rename from.now to.now) (made self.old) (made self.new)) }
+        ensures err { OnErr result (MayAdd (rename from.now to.now) (made self.old) (made self.new)) };
+
+    /// Gives a new folder, whose names are on the disk, another name.
+    fn rename_folder(&mut self, from: &str, to: &str) -> io::Result<()>
+        requires { Always (made self.old) (IsSettled from.now) }
+        ensures ok { OnOk result (Adds (rename from.now to.now) (made self.old) (made self.new)) }
+        ensures err { OnErr result (MayAdd (rename from.now to.now) (made self.old) (made self.new)) };
+
+    /// Gives what stands at a path a second name, unless something has that name already.
+    fn link(&mut self, from: &str, to: &str) -> io::Result<()>
+        ensures ok { OnOk result (Adds (keep from.now to.now) (made self.old) (made self.new)) }
+        ensures err { OnErr result (MayAdd (keep from.now to.now) (made self.old) (made self.new)) };
+
+    /// Moves a folder to another name, unless something has that name already.
+    fn move_folder(&mut self, from: &str, to: &str) -> io::Result<()>
+        ensures ok { OnOk result (Adds (keep from.now to.now) (made self.old) (made self.new)) }
+        ensures err { OnErr result (MayAdd (keep from.now to.now) (made self.old) (made self.new)) };
+
+    /// Makes the folder, unless it is there.
+    fn make_folder(&mut self, path: &str) -> io::Result<()>
+        ensures ok { OnOk result (Adds (write path.now) (made self.old) (made self.new)) }
+        ensures err { OnErr result (MayAdd (write path.now) (made self.old) (made self.new)) };
+
+    /// Removes the file, if there is one.
+    fn remove(&mut self, path: &str) -> io::Result<()>
+        ensures ok { OnOk result (Adds (remove path.now) (made self.old) (made self.new)) }
+        ensures err { OnErr result (MayAdd (remove path.now) (made self.old) (made self.new)) };
+
+    /// Brings a folder's names to the disk.
+    fn sync_folder(&mut self, path: &str) -> io::Result<()>
+        ensures ok { OnOk result (Adds (sync_folder path.now) (made self.old) (made self.new)) }
+        ensures err { OnErr result (IsNoMore (made self.old) (made self.new)) };
+
+    /// Removes the mark of unfinished work on a folder, if there is one. The folder's names are on the disk.
+    fn finish(&mut self, folder: &str, mark: &str) -> io::Result<()>
+        requires { Always (made self.old) (IsSettled folder.now) }
+        ensures ok { OnOk result (Adds (finish mark.now) (made self.old) (made self.new)) }
+        ensures err { OnErr result (MayAdd (finish mark.now) (made self.old) (made self.new)) };
+}

@@ -1,0 +1,17 @@
+//! The calls by which files and folders are changed, and the orders in which they may be made.
+//!
+//! `FileSystem` remembers by a ghost member which calls were made, and what a call asks of those before it is its `requires`.
+//! So whoever is generic over it is proved to sync what it writes before that takes a name, and the names of a folder before
+//! the work on it ends. `SystemFiles` is that of the system.
+#![tactic(auto)]
+
+mod calls;
+mod owner;
+mod placing;
+mod standing;
+mod system;
+
+pub use calls::FileSystem;
+pub use placing::{mark, put, put_folder, put_owned, unmark, write_synced};
+pub use standing::Standing;
+pub use system::SystemFiles;

@@ -1,0 +1,98 @@
+//! The file system of the system. Each call is one of `std::fs`; that the trait says what it does is trusted.
+ghost use Rattle.std.specs.Prelude.{⊤};
+
+use crate::calls::FileSystem;
+use crate::owner::give_owner;
+use crate::standing::Standing;
+use std::fs::{OpenFile, OpenOptions};
+use std::io::{ErrorKind, Write};
+use std::rt::Files;
+use std::{fs, io};
+
+/// The file system of the system.
+#[derive(Drop)]
+pub struct SystemFiles<'a, R>(pub &'a R);
+
+/// That nothing is done if something has the name already.
+fn unless_taken(done: io::Result<()>) -> io::Result<()> {
+    match done {
+        Err(e) if e.kind() == ErrorKind::AlreadyExists => Ok(()),
+        done => done,
+    }
+}
+
+/// That nothing is done if nothing is there.
+fn unless_gone(done: io::Result<()>) -> io::Result<()> {
+    match done {
+        Err(e) if e.kind() == ErrorKind::NotFound => Ok(()),
+        done => done,
+    }
+}
+
+impl<R: Files> FileSystem for SystemFiles<'_, R> {
+    type File = R::File;
+
+    ghost made = { λ s calls. ⊥ };
+
+    ghost is_at = { λ file path. ⊤ };
+
+    fn look(&mut self, path: &str) -> io::Result<Standing> {
+        match fs::symlink_metadata(self.0, path) {
+            Ok(found) if found.is_dir() => Ok(Standing::Folder),
+            Ok(_) => Ok(Standing::File),
+            Err(e) if e.kind() == ErrorKind::NotFound => Ok(Standing::Nothing),
+            Err(e) => Err(e),
+        }
+    }
+
+    fn write_new(&mut self, path: &str, bytes: &[u8]) -> io::Result<R::File> {
+        let mut how = OpenOptions::new();
+        let mut file = how.write(true).create_new(true).open(self.0, path)?;
+        file.write_all(bytes)?;
+        Ok(file)
+    }
+
+    fn write_mark(&mut self, _folder: &str, path: &str, bytes: &[u8]) -> io::Result<R::File> {
+        self.write_new(path, bytes)
+    }
+
+    fn give_owner(&mut self, folder: &str, path: &str, beside: &str) -> io::Result<()> {
+        give_owner(self.0, folder, path, beside)
+    }
+
+    fn sync(&mut self, _path: &str, file: &mut R::File) -> io::Result<()> {
+        file.sync_all()
+    }
+
+    fn rename(&mut self, from: &str, to: &str) -> io::Result<()> {
+        fs::rename(self.0, from, to)
+    }
+
+    fn rename_folder(&mut self, from: &str, to: &str) -> io::Result<()> {
+        fs::rename(self.0, from, to)
+    }
+
+    fn link(&mut self, from: &str, to: &str) -> io::Result<()> {
+        unless_taken(fs::hard_link(self.0, from, to))
+    }
+
+    fn move_folder(&mut self, from: &str, to: &str) -> io::Result<()> {
+        unless_taken(fs::rename(self.0, from, to))
+    }
+
+    fn make_folder(&mut self, path: &str) -> io::Result<()> {
+        unless_taken(fs::create_dir(self.0, path))
+    }
+
+    fn remove(&mut self, path: &str) -> io::Result<()> {
+        unless_gone(fs::remove_file(self.0, path))
+    }
+
+    fn sync_folder(&mut self, path: &str) -> io::Result<()> {
+        fs::open(self.0, path)?.sync_all()
+    }
+
+    fn finish(&mut self, _folder: &str, mark: &str) -> io::Result<()> {
+        unless_gone(fs::remove_file(self.0, mark))
+    }
+}
