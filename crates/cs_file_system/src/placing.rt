@@ -67,16 +67,16 @@ pub fn mark<F: FileSystem>(
     ensures { OnOk result (Always (F.made files.new) (IsMarked folder.now parent.now path.now)) }
 {
     files.sync_folder(folder)?;
-    let mut file = files.write_mark(folder, path, bytes)?;
-    files.sync(path, &mut file)?;
+    let mut written = files.write_mark(folder, path, bytes)?;
+    files.sync(path, &mut written)?;
     files.sync_folder(folder)?;
     files.sync_folder(parent)
 }
 
-/// Removes the mark of unfinished work on a folder, once the names in it are on the disk. That it is gone is not yet.
-pub fn unmark<F: FileSystem>(files: &mut F, folder: &str, path: &str) -> io::Result<()>
-    ensures { OnOk result (Always (F.made files.new) (IsUnmarked folder.now path.now)) }
+/// Removes the mark of unfinished work in the folder `work`, once the names in it are on the disk. That it is gone is not yet.
+pub fn unmark<F: FileSystem>(files: &mut F, work: &str, path: &str) -> io::Result<()>
+    ensures { OnOk result (Always (F.made files.new) (IsUnmarked work.now path.now)) }
 {
-    files.sync_folder(folder)?;
-    files.finish(folder, path)
+    files.sync_folder(work)?;
+    files.finish(work, path)
 }

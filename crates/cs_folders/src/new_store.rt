@@ -2,9 +2,10 @@
 ghost use Rattle.std.specs.Prelude.{◌≡◌, ◌≤◌, ⊤, IsErrOf};
 ghost use Rattle.cs_store.specs.Fault.{CountsFault};
 
-use crate::output::{sync_folder, write_file};
+use crate::output::failed;
 use crate::paths::{file_in, no_memory, path_in};
 use crate::reading::read_file;
+use cs_file_system::{SystemFiles, put_folder, write_synced};
 use cs_schema::FileName;
 use cs_store::{Sink, StoreFault};
 use std::alloc::{AllocError, Global};
@@ -107,9 +108,7 @@ impl<R: Files> NewStoreFolder<R> {
 
     /// Writes a file, brings it to the disk, and reads it back: it must have the same bytes.
     fn write_checked(&self, path: &str, bytes: &[u8]) -> Result<(), StoreFault> {
-        if write_file(&self.rt, path, bytes).is_err() {
-            return Err(StoreFault::Device);
-        }
+        write_synced(&mut SystemFiles(&self.rt), path, bytes).map_err(failed)?;
         // what is longer than was written is none of it
         let limit = (bytes.len() as u64).min(u64::MAX / 2);
         match read_file(self.alloc, &self.rt, path, limit) {
@@ -119,13 +118,6 @@ impl<R: Files> NewStoreFolder<R> {
         }
     }
 
-    /// Gives the folder its name, once the names in it are on the disk, and brings that name there too.
-    fn name(&self, parent: &str) -> io::Result<()> {
-        sync_folder(&self.rt, self.partial.as_str())?;
-        fs::rename(&self.rt, self.partial.as_str(), self.path.as_str())?;
-        sync_folder(&self.rt, parent)
-    }
-
     /// Writes the catalog and gives the folder its name.
     fn finish(&self) -> Result<(), StoreFault> {
         let catalog = path_in(self.alloc, self.partial.as_str(), "catalog.toml").map_err(
@@ -133,10 +125,13 @@ impl<R: Files> NewStoreFolder<R> {
         )?;
         let parent = path_in(self.alloc, self.path.as_str(), "..").map_err(no_memory)?;
         self.write_checked(catalog.as_str(), self.catalog.as_slice())?;
-        match self.name(parent.as_str()) {
-            Ok(()) => Ok(()),
-            Err(_) => Err(StoreFault::Device),
-        }
+        let named = put_folder(
+            &mut SystemFiles(&self.rt),
+            self.partial.as_str(),
+            self.path.as_str(),
+            parent.as_str(),
+        );
+        named.map_err(failed)
     }
 }
 

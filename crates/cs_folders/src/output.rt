@@ -3,12 +3,11 @@ ghost use Rattle.std.specs.Prelude.{◌≡◌, ◌≤◌, ⊤, IsErrOf};
 ghost use Rattle.cs_store.specs.Fault.{CountsFault};
 
 use crate::paths::{file_in, no_memory, path_in};
+use cs_file_system::{SystemFiles, mark, write_synced};
 use cs_parallel_io::{BatchSink, FileWriter};
 use cs_schema::FileName;
 use cs_store::{Sink, StoreFault};
 use std::alloc::Global;
-use std::fs::OpenFile;
-use std::io::Write;
 use std::marker::Sync;
 use std::rt::Files;
 use std::{fs, io};
@@ -56,16 +55,7 @@ impl<R: Files> OutputFolder<R> {
     /// Writes the whole file, and brings it to the disk.
     fn write_file_of(&self, name: FileName, bytes: &[u8]) -> Result<(), StoreFault> {
         let path = file_in(self.alloc, self.path.as_str(), name).map_err(no_memory)?;
-        write_file(&self.rt, path.as_str(), bytes).map_err(failed)
-    }
-
-    /// Writes the mark, when the names of all files are on the disk, and then brings its own name there and
-    /// that of the folder.
-    fn write_mark(&self, path: &str, parent: &str, text: &str) -> io::Result<()> {
-        sync_folder(&self.rt, self.path.as_str())?;
-        write_file(&self.rt, path, text.as_bytes())?;
-        sync_folder(&self.rt, self.path.as_str())?;
-        sync_folder(&self.rt, parent)
+        write_synced(&mut SystemFiles(&self.rt), path.as_str(), bytes).map_err(failed)
     }
 }
 
@@ -87,8 +77,14 @@ impl<R: Files> Sink for OutputFolder<R> {
         let path = path_in(self.alloc, self.path.as_str(), MARK).map_err(no_memory)?;
         let parent = path_in(self.alloc, self.path.as_str(), "..").map_err(no_memory)?;
         let text = format!(in self.alloc; "files={files}\n").map_err(no_memory)?;
-        let written = self.write_mark(path.as_str(), parent.as_str(), text.as_str());
-        self.told(written.map_err(failed))
+        let marked = mark(
+            &mut SystemFiles(&self.rt),
+            self.path.as_str(),
+            parent.as_str(),
+            path.as_str(),
+            text.as_bytes(),
+        );
+        self.told(marked.map_err(failed))
     }
 
     fn faults(&self) -> u64 {
@@ -120,18 +116,6 @@ impl<R: Files + Sync> BatchSink for OutputFolder<R> {
 }
 
 /// The fault of a device that failed.
-fn failed(_error: io::Error) -> StoreFault {
+pub(crate) fn failed(_error: io::Error) -> StoreFault {
     StoreFault::Device
-}
-
-/// Writes the whole file, in the place of one that is there, and brings it to the disk.
-pub(crate) fn write_file<R: Files>(rt: &R, path: &str, bytes: &[u8]) -> io::Result<()> {
-    let mut file = fs::create(rt, path)?;
-    file.write_all(bytes)?;
-    file.sync_all()
-}
-
-/// Brings a folder's names to the disk.
-pub(crate) fn sync_folder<R: Files>(rt: &R, path: &str) -> io::Result<()> {
-    fs::open(rt, path)?.sync_all()
 }

@@ -1,7 +1,8 @@
-//! Texts of tables in files.
+//! Texts and pictures in files.
 use crate::new_store::partial_path;
-use crate::output::{sync_folder, write_file};
+use crate::output::failed;
 use crate::paths::no_memory;
+use cs_file_system::{FileSystem, SystemFiles, put};
 use cs_store::StoreFault;
 use std::alloc::Global;
 use std::rt::Files;
@@ -25,23 +26,24 @@ fn folder_of(path: &str) -> &str {
     }
 }
 
-/// Writes the text beside the path, brings it to the disk, and gives it its name.
-fn write_beside<R: Files>(rt: &R, path: &str, partial: &str, text: &[u8]) -> io::Result<()> {
-    write_file(rt, partial, text)?;
-    fs::rename(rt, partial, path)?;
-    sync_folder(rt, folder_of(path))
+/// Puts a file in place, and brings its name to the disk.
+fn put_named<F: FileSystem>(
+    files: &mut F,
+    beside: &str,
+    path: &str,
+    bytes: &[u8],
+) -> io::Result<()> {
+    put(files, beside, path, bytes)?;
+    files.sync_folder(folder_of(path))
 }
 
-/// Writes a text to a new file: it gets its name when all of it is on the disk.
-pub fn write_text<R: Files>(
+/// Writes a file, in the place of one that is there: it gets its name when all of it is on the disk.
+pub fn write_whole<R: Files>(
     alloc: Global,
     rt: &R,
     path: &str,
-    text: &[u8],
+    bytes: &[u8],
 ) -> Result<(), StoreFault> {
-    let partial = partial_path(alloc, path).map_err(no_memory)?;
-    match write_beside(rt, path, partial.as_str(), text) {
-        Ok(()) => Ok(()),
-        Err(_) => Err(StoreFault::Device),
-    }
+    let beside = partial_path(alloc, path).map_err(no_memory)?;
+    put_named(&mut SystemFiles(rt), beside.as_str(), path, bytes).map_err(failed)
 }

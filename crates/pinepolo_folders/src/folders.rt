@@ -7,7 +7,7 @@ use crate::rebuilt::rebuilt_names;
 use cs_folder_work::{FolderShelf, Taken, resume, take, take_undo, unfinished_kind};
 use cs_folders::{
     FileLimits, NewStoreFolder, OutputFolder, StoreFolder, open_text, read_catalog_file, way_to,
-    write_picture, write_text,
+    write_whole,
 };
 use cs_schema::{Catalog, Loss};
 use cs_store::StoreFault;
@@ -113,7 +113,7 @@ impl<R: Files + Copy + Sync> Places for Folders<R> {
     }
 
     fn picture(&mut self, path: &str, bytes: &[u8]) -> Result<(), StoreFault> {
-        let written = write_picture(&self.rt, path, bytes);
+        let written = write_whole(self.alloc, &self.rt, path, bytes);
         self.told(written)
     }
 
@@ -163,7 +163,7 @@ impl<R: Files + Copy> Tables for Folders<R> {
     }
 
     fn write_table(&mut self, path: &str, text: &[u8]) -> Result<(), StoreFault> {
-        let written = write_text(self.alloc, &self.rt, path, text);
+        let written = write_whole(self.alloc, &self.rt, path, text);
         self.told(written)
     }
 }
