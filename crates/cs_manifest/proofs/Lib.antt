@@ -1,2 +1,3 @@
 mod DigestLemmas
 mod ReadingLemmas
+mod RoundTrip

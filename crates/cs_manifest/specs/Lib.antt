@@ -2,3 +2,4 @@ pub mod Comparisons
 pub mod Digests
 pub mod Lines
 pub mod Reading
+pub mod RoundTrip

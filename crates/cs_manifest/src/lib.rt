@@ -7,6 +7,7 @@
 mod comparing;
 mod digesting;
 mod fault;
+pub mod laws;
 mod line;
 mod manifest;
 mod reading;
