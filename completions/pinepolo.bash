@@ -2,13 +2,14 @@
 _pinepolo() {
     local word=${COMP_WORDS[COMP_CWORD]} words=
     if [ "$COMP_CWORD" -eq 1 ]; then
-        mapfile -t COMPREPLY < <(compgen -W "check show diagnose recover restore undo manifest verify design load dump relayout" -- "$word")
+        mapfile -t COMPREPLY < <(compgen -W "check show diagnose drill recover restore undo manifest verify design load dump relayout" -- "$word")
         return
     fi
     case ${COMP_WORDS[1]} in
     check) words="--k --workers --quiet --json" ;;
-    show) words="--quiet --json" ;;
+    show) words="--quiet --json --svg" ;;
     diagnose) words="--at-most --disputes --manifest --workers --quiet --json" ;;
+    drill) words="--lose --workers --quiet --json" ;;
     recover) words="--workers --quiet --json" ;;
     restore) words="--dry-run --accept-loss --resume --workers --quiet --json" ;;
     undo) words="--resume --quiet --json" ;;

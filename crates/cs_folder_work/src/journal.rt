@@ -1,8 +1,10 @@
 //! The journal of a store: a line for each restore and undo that changed something.
 use crate::digests::{Digests, FileDigest};
-use crate::files::{io_error, read_regular, regular_size, sync_folder};
+use crate::files::{io_error, read_regular, regular_size};
 use crate::record::{Change, change_word};
+use crate::sealing::is_long_and_damaged;
 use crate::taking::Taken;
+use cs_file_system::{FileSystem, SystemFiles};
 use cs_folders::{FileLimits, read_bounded};
 use cs_reports::object::{Object, sites};
 use cs_schema::FileName;
@@ -17,7 +19,7 @@ use std::time::Clock;
 use std::{fs, io};
 
 /// The size and the digest of the regular file at this path; null if there is none. The digest is null if the file has more
-/// than `limit` bytes. It is read only if its digest isn't known.
+/// than `limit` bytes, or is long and damaged. It is read only if its digest isn't known.
 fn file_value<R: Files>(
     alloc: Global,
     rt: &R,
@@ -32,6 +34,11 @@ fn file_value<R: Files>(
         Some(digest) if digest.bytes == size => return digest_value(alloc, size, Some(digest)),
         _ => {}
     }
+    let limit = if is_long_and_damaged(rt, path)? {
+        0
+    } else {
+        limit
+    };
     let read = read_regular(alloc, rt, path, limit)?;
     let digest = read.map(|bytes| FileDigest::of(bytes.as_slice()));
     digest_value(alloc, size, digest)
@@ -223,5 +230,5 @@ pub fn append<R: Files + Clock>(
     }
     file.write_all(line.as_bytes())?;
     file.sync_all()?;
-    sync_folder(rt, store)
+    SystemFiles(rt).sync_folder(store)
 }

@@ -14,14 +14,16 @@ mod journal;
 mod keeping;
 mod moving;
 mod names;
-mod owner;
+mod noting;
 mod record;
 mod recording;
 mod replaced;
+mod sealing;
 mod shelf;
 mod taking;
 mod undoing;
 
+pub use giving_back::Ended;
 pub use shelf::FolderShelf;
 pub use taking::{Taken, resume, take, unfinished_kind};
 pub use undoing::take_undo;

@@ -1,8 +1,8 @@
 //! Moving back what an undo can't copy.
 ghost use Rattle.std.specs.Prelude.{◌≡◌};
 
-use crate::files::remove_if_there;
 use crate::shelf::FolderShelf;
+use cs_file_system::{FileSystem, SystemFiles};
 use cs_schema::FileName;
 use cs_shelf::Work;
 use std::io::ErrorKind;
@@ -14,7 +14,7 @@ use std::{fs, io};
 fn move_over<R: Files>(rt: &R, from: &str, to: &str) -> io::Result<()> {
     match fs::symlink_metadata(rt, from) {
         // a folder takes no file's place
-        Ok(found) if found.is_dir() => remove_if_there(rt, to)?,
+        Ok(found) if found.is_dir() => SystemFiles(rt).remove(to)?,
         Ok(_) => {}
         Err(e) if e.kind() == ErrorKind::NotFound => return Ok(()),
         Err(e) => return Err(e),

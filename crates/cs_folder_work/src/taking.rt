@@ -1,8 +1,8 @@
 //! Taking a store's folder for a restore or an undo, so that no second one begins beside it.
-use crate::files::{remove_if_there, sync_folder};
 use crate::record::{Change, Record};
 use crate::recording::{read_record, write_record};
 use crate::replaced::last_number;
+use cs_file_system::{FileSystem, SystemFiles};
 use cs_schema::FileName;
 use cs_shelf::{RESTORING, Untaken, Work, WorkKind};
 use std::alloc::{AllocError, Global};
@@ -51,7 +51,7 @@ impl Taken {
         }
         fs::rename(rt, beside.as_str(), path.as_str())?;
         self.lock = file;
-        sync_folder(rt, store)
+        SystemFiles(rt).sync_folder(store)
     }
 }
 
@@ -132,7 +132,7 @@ fn unfinished<R: Files>(alloc: Global, rt: &R, path: &str) -> Untaken {
 fn sweep<R: Files>(alloc: Global, rt: &R, record: &str) -> io::Result<()> {
     for number in 1..=BESIDE_LIMIT {
         let path = format!(in alloc; "{record}.{number}")?;
-        remove_if_there(rt, path.as_str())?;
+        SystemFiles(rt).remove(path.as_str())?;
     }
     Ok(())
 }
@@ -143,10 +143,12 @@ fn new_record<R: Files + Alloc + Clone + Drop>(
     rt: &R,
     store: &str,
     work: Work,
+    accepts_loss: bool,
 ) -> io::Result<Record> {
     match last_number(alloc, rt, store)?.checked_add(1) {
         Some(kept) => Ok(Record {
             work,
+            accepts_loss,
             kept,
             changes: None,
         }),
@@ -154,13 +156,15 @@ fn new_record<R: Files + Alloc + Clone + Drop>(
     }
 }
 
-/// Takes the store in this folder for this work, unless other work is unfinished. The record is there whole or not at all,
+/// Takes the store in this folder for this work, unless other work is unfinished, and writes down whether the loss of a restore
+/// is accepted. The record is there whole or not at all,
 /// and locked as long as it is taken.
 pub fn take<R: Files<File = File> + Alloc + Clone + Drop>(
     alloc: Global,
     rt: &R,
     store: &str,
     work: Work,
+    accepts_loss: bool,
 ) -> Result<Taken, Untaken> {
     let path = match format!(in alloc; "{store}/{RESTORING}") {
         Ok(path) => path,
@@ -169,7 +173,7 @@ pub fn take<R: Files<File = File> + Alloc + Clone + Drop>(
     if is_unfinished(alloc, rt, store).map_err(failed)? {
         return Err(unfinished(alloc, rt, path.as_str()));
     }
-    let record = new_record(alloc, rt, store, work).map_err(failed)?;
+    let record = new_record(alloc, rt, store, work, accepts_loss).map_err(failed)?;
     let (beside, mut file) = new_beside(alloc, rt, path.as_str()).map_err(failed)?;
     let written = write_record(alloc, &mut file, &record).map_err(failed);
     let linked = match written {
@@ -181,11 +185,11 @@ pub fn take<R: Files<File = File> + Alloc + Clone + Drop>(
             let _swept = sweep(alloc, rt, path.as_str()).is_ok();
         }
         Ok(false) => {
-            remove_if_there(rt, beside.as_str()).map_err(failed)?;
+            SystemFiles(rt).remove(beside.as_str()).map_err(failed)?;
             return Err(unfinished(alloc, rt, path.as_str()));
         }
         Err(untaken) => {
-            remove_if_there(rt, beside.as_str()).map_err(failed)?;
+            SystemFiles(rt).remove(beside.as_str()).map_err(failed)?;
             return Err(untaken);
         }
     }
@@ -208,10 +212,10 @@ fn link_locked<R: Files>(
 ) -> Result<bool, Untaken> {
     lock(file)?;
     match fs::hard_link(rt, beside, path) {
-        Ok(()) => match sync_folder(rt, store) {
+        Ok(()) => match SystemFiles(rt).sync_folder(store) {
             Ok(()) => Ok(true),
             Err(e) => {
-                remove_if_there(rt, path).map_err(failed)?;
+                SystemFiles(rt).remove(path).map_err(failed)?;
                 Err(failed(e))
             }
         },
@@ -271,11 +275,4 @@ fn is_there<R: Files>(rt: &R, file: &File, path: &str) -> io::Result<bool> {
         Err(e) if e.kind() == ErrorKind::NotFound => Ok(false),
         Err(e) => Err(e),
     }
-}
-
-/// Removes the record of the store in this folder: its work is finished, or changed nothing.
-pub fn remove_record<R: Files>(alloc: Global, rt: &R, store: &str) -> io::Result<()> {
-    let path = format!(in alloc; "{store}/{RESTORING}")?;
-    remove_if_there(rt, path.as_str())?;
-    sync_folder(rt, store)
 }

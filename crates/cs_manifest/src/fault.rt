@@ -8,12 +8,12 @@ pub enum ManifestFault {
     #[error("want of memory")]
     Memory,
     /// This line is no UTF-8.
-    #[error("line {0} is no UTF-8")]
+    #[error("line {0} is not UTF-8")]
     NoText(usize),
     /// This line is no digest and path.
-    #[error("line {0} is no line of a manifest")]
+    #[error("line {0} is not a digest and a path")]
     Line(usize),
     /// This line names a file that an earlier one named.
-    #[error("line {0} names a file for the second time")]
+    #[error("line {0} names a file again")]
     Twice(usize),
 }

@@ -6,7 +6,7 @@
 use pinepolo_args::parse;
 use pinepolo_folders::Folders;
 use pinepolo_progress::ProgressLine;
-use pinepolo_run::{CUT, Host, Stop, report, run};
+use pinepolo_run::{CUT, Host, VerbError, report, run};
 use std::io::IsTerminal;
 use std::process::ExitCode;
 use std::{env, io, thread};
@@ -35,10 +35,13 @@ fn main(rt: HostRuntime) -> ExitCode {
                 let parsed = parse(alloc, words.as_slice(), processors);
                 run(&host, &parsed, &mut places, &mut out, &mut err)
             }
-            Err(_) => report(&Stop::Memory, &mut err),
+            Err(_) => report(&VerbError::OutOfMemory, &mut err),
         },
-        Err(e) if e.kind() == io::ErrorKind::OutOfMemory => report(&Stop::Memory, &mut err),
-        Err(_) => report(&Stop::Words, &mut err),
+        Err(e) if e.kind() == io::ErrorKind::OutOfMemory => report(
+            &VerbError::OutOfMemory,
+            &mut err,
+        ),
+        Err(_) => report(&VerbError::NotUtf8, &mut err),
     };
     ExitCode::from(status)
 }

@@ -29,8 +29,6 @@ pub enum Form {
 pub enum Presence {
     /// It must be given.
     Required,
-    /// It must be given unless the argument with this id is.
-    RequiredUnless(&'static str),
     /// It may be left out.
     Optional,
     /// It may be left out, and must not be given together with the arguments with these ids.
@@ -74,7 +72,6 @@ fn with_form<'a>(arg: Arg<'a>, id: &'static str, form: Form) -> Arg<'a> {
 fn with_presence<'a>(arg: Arg<'a>, presence: Presence) -> Result<Arg<'a>, AllocError> {
     match presence {
         Presence::Required => Ok(arg.required(true)),
-        Presence::RequiredUnless(id) => arg.required_unless_present(id),
         Presence::Optional => Ok(arg),
         Presence::Excludes(ids) => arg.conflicts_with_all(ids),
     }
@@ -111,14 +108,14 @@ pub const ARGUMENTS: &[Argument] = &[
         id: "resume",
         form: Form::Flag,
         presence: Presence::Excludes(&["lost", "dry-run"]),
-        help: "Go on with the restore that was not finished",
+        help: "Resume the unfinished restore",
         verbs: &["restore"],
     },
     Argument {
         id: "resume",
         form: Form::Flag,
         presence: Presence::Excludes(&["kept"]),
-        help: "Go on with the undo that was not finished",
+        help: "Resume the unfinished undo",
         verbs: &["undo"],
     },
     Argument {
@@ -141,6 +138,13 @@ pub const ARGUMENTS: &[Argument] = &[
         presence: Presence::Optional,
         help: "Try losses of at most N sites, 1 to 16 [default: as many as make the verdict certain]",
         verbs: &["diagnose"],
+    },
+    Argument {
+        id: "lose",
+        form: Form::Named("N", Value::Number(1, 16)),
+        presence: Presence::Optional,
+        help: "Try losses of at most N sites, 1 to 16 [default: as many as the catalog allows]",
+        verbs: &["drill"],
     },
     Argument {
         id: "disputes",
@@ -169,16 +173,17 @@ pub const ARGUMENTS: &[Argument] = &[
         presence: Presence::Optional,
         help: "Workers, 1 to 64 [default: the number of processors, at most 64]",
         verbs: &[
-            "check", "diagnose", "recover", "restore", "load", "dump", "relayout",
+            "check", "diagnose", "drill", "recover", "restore", "load", "dump", "relayout",
         ],
     },
     Argument {
         id: "quiet",
         form: Form::Flag,
         presence: Presence::Optional,
-        help: "Show no line on a terminal that tells how far it has come",
+        help: "Show no progress",
         verbs: &[
-            "check", "show", "diagnose", "recover", "restore", "undo", "load", "dump", "relayout",
+            "check", "show", "diagnose", "drill", "recover", "restore", "undo", "load", "dump",
+            "relayout",
         ],
     },
     Argument {
@@ -187,15 +192,15 @@ pub const ARGUMENTS: &[Argument] = &[
         presence: Presence::Optional,
         help: "Answer with one object of JSON",
         verbs: &[
-            "check", "show", "diagnose", "recover", "restore", "undo", "verify", "design", "load",
-            "relayout",
+            "check", "show", "diagnose", "drill", "recover", "restore", "undo", "verify", "design",
+            "load", "relayout",
         ],
     },
     Argument {
         id: "replace-partial",
         form: Form::Flag,
         presence: Presence::Optional,
-        help: "Replace what an earlier run began there and did not end",
+        help: "Replace what an unfinished run left there",
         verbs: &["load", "relayout"],
     },
     Argument {
@@ -206,13 +211,20 @@ pub const ARGUMENTS: &[Argument] = &[
         verbs: &["design"],
     },
     Argument {
+        id: "svg",
+        form: Form::Named("FILE", Value::Text),
+        presence: Presence::Excludes(&["file"]),
+        help: "Write a picture of the store to this file: the placement, coloured by what is bad",
+        verbs: &["show"],
+    },
+    Argument {
         id: "store",
         form: Form::Positional("STORE", Value::Text),
         presence: Presence::Required,
         help: "The folder of the store",
         verbs: &[
-            "check", "show", "diagnose", "recover", "restore", "undo", "manifest", "verify",
-            "dump", "relayout",
+            "check", "show", "diagnose", "drill", "recover", "restore", "undo", "manifest",
+            "verify", "dump", "relayout",
         ],
     },
     Argument {
@@ -281,8 +293,8 @@ pub const ARGUMENTS: &[Argument] = &[
     Argument {
         id: "lost",
         form: Form::Positional("SITE", Value::Sites),
-        presence: Presence::RequiredUnless("resume"),
-        help: "The sites that are lost, each 1 to 16",
+        presence: Presence::Optional,
+        help: "The sites that are lost, each 1 to 16 [default: those that a diagnosis finds]",
         verbs: &["restore"],
     },
 ];

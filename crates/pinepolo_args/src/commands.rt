@@ -9,6 +9,7 @@ const VERBS: &[(&str, &str)] = &[
     ("check", help::CHECK),
     ("show", help::SHOW),
     ("diagnose", help::DIAGNOSE),
+    ("drill", help::DRILL),
     ("recover", help::RECOVER),
     ("restore", help::RESTORE),
     ("undo", help::UNDO),

@@ -15,6 +15,6 @@ mod verbs;
 
 pub use parsing::{ParseExit, parse};
 pub use request::{
-    CheckArgs, DesignArgs, DiagnoseArgs, DumpArgs, LoadArgs, ManifestArgs, RecoverArgs,
+    CheckArgs, DesignArgs, DiagnoseArgs, DrillArgs, DumpArgs, LoadArgs, ManifestArgs, RecoverArgs,
     RelayoutArgs, Request, RestoreArgs, ShowArgs, UndoArgs, Verb, VerifyArgs,
 };

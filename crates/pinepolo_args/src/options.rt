@@ -53,11 +53,14 @@ fn workers_of(found: &ArgMatches<'_>, processors: u32) -> u32
         .max(1)
 }
 
-/// The greatest number of sites of a loss that is tried, within the limit.
+/// The greatest number of sites of a loss that is tried, which `diagnose` and `drill` call by these names, within the limit.
 fn at_most_of(found: &ArgMatches<'_>) -> Option<u8>
     ensures { IfSome result (λ n. n ≤ 16) }
 {
-    match found.get_one::<u8>("at-most") {
+    match found
+        .get_one::<u8>("at-most")
+        .or(found.get_one::<u8>("lose"))
+    {
         Some(sites) => Some(sites.min(SITE_LIMIT)),
         None => None,
     }

@@ -12,7 +12,8 @@ use cs_folders::{
 use cs_schema::{Catalog, Loss};
 use cs_store::StoreFault;
 use pinepolo_places::{
-    GivenBack, Listings, Places, Shelves, Tables, UndoOf, Undoable, Untaken, Way, Work, WorkKind,
+    GivenBack, Listings, Places, RestoreOf, Shelves, Tables, UndoOf, Undoable, Untaken, Way, Work,
+    WorkKind,
 };
 use pinepolo_run::World;
 use std::alloc::{AllocError, Global};
@@ -24,8 +25,8 @@ use std::time::Clock;
 /// The folders of the system, with the number of faults that were met in finding and making what stands in them.
 #[derive(Drop)]
 pub struct Folders<R> {
-    alloc: Global,
-    rt: R,
+    pub(crate) alloc: Global,
+    pub(crate) rt: R,
     faults: u64,
 }
 
@@ -169,16 +170,33 @@ impl<R: Files + Copy> Tables for Folders<R> {
 }
 
 impl<R: Files + Copy + Drop> Folders<R> {
-    /// The store at this path, to be looked at alone.
-    fn shelf(&self, path: &str, catalog: &Catalog) -> Result<FolderShelf<R>, StoreFault> {
-        FolderShelf::new(self.alloc, self.rt, path, FileLimits::of(catalog))
+    /// The store at this path, to be looked at alone, of which files of these sites may change.
+    fn shelf(
+        &self,
+        path: &str,
+        catalog: &Catalog,
+        lost: Loss,
+    ) -> Result<FolderShelf<R>, StoreFault> {
+        match rebuilt_names(self.alloc, catalog, lost) {
+            Ok(names) => FolderShelf::new(
+                self.alloc,
+                self.rt,
+                path,
+                FileLimits::of(catalog),
+                names,
+            ),
+            Err(_) => Err(StoreFault::Memory),
+        }
     }
 }
 
-/// The sites whose loss a store was taken to restore, if it was.
-fn lost_of(taken: &Taken) -> Option<Loss> {
+/// What a store was taken to restore, if it was.
+fn restore_of(taken: &Taken) -> Option<RestoreOf> {
     match taken.record.work {
-        Work::Restore(lost) => Some(lost),
+        Work::Restore(lost) => Some(RestoreOf {
+            lost,
+            accepts_loss: taken.record.accepts_loss,
+        }),
         Work::Undo(_) => None,
     }
 }
@@ -186,7 +204,7 @@ fn lost_of(taken: &Taken) -> Option<Loss> {
 impl<R: Files<File = File> + Alloc + Clock + Copy + Drop + Sync> Shelves for Folders<R> {
     type Shelf = FolderShelf<R>;
 
-    ghost takes_store = { λ s path catalog lost store t. ⊤ };
+    ghost takes_store = { λ s path catalog of store t. ⊤ };
 
     ghost takes_undo = { λ s path catalog asked back names store t. ⊤ };
 
@@ -198,34 +216,33 @@ impl<R: Files<File = File> + Alloc + Clock + Copy + Drop + Sync> Shelves for Fol
         &mut self,
         path: &str,
         catalog: &Catalog,
-        lost: Loss,
+        of: RestoreOf,
     ) -> Result<FolderShelf<R>, Untaken> {
-        let shelf = match self.shelf(path, catalog) {
+        let shelf = match self.shelf(path, catalog, of.lost) {
             Ok(shelf) => shelf,
             Err(_) => return Err(Untaken::Memory),
         };
-        let Ok(names) = rebuilt_names(self.alloc, catalog, lost) else {
-            return Err(Untaken::Memory);
-        };
-        match take(self.alloc, &self.rt, path, Work::Restore(lost)) {
-            Ok(taken) => Ok(shelf.taken_by(taken, names)),
+        let work = Work::Restore(of.lost);
+        match take(self.alloc, &self.rt, path, work, of.accepts_loss) {
+            Ok(taken) => Ok(shelf.taken_by(taken)),
             Err(untaken) => Err(untaken),
         }
     }
 
-    fn resume(&mut self, path: &str, catalog: &Catalog) -> Result<(FolderShelf<R>, Loss), Untaken> {
+    fn resume(
+        &mut self,
+        path: &str,
+        catalog: &Catalog,
+    ) -> Result<(FolderShelf<R>, RestoreOf), Untaken> {
         let taken = match resume(self.alloc, &self.rt, path) {
             Ok(taken) => taken,
             Err(untaken) => return Err(untaken),
         };
-        let Some(lost) = lost_of(&taken) else {
+        let Some(of) = restore_of(&taken) else {
             return Err(Untaken::UnfinishedUndo);
         };
-        let Ok(names) = rebuilt_names(self.alloc, catalog, lost) else {
-            return Err(Untaken::Memory);
-        };
-        match self.shelf(path, catalog) {
-            Ok(shelf) => Ok((shelf.taken_by(taken, names), lost)),
+        match self.shelf(path, catalog, of.lost) {
+            Ok(shelf) => Ok((shelf.taken_by(taken), of)),
             Err(_) => Err(Untaken::Memory),
         }
     }
@@ -236,18 +253,23 @@ impl<R: Files<File = File> + Alloc + Clock + Copy + Drop + Sync> Shelves for Fol
         catalog: &Catalog,
         asked: UndoOf,
     ) -> Result<(FolderShelf<R>, Undoable), Untaken> {
-        let shelf = match self.shelf(path, catalog) {
+        let shelf = match self.shelf(path, catalog, Loss::none()) {
             Ok(shelf) => shelf,
             Err(_) => return Err(Untaken::Memory),
         };
         match take_undo(self.alloc, &self.rt, path, asked, FileLimits::of(catalog)) {
-            Ok((taken, undoable)) => Ok((shelf.taken_by(taken, Vec::new(self.alloc)), undoable)),
+            Ok((taken, undoable)) => Ok((shelf.taken_by(taken), undoable)),
             Err(untaken) => Err(untaken),
         }
     }
 
-    fn look(&self, path: &str, catalog: &Catalog) -> Result<FolderShelf<R>, StoreFault> {
-        self.shelf(path, catalog)
+    fn look(
+        &self,
+        path: &str,
+        catalog: &Catalog,
+        lost: Loss,
+    ) -> Result<FolderShelf<R>, StoreFault> {
+        self.shelf(path, catalog, lost)
     }
 
     fn give_back(
@@ -257,9 +279,10 @@ impl<R: Files<File = File> + Alloc + Clock + Copy + Drop + Sync> Shelves for Fol
     ) -> Result<GivenBack, StoreFault> {
         let is_unfinished = store.has_changed() && !is_finished;
         match store.give_back(is_finished) {
-            Ok(kept) => Ok(GivenBack {
-                kept,
+            Ok(ended) => Ok(GivenBack {
+                kept: ended.kept,
                 is_unfinished,
+                is_synced: ended.is_synced,
             }),
             Err(fault) => Err(fault),
         }

@@ -4,6 +4,7 @@
 
 mod folders;
 mod listing;
+mod meter;
 mod rebuilt;
 
 pub use folders::Folders;

@@ -2,6 +2,7 @@
 ghost use Rattle.std.specs.Prelude.{◌≤◌};
 
 use cs_rebuild::Run;
+use pinepolo_drill::Meter;
 use pinepolo_places::{Listings, Places, Shelves, Tables};
 use std::alloc::Global;
 
@@ -33,4 +34,4 @@ impl<'a, R, G> Host<'a, R, G> {
 }
 
 /// All that the verbs of a program find and make by path.
-pub trait World: Places + Tables + Listings + Shelves {}
+pub trait World: Places + Tables + Listings + Shelves + Meter {}

@@ -1,11 +1,11 @@
 //! What is said of a store as a whole, as text.
+use crate::bad_files::problem_of;
 use crate::catalog_words::CatalogWords;
 use crate::counted::Counted;
 use crate::file_lines::FileLine;
 use crate::memory::recovery_memory;
 use crate::store_view::StoreView;
 use crate::unfinished::Unfinished;
-use cs_inspection::Badness;
 use cs_reports::{DesignHead, site_of};
 use cs_schema::FileName;
 use std::fmt;
@@ -17,9 +17,7 @@ const MEBIBYTE: u64 = 1_048_576;
 pub fn state_word(line: &FileLine) -> &'static str {
     match line.badness {
         None => "sound",
-        Some(Badness::Unreadable) => "unreadable",
-        Some(Badness::Missing) => "missing",
-        Some(Badness::Damaged) => "damaged",
+        Some(badness) => problem_of(badness).word(),
     }
 }
 
@@ -114,31 +112,32 @@ impl StoreView {
         }
         Ok(())
     }
-
-    /// That work was left unfinished, and what to do next.
-    fn write_unfinished<W: fmt::Write>(&self, f: &mut fmt::Formatter<W>) -> fmt::Result {
-        let Some(kind) = self.unfinished else {
-            return Ok(());
-        };
-        let unfinished = Unfinished {
-            kind,
-            store: "STORE",
-        };
-        write!(f, "{unfinished}")
-    }
 }
 
-impl fmt::Display for StoreView {
+/// What is said of the store at a path, as lines.
+#[derive(Clone, Copy)]
+pub struct StoreText<'a> {
+    pub view: &'a StoreView,
+    /// The folder of the store.
+    pub store: &'a str,
+}
+
+impl fmt::Display for StoreText<'_> {
     fn fmt<W: fmt::Write>(&self, f: &mut fmt::Formatter<W>) -> fmt::Result {
-        let catalog = CatalogWords(&self.catalog);
+        let (view, store) = (self.view, self.store);
+        let catalog = CatalogWords(&view.catalog);
         let head = DesignHead {
-            catalog: &self.catalog,
-            design: &self.design,
+            catalog: &view.catalog,
+            design: &view.design,
         };
         write!(f, "{catalog}{head}")?;
-        self.write_table(f)?;
-        self.write_sums(f)?;
-        self.write_strays(f)?;
-        self.write_unfinished(f)
+        view.write_table(f)?;
+        view.write_sums(f)?;
+        view.write_strays(f)?;
+        let Some(kind) = view.unfinished else {
+            return Ok(());
+        };
+        let unfinished = Unfinished { kind, store };
+        write!(f, "{unfinished}")
     }
 }
