@@ -50,7 +50,7 @@ impl<'a> Problem<'a> {
         Problem::new(text, [part, NONE, NONE, NONE])
     }
 
-    /// The same description, prefixed by the name of a projection.
+    /// A description that begins with the name of the projection that breaks the rule.
     pub fn in_projection(mut self, name: &'a str) -> Problem<'a> {
         self.projection = Some(name);
         self
