@@ -1,3 +1,4 @@
+pub mod MergedSoFar
 pub mod Merged
 pub mod TableRows
 pub mod Steps

@@ -12,7 +12,8 @@ use Rattle.cs_rows.specs.WalkedView.{row_of, count_of}
 use Rattle.cs_diagnosis.specs.Columns.{IsTableIn, rows_in}
 use Rattle.cs_diagnosis.specs.Disputes.{AreDisputes}
 use Rattle.cs_diagnosis.specs.Next.{IsNext}
-use Rattle.cs_diagnosis.proofs.Merged.{IsMerged, before_all, step_first, step_second, step_same, step_different, alone_first, alone_second, of_both, finished}
+use Rattle.cs_diagnosis.proofs.Merged.{before_all, finished, step_different, step_first, step_same, step_second}
+use Rattle.cs_diagnosis.proofs.MergedSoFar.{IsMerged, alone_first, alone_second, of_both}
 use Rattle.cs_diagnosis.proofs.TableRows.{rising, total, row_there}
 
 greater≢equal : {A : Type 0} → Greater ≡ Equal → A

@@ -19,7 +19,7 @@ use Rattle.cs_design.proofs.Items.{sorted_at}
 use Rattle.cs_rows.specs.WalkedView.{row_of, count_of}
 use Rattle.cs_diagnosis.specs.Columns.{IsTableIn, rows_in}
 use Rattle.cs_diagnosis.specs.Next.{IsNext}
-use Rattle.cs_diagnosis.proofs.Merged.{Rising}
+use Rattle.cs_diagnosis.proofs.MergedSoFar.{Rising}
 
 module _ (C : CatalogData) (columns : List Cells) (t : IsTableIn C columns) where
   pub rising : Rising C.key (rows_in columns)

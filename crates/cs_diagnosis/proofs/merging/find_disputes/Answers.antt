@@ -2,7 +2,7 @@ use Rattle.std.proofs.Common.{◌≡◌, ℕ, ◌+◌, ◌∷◌, ◌++◌, [], 
 use Rattle.cs_schema.proofs.Ascending.{false≢true}
 use Rattle.cs_diagnosis.specs.Columns.{rows_in}
 use Rattle.cs_diagnosis.specs.declared.merging.Dispute.{Dispute}
-use Rattle.cs_diagnosis.proofs.Merged.{begun, alone_first, alone_second, of_both}
+use Rattle.cs_diagnosis.proofs.MergedSoFar.{begun, alone_first, alone_second, of_both}
 use Rattle.cs_diagnosis.proofs.Steps.{low_first, low_second, low_both, on_first, on_second, on_same, on_different, at_end}
 use Rattle.cs_diagnosis.proofs.merging.find_disputes.Goals as goal
 use Rattle.cs_diagnosis.proofs.merging.find_disputes.Goals.{then-not-same_row+in_ok-keep-in-Equal, else-not-same_row}

@@ -1,7 +1,7 @@
 use Rattle.std.proofs.Common.{◌≡◌, ◌+◌, ◌-◌, ◌≤◌, List, length, take}
 use Rattle.cs_diagnosis.specs.Columns.{rows_in}
 use Rattle.cs_diagnosis.specs.declared.merging.Dispute.{Dispute}
-use Rattle.cs_diagnosis.proofs.Merged.{IsMerged}
+use Rattle.cs_diagnosis.proofs.MergedSoFar.{IsMerged}
 use Rattle.cs_diagnosis.proofs.merging.find_disputes.Given as goal
 
 abbrev pub invariant-loop-i : goal.invariant-loop-i
