@@ -30,3 +30,5 @@ pub mod PickedColumns
 pub mod FewRows
 pub mod PlacedCells
 pub mod RunTexts
+pub mod LeastBad
+pub mod Answered

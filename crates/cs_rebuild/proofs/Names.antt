@@ -38,7 +38,7 @@ key_tail (FileName.Seg p s) = refl
 key_tail (FileName.Del p s) = refl
 key_tail (FileName.Jix p s q) = refl
 
-name_tail : (m n : FileName) → projection_of m ≡ projection_of n → segment_of m ≡ segment_of n → name_cmp m n ≡ slice_cmp nat_cmp (tail_of m) (tail_of n)
+pub name_tail : (m n : FileName) → projection_of m ≡ projection_of n → segment_of m ≡ segment_of n → name_cmp m n ≡ slice_cmp nat_cmp (tail_of m) (tail_of n)
 name_tail m n e f =
     ap (λ k. slice_cmp nat_cmp k (name_key n)) (key_tail m) ∙ ap (λ k. slice_cmp nat_cmp (projection_of m ∷ segment_of m ∷ tail_of m) k) (key_tail n)
     ∙ same_head (projection_of m) (projection_of n) (segment_of m ∷ tail_of m) (segment_of n ∷ tail_of n) e ∙ same_head (segment_of m) (segment_of n) (tail_of m) (tail_of n) f

@@ -1,36 +1,28 @@
--- Files that are read without a look at their digests, and those whose digests are right.
-use Rattle.std.proofs.Common.{◌≡◌, ℕ, ◌-◌, ◌<◌, ◌++◌, ◌∷◌, [], List, Bor, length, refl, sym, ap, subst, ◌∙◌, true, false, Option, Some, None, inl, inr, arith, get_or}
+-- Bodies that are read apart from their digests, and files whose digests are right.
+use Rattle.std.proofs.Common.{◌≡◌, ℕ, zero, suc, ◌-◌, ◌<◌, ◌++◌, ◌∷◌, [], List, Bor, length, refl, sym, ap, subst, ◌∙◌, true, false, Option, Some, None, inl, inr, arith, get_or, take}
 use Rattle.std.specs.List.{All, range_with_len, slice_get}
 use Rattle.std.proofs.lemmas.List.FromFn.{get_or-range_with_len, length-range_with_len}
-use Rattle.std.specs.List.Sorted.{IsPermutation}
+use Rattle.std.specs.List.Sorted.{IsPermutation, IsStrictlySortedBy}
+use Rattle.std.specs.declared.cmp.Ordering.TheVariants.{Less}
 use Rattle.std.specs.Option.{option_map}
 use Rattle.std.proofs.lemmas.List.Sorted.{All-permutation, IsPermutation-sym}
 use Rattle.std.proofs.lemmas.Option.{get_or_from_slice_get, none-some, same_Some, slice_get-get_or, slice_get_within}
 use Rattle.cs_schema.specs.declared.file_name.FileName.{FileName}
-use Rattle.cs_schema.specs.CatalogData.{CatalogData}
-use Rattle.cs_schema.specs.FileNames.{FileContents}
+use Rattle.cs_schema.specs.FileNames.{FileContents, name_cmp}
+use Rattle.cs_schema.specs.NameOrder.{name_cmp_total}
+use Rattle.cs_schema.proofs.Ascending.{All-in, not_both, not_self}
 use Rattle.cs_schema.specs.Lists.{IsIn}
-use Rattle.cs_schema.specs.Losses.{Sites}
 use Rattle.cs_schema.proofs.Lists.{append_left, append_right, at_in, in_append, in_at}
 use Rattle.cs_segment.specs.Bodies.{IsSealed}
-use Rattle.cs_recovery.specs.Claims.{SameSurvivors}
-use Rattle.cs_rebuild.specs.Reading.{AreSealed, AreThere, as_read, read_bytes}
+use Rattle.cs_rebuild.specs.Reading.{AreSealedAmong, AreThere, reseal, resealed}
 
-unchanged : (o : Option (List ℕ)) → option_map (read_bytes true) o ≡ o
-unchanged None = refl
-unchanged (Some b) = refl
-
--- where digests are compared, the files are read as they are
-pub read_as_is : (F : FileContents) → as_read true F ≡ F
-read_as_is F = λ i n. unchanged (F n) i
-
--- where the digests of the surviving files are right, these are read as they are
-pub read_as_sealed : (C : CatalogData) (F : FileContents) (L : Sites) → AreSealed C L F → SameSurvivors C L (as_read false F) F
-read_as_sealed C F L are n h = go (F n) refl
+-- a file that ends in the digest of its body is read as it is
+pub same_file : (F : FileContents) (n : FileName) → ((bytes : List ℕ) → F n ≡ Some bytes → bytes ≡ reseal bytes) → F n ≡ resealed F n
+same_file F n is = go (F n) refl
   where
-    go : (o : Option (List ℕ)) → F n ≡ o → o ≡ option_map (read_bytes false) o
+    go : (o : Option (List ℕ)) → F n ≡ o → o ≡ option_map reseal o
     go None e = refl
-    go (Some bytes) e = ap Some (are n bytes h e)
+    go (Some bytes) e = ap Some (is bytes e)
 
 -- ---- the files under some names
 
@@ -75,3 +67,21 @@ each_told files groups count below all f is =
     let low : group < count - 0 = omega (arith, below at.0 (slice_get_within files at.0 f at.1)) in
     let here : get_or (range_with_len 0 (count - 0)) group 0 ≡ group = get_or-range_with_len 0 (count - 0) group 0 low ∙ (omega arith) in
     all group 0 (rw (length-range_with_len 0 (count - 0)) low) at.0 f at.1 (sym here)
+
+-- ---- digests in the order of names
+
+-- a name more, whose digest is right
+pub sealed_more : (F : FileContents) (names : List FileName) (n : FileName) → AreSealedAmong F names → ((bytes : List ℕ) → F n ≡ Some bytes → bytes ≡ reseal bytes) → AreSealedAmong F (names ++ n ∷ [])
+sealed_more F names n so is m bytes i e = elim (in_append names (n ∷ []) m i) [
+  | inl before ↦ so m bytes before e
+  | inr last ↦ elim last [ inl here ↦ is bytes (ap F (sym here) ∙ e) | inr none ↦ absurd none ]
+]
+
+-- a lesser name of an ascending list stands before
+pub stands_before : (names : List FileName) → IsStrictlySortedBy name_cmp names → (i : ℕ) (d : FileName) → i < length names → (m : FileName) → IsIn m names → name_cmp m (get_or names i d) ≡ Less → IsIn m (take i names)
+unfolding IsStrictlySortedBy
+stands_before [] sorted i d low m is less = absurd is
+stands_before (x ∷ xs) sorted zero d low m (inl e) less = not_self name_cmp name_cmp_total x (subst (λ z. name_cmp z x ≡ Less) e less)
+stands_before (x ∷ xs) sorted zero d low m (inr k) less = not_both name_cmp name_cmp_total m x less (All-in (λ z. name_cmp x z ≡ Less) xs sorted.0 m k)
+stands_before (x ∷ xs) sorted (suc i) d low m (inl e) less = inl e
+stands_before (x ∷ xs) sorted (suc i) d low m (inr k) less = inr (stands_before xs sorted.1 i d (omega (arith, low)) m k less)

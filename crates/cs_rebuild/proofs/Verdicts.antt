@@ -22,15 +22,15 @@ use Rattle.cs_store.specs.FileSet.{Files}
 use Rattle.cs_store.specs.Fault.{MemoryOr}
 use Rattle.cs_recovery.specs.Contents.{Reads}
 use Rattle.cs_recovery.specs.Verdicts.{IsVerdict, IsWalkedBy, IsRebuildVerdict, IsCheckVerdict, NamesItsSites, unless_refused, twice, full, misplaced, misled}
-use Rattle.cs_recovery.specs.Claims.{SameSurvivors, IsRebuildAnswer, IsCheckAnswer}
+use Rattle.cs_recovery.specs.Claims.{IsRebuildAnswer, IsCheckAnswer}
 use Rattle.cs_recovery.specs.Laws.{RebuildClauses, CheckClauses}
 use Rattle.cs_recovery.specs.TableAnswers.{Columns, IsTableAnswer, TableClauses}
-use Rattle.cs_recovery.proofs.FewerSurvive.{reads_under}
 use Rattle.cs_recovery.proofs.Read.{layers}
 use Rattle.cs_recovery.proofs.Suffice.{rebuild_clauses, check_clauses}
 use Rattle.cs_recovery.proofs.TableClauses.{table_clauses}
-use Rattle.cs_recovery.proofs.WalkedTable.{verdict_under}
-use Rattle.cs_rebuild.specs.Answers.{IsRecovery, IsRowCount}
+use Rattle.cs_rebuild.specs.Answers.{IsAnswer}
+use Rattle.cs_rebuild.specs.declared.wanted.Answer.{Answer}
+use Rattle.cs_rebuild.specs.declared.wanted.Wanted.{Wanted}
 use Rattle.cs_rebuild.specs.Steps.{IsBadFile, IsStray, IsUnordered, row_fault, AreSound, safety_refusal}
 
 -- what the exit of a `?` answers
@@ -113,23 +113,14 @@ names_sites C L loss x m = (loss.1 x m).1
 -- ---- the answers
 
 -- what is answered of a safe loss is the answer
-pub rebuild_answer : (C : CatalogData) (F : FileContents) (L : Sites) → NamesItsSites C L → IsSafe C L → (r : Result Files Fault) → IsRecovery C F L r → IsRebuildAnswer C F L r
-rebuild_answer C F L named safe (Ok out) a = (a.0, IsRebuildVerdict.safe named safe a.1, a.2)
-rebuild_answer C F L named safe (Err f) a = memory_or f a (IsRebuildVerdict.safe named safe)
+pub rebuild_answer : (C : CatalogData) (F : FileContents) (L : Sites) → NamesItsSites C L → IsSafe C L → (out : Files) → IsAnswer Wanted.Files C F L (Ok (Answer.Files out)) → IsRebuildAnswer C F L (Ok out)
+rebuild_answer C F L named safe out a = (a.0, IsRebuildVerdict.safe named safe a.1, a.2)
 
-pub check_answer : (C : CatalogData) (F : FileContents) (k : ℕ) → k ≤ 3 → IsKSafe C k → (r : Result ℕ Fault) → IsRowCount C F [] r → IsCheckAnswer C F k r
-check_answer C F k few safe (Ok n) a = (a.0, IsCheckVerdict.safe few safe a.1, a.2)
-check_answer C F k few safe (Err f) a = memory_or f a (IsCheckVerdict.safe few safe)
+pub table_answer : (C : CatalogData) (F : FileContents) (L : Sites) → NamesItsSites C L → IsSafe C L → (columns : Columns) → IsAnswer Wanted.Columns C F L (Ok (Answer.Columns columns)) → IsTableAnswer C F L (Ok columns)
+table_answer C F L named safe columns a = (a.0, IsRebuildVerdict.safe named safe a.1, a.2)
 
--- where the surviving files are the same, so is what is answered
-module _ (C : CatalogData) (F G : FileContents) (L : Sites) (same : SameSurvivors C L F G) where
-  pub recovery_under : (r : Result Files Fault) → IsRecovery C F L r → IsRecovery C G L r
-  recovery_under (Ok out) a = (a.0, verdict_under C F G L same (Ok a.0) a.1, record { contents = a.2.contents; reads = reads_under C F G L a.2.contents same a.2.reads; files = a.2.files })
-  recovery_under (Err f) a = memory_or f a (verdict_under C F G L same (Err f))
-
-  pub count_under : (r : Result ℕ Fault) → IsRowCount C F L r → IsRowCount C G L r
-  count_under (Ok n) a = (a.0, verdict_under C F G L same (Ok a.0) a.1, a.2)
-  count_under (Err f) a = memory_or f a (verdict_under C F G L same (Err f))
+pub check_answer : (C : CatalogData) (F : FileContents) (k : ℕ) → k ≤ 3 → IsKSafe C k → (n : ℕ) → IsAnswer Wanted.Count C F [] (Ok (Answer.Count n)) → IsCheckAnswer C F k (Ok n)
+check_answer C F k few safe n a = (a.0, IsCheckVerdict.safe few safe a.1, a.2)
 
 pub unsafe_catalog : (C : CatalogData) (F : FileContents) (k : ℕ) (e : SafetyFault) → IsSafetyFault C k e → IsCheckAnswer C F k (Err (safety_refusal e))
 unsafe_catalog C F k SafetyFault.BadK h = inr (IsCheckVerdict.bad_k h refl)

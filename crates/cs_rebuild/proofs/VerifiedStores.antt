@@ -1,6 +1,5 @@
 -- A store whose rows are in order, of which no surviving file contradicts the table.
-use Rattle.std.proofs.Common.{◌≡◌, ◌⊎◌, inl, inr, refl, sym, Option, Some, None, Result, Ok, Err}
-use Rattle.std.specs.Prelude.{IfOk, IfErr}
+use Rattle.std.proofs.Common.{◌≡◌, ◌⊎◌, inl, inr, refl, sym, Option, Some, None, Ok, Err}
 use Rattle.std.specs.Option.{option_or}
 use Rattle.std.proofs.lemmas.Option.{none-some}
 use Rattle.cs_schema.specs.declared.file_name.FileName.{FileName}
@@ -9,18 +8,19 @@ use Rattle.cs_schema.specs.CatalogRules.{IsCatalog}
 use Rattle.cs_schema.specs.FileNames.{FileContents}
 use Rattle.cs_schema.specs.Losses.{Sites}
 use Rattle.cs_store.specs.declared.fault.Fault.{Fault}
-use Rattle.cs_store.specs.Fault.{MemoryOr}
 use Rattle.cs_store.specs.FileSet.{Files, contents_of}
 use Rattle.cs_order.specs.Tables.{table_of}
 use Rattle.cs_rows.specs.Survivors.{SurvivorsData, contents_of as held_by}
 use Rattle.cs_recovery.specs.Expected.{written}
 use Rattle.cs_recovery.specs.Verdicts.{IsVerdict, misplaced, misled}
-use Rattle.cs_rebuild.specs.Answers.{IsRecovery}
+use Rattle.cs_rebuild.specs.Answers.{IsAnswer}
 use Rattle.cs_rebuild.specs.OnStore.{IsSound, IsStoreOf, contradiction_on, written_on}
 use Rattle.cs_rebuild.specs.Steps.{AreOrdered, AreRead, AreSound, HoldsTable}
 use Rattle.cs_rebuild.specs.declared.ordered_store.OrderedStore.{OrderedStore}
+use Rattle.cs_rebuild.specs.declared.wanted.Answer.{Answer}
+use Rattle.cs_rebuild.specs.declared.wanted.Wanted.{Wanted}
 use Rattle.cs_rebuild.proofs.SoundFacts.{holds_table}
-use Rattle.cs_rebuild.proofs.Verdicts.{memory_or, on_store, misplaced_rows, misled_rows, sound_verdict}
+use Rattle.cs_rebuild.proofs.Verdicts.{on_store, misplaced_rows, misled_rows, sound_verdict}
 
 -- of two that are none, each is
 pub neither_is : {X : Type 0} (a b : Option X) → option_or a b ≡ None → (a ≡ None) × (b ≡ None)
@@ -63,23 +63,15 @@ module _ {C : CatalogData} {L : Sites} {v : SurvivorsData} (store : OrderedStore
       go (inl h) = misplaced_rows C F L (held_by v) read.reads store.walked.rows ordered.walked.walk ordered.rows_sound f h
       go (inr h) = misled_rows C F L (held_by v) read.reads store.walked.rows ordered.walked.walk ordered.rows_sound h.0 f h.1
 
-  -- what is written of it, want of memory or its contradiction is the answer
-  pub recovered : (F : FileContents) → AreRead C F L v → (r : Result Files Fault) → IfOk r (λ out. (n : FileName) → contents_of out n ≡ written_on store n) → IfOk r (λ out. contradiction_on store ≡ None)
-      → IfErr r (λ f. MemoryOr f (contradiction_on store ≡ Some f)) → IsRecovery C F L r
-  recovered F read (Ok out) files none err = (
-    table_of C store.walked.rows,
-    sound_verdict C F L v store.walked store.orders (sound none F read),
-    record {
-      contents = held_by v;
-      reads = read.reads;
-      files = on_store (λ D K x w. (n : FileName) → contents_of out n ≡ written D K (held_by x) (table_of D w.rows) n) {w = store.walked} {t = store.walked} of.catalog of.loss of.survivors refl files;
-    },
-  )
-  recovered F read (Err f) files none err = memory_or f err (λ h. contradiction_is f h F read)
-
-  -- what was read and ordered, said of the store itself
-  pub read_on : (F : FileContents) → AreRead C F L v → AreRead store.catalog.now F store.loss store.survivors.now
-  read_on F read = on_store (λ D K x w. AreRead D F K x) {w = store.walked} {t = store.walked} (sym of.catalog) (sym of.loss) (sym of.survivors) refl read
-
-  pub ordered_on : AreOrdered store.catalog.now store.loss store.survivors.now store.walked store.orders
-  ordered_on = on_store (λ D K x w. AreOrdered D K x w store.orders) {w = store.walked} {t = store.walked} (sym of.catalog) (sym of.loss) (sym of.survivors) refl ordered
+-- what is written of a sound store is what is wanted
+pub recovered : {C : CatalogData} {L : Sites} {v : SurvivorsData} (store : OrderedStore) → IsStoreOf C L v store → (F : FileContents) → AreSound C F L v store.walked store.orders
+    → (out : Files) → ((n : FileName) → contents_of out n ≡ written_on store n) → IsAnswer Wanted.Files C F L (Ok (Answer.Files out))
+recovered {C} {L} {v} store of F sound out files = (
+  table_of C store.walked.rows,
+  sound_verdict C F L v store.walked store.orders sound,
+  record {
+    contents = held_by v;
+    reads = sound.read.reads;
+    files = on_store (λ D K x w. (n : FileName) → contents_of out n ≡ written D K (held_by x) (table_of D w.rows) n) {w = store.walked} {t = store.walked} of.catalog of.loss of.survivors refl files;
+  },
+)

@@ -1,27 +1,33 @@
 -- What is answered of a store's files once a loss is known to be safe.
-use Rattle.std.specs.Prelude.{◌≡◌, ℕ, List, Result, Ok, Err, IfOk, IfErr, length}
+use Rattle.std.specs.Prelude.{◌≡◌, List, Result, Ok, Err, length}
 use Rattle.cs_schema.specs.CatalogData.{CatalogData}
 use Rattle.cs_schema.specs.FileNames.{FileContents}
 use Rattle.cs_schema.specs.Losses.{Sites}
 use Rattle.cs_schema.specs.Rows.{Row}
 use Rattle.cs_store.specs.declared.fault.Fault.{Fault}
 use Rattle.cs_store.specs.Fault.{MemoryOr}
-use Rattle.cs_store.specs.FileSet.{Files, contents_of}
+use Rattle.cs_store.specs.FileSet.{contents_of}
 use Rattle.cs_rows.specs.Survivors.{SurvivorsData}
+use Rattle.cs_recovery.specs.Columns.{AreColumnsOf}
 use Rattle.cs_recovery.specs.Expected.{AreExpected}
 use Rattle.cs_recovery.specs.Verdicts.{IsVerdict}
-use Rattle.cs_rebuild.specs.Steps.{AreRead}
+use Rattle.cs_rebuild.specs.Steps.{AreRead, IsBadFile}
+use Rattle.cs_rebuild.specs.declared.wanted.Answer.{Answer}
+use Rattle.cs_rebuild.specs.declared.wanted.Wanted.{Wanted}
 
--- what the survivors hold, or the fault of the verdict
-abbrev pub IsReadOf : CatalogData → FileContents → Sites → Result SurvivorsData Fault → Type 0
-IsReadOf C F L r = IfOk r (AreRead C F L) × IfErr r (λ f. MemoryOr f (IsVerdict C F L (Err f)))
+-- what is wanted of a table: the files that recover it, the number of its rows, or its rows as columns
+abbrev pub Gives : Wanted → CatalogData → FileContents → Sites → List Row → Answer → Type 0
+Gives Wanted.Files C F L T (Answer.Files out) = AreExpected C F L T (contents_of out)
+Gives Wanted.Count C F L T (Answer.Count n) = n ≡ length T
+Gives Wanted.Columns C F L T (Answer.Columns columns) = AreColumnsOf C T columns.items
+Gives _ C F L T _ = ⊥
 
--- the files that recover the table of the verdict, or its fault
-abbrev pub IsRecovery : CatalogData → FileContents → Sites → Result Files Fault → Type 0
-IsRecovery C F L (Ok out) = (T : List Row) × IsVerdict C F L (Ok T) × AreExpected C F L T (contents_of out)
-IsRecovery C F L (Err f) = MemoryOr f (IsVerdict C F L (Err f))
+-- what is wanted of the table of the verdict, or its fault
+abbrev pub IsAnswer : Wanted → CatalogData → FileContents → Sites → Result Answer Fault → Type 0
+IsAnswer wanted C F L (Ok answer) = (T : List Row) × IsVerdict C F L (Ok T) × Gives wanted C F L T answer
+IsAnswer wanted C F L (Err f) = MemoryOr f (IsVerdict C F L (Err f))
 
--- the number of rows of the table of the verdict, or its fault
-abbrev pub IsRowCount : CatalogData → FileContents → Sites → Result ℕ Fault → Type 0
-IsRowCount C F L (Ok n) = (T : List Row) × IsVerdict C F L (Ok T) × (n ≡ length T)
-IsRowCount C F L (Err f) = MemoryOr f (IsVerdict C F L (Err f))
+-- what is answered of the survivors that were read, or the fault of the least bad file
+abbrev pub IsAnswerOfRead : Wanted → CatalogData → FileContents → Sites → Result (Result Answer Fault) Fault → Type 0
+IsAnswerOfRead wanted C F L (Ok answer) = (v : SurvivorsData) × AreRead C F L v × ((G : FileContents) → AreRead C G L v → IsAnswer wanted C G L answer)
+IsAnswerOfRead wanted C F L (Err f) = MemoryOr f (IsBadFile C F L f)

@@ -1,5 +1,5 @@
 -- What the reading of one segment's files finds.
-use Rattle.std.specs.Prelude.{◌≡◌, ℕ, ◌-◌, ◌<◌, ◌≤◌, Bool, true, List, map, Option, Some, None, Vec, Result, IfOk, IfErr, length, slice_get, take, if◌then◌else◌}
+use Rattle.std.specs.Prelude.{◌≡◌, ℕ, ◌-◌, ◌<◌, ◌≤◌, true, List, map, Option, Some, None, Vec, Result, IfOk, IfErr, length, slice_get, take}
 use Rattle.std.specs.Borrow.{Bor}
 use Rattle.std.specs.Option.{option_map}
 use Rattle.std.specs.Global.{Global}
@@ -9,7 +9,7 @@ use Rattle.cs_schema.specs.declared.file_name.FileName.{FileName}
 use Rattle.cs_store.specs.declared.fault.Fault.{Fault}
 use Rattle.cs_store.specs.Fault.{MemoryOr}
 use Rattle.cs_schema.specs.CatalogData.{CatalogData, has_join}
-use Rattle.cs_schema.specs.FileNames.{FileContents, HasName, Survives, name_cmp, projection_of, segment_of}
+use Rattle.cs_schema.specs.FileNames.{FileContents, HasName, name_cmp, projection_of, segment_of, surviving}
 use Rattle.cs_schema.specs.Losses.{Sites}
 use Rattle.cs_schema.specs.Lists.{IsIn, numbers_below}
 use Rattle.cs_segment.specs.declared.fault.FileFault.{FileFault as ReadFault}
@@ -21,25 +21,38 @@ use Rattle.cs_jix.specs.JoinIndex.{Place}
 use Rattle.cs_rows.specs.Survivors.{SurvivorsData, image_at, join_at}
 use Rattle.cs_recovery.specs.Contents.{IsImageOf, IsJoinOf}
 use Rattle.cs_recovery.specs.Verdicts.{IsSound, FileFault}
-use Rattle.cs_rebuild.specs.declared.reading.SegmentFiles.{SegmentFiles}
+use Rattle.cs_rebuild.specs.declared.files_of.SegmentFiles.{SegmentFiles}
 
--- ---- digests that are compared, or taken apart
+-- ---- bodies, and the digests beside them
 
--- the text of a file with the digest that it has
-abbrev pub sealed_anew : List ℕ → List ℕ
-sealed_anew bytes = sealed (take (length bytes - 32) bytes)
+-- the body of a file, with the digest that it has
+abbrev pub reseal : List ℕ → List ℕ
+reseal bytes = sealed (take (length bytes - 32) bytes)
 
--- a file as it is read: where its digest isn't compared, its text with the digest that it has
-abbrev pub read_bytes : Bool → List ℕ → List ℕ
-read_bytes compared bytes = if compared then bytes else sealed_anew bytes
+-- the files as their bodies are read, whatever their digests are
+abbrev pub resealed : FileContents → FileContents
+resealed F n = option_map reseal (F n)
 
--- the files as they are read, where digests are compared or not
-abbrev pub as_read : Bool → FileContents → FileContents
-as_read compared F n = option_map (read_bytes compared) (F n)
+-- among these names, each file that is there ends in the digest of its body
+abbrev pub AreSealedAmong : FileContents → List FileName → Type 0
+AreSealedAmong F names = (n : FileName) (bytes : List ℕ) → IsIn n names → F n ≡ Some bytes → bytes ≡ reseal bytes
 
--- each surviving file that is there has the digest of its text
-abbrev pub AreSealed : CatalogData → Sites → FileContents → Type 0
-AreSealed C L F = (n : FileName) (bytes : List ℕ) → Survives C L n → F n ≡ Some bytes → bytes ≡ sealed_anew bytes
+-- the least of some names whose file ends in another digest
+pub record IsFirstUnsealed (F : FileContents) (names : List FileName) (n : FileName) : Type 0 where
+  pub named : IsIn n names
+  pub bytes : List ℕ
+  pub there : F n ≡ Some bytes
+  pub unsealed : (body : List ℕ) → bytes ≡ sealed body → ⊥
+  pub before : (m : FileName) (b : List ℕ) → IsIn m names → name_cmp m n ≡ Less → F m ≡ Some b → b ≡ reseal b
+
+-- what is found of the digests of the files under some names
+abbrev pub AreDigestsAmong : FileContents → List FileName → Option FileName → Type 0
+AreDigestsAmong F names None = AreSealedAmong F names
+AreDigestsAmong F names (Some n) = IsFirstUnsealed F names n
+
+-- what is found of the digests of surviving files
+abbrev pub AreDigests : CatalogData → Sites → FileContents → Option FileName → Type 0
+AreDigests C L F = AreDigestsAmong F (surviving C L)
 
 -- among these are the files under some names, those that are there
 abbrev pub AreThere : FileContents → List FileName → List (Bor (List ℕ)) → Type 0

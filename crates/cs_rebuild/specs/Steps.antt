@@ -3,7 +3,7 @@ use Rattle.std.specs.Prelude.{◌≡◌, ◌<◌, ◌^◌, List, map, Option, No
 use Rattle.std.specs.Option.{option_or}
 use Rattle.cs_schema.specs.declared.file_name.FileName.{FileName}
 use Rattle.cs_schema.specs.CatalogData.{CatalogData}
-use Rattle.cs_schema.specs.FileNames.{FileContents}
+use Rattle.cs_schema.specs.FileNames.{FileContents, Survives}
 use Rattle.cs_schema.specs.Losses.{Sites}
 use Rattle.cs_schema.specs.Order.{Fits}
 use Rattle.cs_schema.specs.Rows.{Row, IsTable}
@@ -12,16 +12,21 @@ use Rattle.cs_safety.specs.declared.ksafety.SafetyFault.{SafetyFault}
 use Rattle.cs_rows.specs.Walk.{Contents, Stray}
 use Rattle.cs_rows.specs.Survivors.{SurvivorsData, contents_of}
 use Rattle.cs_rows.specs.WalkedView.{WalkedData}
+use Rattle.cs_rebuild.specs.Reading.{resealed}
 use Rattle.cs_rebuild.specs.StoreFacts.{AreImagesThere, AreJoinsThere}
 use Rattle.cs_order.specs.Orders.{OrdersData, AreOrdersOf}
 use Rattle.cs_recovery.specs.Contents.{Reads}
 use Rattle.cs_recovery.specs.Holding.{AreContentsOf}
 use Rattle.cs_order.specs.Tables.{table_of}
-use Rattle.cs_recovery.specs.Verdicts.{IsFirstBadFile, IsWalkedBy, twice, full, misplaced, misled}
+use Rattle.cs_recovery.specs.Verdicts.{IsFirstBadFile, IsSound, IsWalkedBy, twice, full, misplaced, misled}
 
 -- the fault of the least bad file
 abbrev pub IsBadFile : CatalogData → FileContents → Sites → Fault → Type 0
 IsBadFile C F L f = (n : FileName) × IsFirstBadFile C F L n f
+
+-- the body of each surviving file is sound
+abbrev pub AreBodiesSound : CatalogData → Sites → FileContents → Type 0
+AreBodiesSound C L F = (n : FileName) → Survives C L n → IsSound C (resealed F) n
 
 -- what the surviving files hold is kept
 pub record AreRead (C : CatalogData) (F : FileContents) (L : Sites) (v : SurvivorsData) : Type 0 where

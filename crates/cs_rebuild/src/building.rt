@@ -5,12 +5,11 @@ ghost use Rattle.cs_recovery.specs.BuildAnswers.{BuildClauses, IsBuildAnswer, ev
 ghost use Rattle.cs_recovery.specs.Columns.{AreTableColumns, rows_in};
 
 use crate::columns_of_rows::{lend_columns, see_columns};
-use crate::lost_files::lost_files;
 use crate::ordered_store::store_of;
 use crate::ordering::orders_of;
 use crate::run::Run;
 use crate::sound_store::SoundStore;
-use crate::writing::recovered_files;
+use crate::writing::write_files;
 use cs_board::Gate;
 use cs_rows::Survivors;
 use cs_schema::{Catalog, Cells, Loss};
@@ -63,8 +62,6 @@ pub fn build<R: Threads + Sync, G: Gate + Sync>(
         Err(fault) => return Err(fault),
     };
     let store = store_of(catalog, every_site(catalog), &survivors, walked, orders);
-    match lost_files(run, &store) {
-        Ok(lost) => recovered_files(run, &SoundStore::of(store), lost),
-        Err(_) => Err(Fault::Memory),
-    }
+    let sound = SoundStore::of(store);
+    write_files(run, &sound)
 }

@@ -4,7 +4,8 @@ ghost use Rattle.cs_schema.specs.CatalogData.{projection};
 ghost use Rattle.cs_rebuild.specs.Joining.{ArePiecesOf, IsPieceAt};
 ghost use Rattle.cs_rebuild.specs.WorkLaws.{one_value};
 
-use crate::encoding::{LostSegment, cut_of, encode_rows};
+use crate::cutting::cut_of;
+use crate::encoding::{LostSegment, encode_rows};
 use crate::rounds::Tasks;
 use crate::run::Run;
 use cs_board::Gate;

@@ -1,16 +1,16 @@
-//! The digests of surviving files, taken side by side, apart from the reading of what they seal.
-ghost use Rattle.std.specs.Prelude.{◌≡◌, ◌<◌, false, IsTrue, IfOk, Some, List, ℕ};
+//! The digests of surviving files, compared apart from the reading of their bodies.
+ghost use Rattle.std.specs.Prelude.{◌≡◌, ◌<◌, IsTrue, IfOk, List, ℕ};
 ghost use Rattle.std.specs.Borrow.{Bor};
-ghost use Rattle.cs_schema.specs.FileNames.{surviving};
+ghost use Rattle.cs_schema.specs.FileNames.{name_cmp};
 ghost use Rattle.cs_schema.specs.Lists.{IsIn};
-ghost use Rattle.cs_store.specs.FileSet.{Files, contents_of};
-ghost use Rattle.cs_rebuild.specs.Held.{held_files};
-ghost use Rattle.cs_rebuild.specs.Reading.{AreSealed, AreThere};
+ghost use Rattle.std.specs.List.Sorted.{IsStrictlySortedBy};
+ghost use Rattle.cs_store.specs.FileSet.{contents_of};
+ghost use Rattle.cs_rebuild.specs.Reading.{AreDigests, AreDigestsAmong, AreSealedAmong, AreThere};
 
 use crate::groups::are_sealed_at_once;
-use crate::held::Held;
 use crate::run::Run;
 use cs_schema::{Catalog, FileName, Loss};
+use cs_segment::seal::is_sealed;
 use cs_store::FileSet;
 use std::alloc::{AllocError, Global};
 use std::cmp::Reverse;
@@ -44,20 +44,6 @@ fn longest_first<'a>(files: Vec<&'a [u8]>) -> Vec<&'a [u8]>
     files
 }
 
-/// The surviving files that are there, the longest first.
-fn surviving_files<'a>(
-    alloc: Global,
-    catalog: &Catalog,
-    loss: Loss,
-    files: &'a FileSet,
-) -> Result<Vec<&'a [u8]>, AllocError>
-    ensures { IfOk result (λ there. AreThere (contents_of files.now) (surviving catalog.now loss) there.items) }
-{
-    let names = catalog.surviving(alloc, loss)?;
-    let there = files_there(alloc, names.as_slice(), files)?;
-    Ok(longest_first(there))
-}
-
 /// The number of hashing threads for so many workers. No round waits for them, so they leave processors to the rounds.
 fn digests_at_once(workers: u32) -> usize
     ensures { 0 < result }
@@ -65,18 +51,17 @@ fn digests_at_once(workers: u32) -> usize
     (workers as usize / 2).max(2)
 }
 
-/// Whether each surviving file that is there has the digest of its text. For want of memory it isn't told.
+/// Whether each file under these names, if it is there, ends in the digest of its body. Without memory it is not told.
 fn are_sealed<R: Threads + Sync, G>(
     run: &Run<'_, R, G>,
-    catalog: &Catalog,
-    loss: Loss,
+    names: &[FileName],
     files: &FileSet,
 ) -> bool
-    ensures { IsTrue result → AreSealed catalog.now loss (contents_of files.now) }
+    ensures { IsTrue result → AreSealedAmong (contents_of files.now) names.now }
 {
-    let _rules = catalog.projection_count();
-    match surviving_files(run.alloc, catalog, loss, files) {
+    match files_there(run.alloc, names, files) {
         Ok(there) => {
+            let there = longest_first(there);
             let at_once = digests_at_once(run.workers);
             are_sealed_at_once(run.rt, run.alloc, there.as_slice(), at_once)
         }
@@ -84,20 +69,36 @@ fn are_sealed<R: Threads + Sync, G>(
     }
 }
 
-/// Whether each surviving file that is there has the digest of its text. The files are let go of if so.
-pub fn release_sealed<R: Threads + Sync, G>(
+/// The first of some ascending names whose file is there and does not end in the digest of its body.
+fn first_unsealed(names: &[FileName], files: &FileSet) -> Option<FileName>
+    requires { IsStrictlySortedBy name_cmp names.now }
+    ensures { AreDigestsAmong (contents_of files.now) names.now result }
+{
+    for name in names {
+        let Some(bytes) = files.get(*name) else {
+            continue;
+        };
+        if !is_sealed(bytes) {
+            return Some(*name);
+        }
+    }
+    None
+}
+
+/// The least surviving file that does not end in the digest of its body. Files are hashed side by side; only if one is wrong are
+/// they hashed again in the order of names.
+pub fn least_unsealed<R: Threads + Sync, G>(
     run: &Run<'_, R, G>,
     catalog: &Catalog,
     loss: Loss,
-    files: &mut Held<'_>,
-) -> bool
-    requires held { (F : Files) × held_files files.old ≡ Some F }
-    ensures sealed { IsTrue result → (F : Files) → held_files files.old ≡ Some F → AreSealed catalog.now loss (contents_of F) }
-    ensures kept { result ≡ false → files.new ≡ files.old }
+    files: &FileSet,
+) -> Result<Option<FileName>, AllocError>
+    ensures { IfOk result (AreDigests catalog.now loss (contents_of files.now)) }
 {
-    if !are_sealed(run, catalog, loss, files.files()) {
-        return false;
+    let _rules = catalog.projection_count();
+    let names = catalog.surviving(run.alloc, loss)?;
+    if are_sealed(run, names.as_slice(), files) {
+        return Ok(None);
     }
-    files.release();
-    true
+    Ok(first_unsealed(names.as_slice(), files))
 }

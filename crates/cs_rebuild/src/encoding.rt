@@ -7,36 +7,14 @@ ghost use Rattle.cs_schema.specs.Order.{row_limit};
 ghost use Rattle.cs_codec.specs.ColumnText.{FitsCode};
 ghost use Rattle.cs_piece.specs.Pieces.{IsPieceOf};
 ghost use Rattle.cs_order.specs.Orders.{numbers_in};
-ghost use Rattle.cs_rebuild.specs.Encoding.{pieces_of, values_at, cut_at, Rises};
+ghost use Rattle.cs_rebuild.specs.Encoding.{pieces_of, values_at, Rises};
 
 use crate::columns::table_column;
+use crate::cutting::{cut_of, pieces_in};
 use crate::ordered_store::OrderedStore;
 use cs_piece::{Piece, encode_places, join_pieces};
 use cs_schema::{Code, Kind};
 use std::alloc::{AllocError, Global};
-
-/// How many pieces a column of so many rows has.
-pub fn pieces_in(rows: usize, cut: u32) -> u32
-    requires rows { rows ≤ 1048576 }
-    requires cut { 1 ≤ cut }
-    ensures count { result ≡ pieces_of rows cut }
-    ensures few { (1 ≤ result) × (result ≤ 1048576) }
-{
-    if rows == 0 {
-        return 1;
-    }
-    ((rows + cut as usize - 1) / cut as usize) as u32
-}
-
-/// The numbers of the k-th piece of `cut` numbers.
-pub fn cut_of(numbers: &[u32], cut: u32, k: u32) -> &[u32]
-    requires { cut ≤ 1048576 }
-    ensures { result.now ≡ cut_at cut numbers.now k }
-{
-    let from = (k as usize * cut as usize).min(numbers.len());
-    let to = (from + cut as usize).min(numbers.len());
-    &numbers[from..to]
-}
 
 /// Encodes the cells of a projection's column at some walked rows, all at once.
 fn encode_cells(

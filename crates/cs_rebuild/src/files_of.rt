@@ -1,4 +1,4 @@
-//! Reading the files of one segment.
+//! Reading the bodies of one segment's files.
 ghost use Rattle.std.specs.Prelude.{◌≡◌, ◌<◌, ℕ, None, Some, Err, List, map, IfOk, IfErr};
 ghost use Rattle.cs_schema.specs.CatalogData.{HasSegment};
 ghost use Rattle.cs_schema.specs.CatalogRules.{IsCatalog};
@@ -7,20 +7,18 @@ ghost use Rattle.cs_schema.specs.declared.file_name.FileName.{FileName as NameDa
 ghost use Rattle.cs_store.specs.declared.fault.Fault.{Fault as FaultData};
 ghost use Rattle.cs_store.specs.FileSet.{contents_of};
 ghost use Rattle.cs_store.specs.Fault.{MemoryOr};
-ghost use Rattle.cs_delta.specs.DeltaFile.{DeltaData, IsDeltaFile};
-ghost use Rattle.cs_jix.specs.JoinIndex.{Place, IsJoinIndexFile};
+ghost use Rattle.cs_jix.specs.JoinIndex.{Place};
 ghost use Rattle.cs_recovery.specs.Contents.{IsJoinOf};
 ghost use Rattle.cs_segment.specs.SegmentData.{IsSegmentOf};
 ghost use Rattle.cs_segment.specs.SegmentFile.{Base, IsSegmentFile, sealed};
-ghost use Rattle.cs_rebuild.specs.Reading.{file_refusal, IsRefused, HoldsBase, HoldsChanges, IsKindedImageOf, IsFirstBadOf, IsFirstBadJoin, IsBaseRead, AreOthersRead, AreSoundFiles, AreFilesOf, as_read, joins_of, read_bytes};
+ghost use Rattle.cs_rebuild.specs.Reading.{file_refusal, IsRefused, HoldsBase, HoldsChanges, IsKindedImageOf, IsFirstBadOf, IsFirstBadJoin, IsBaseRead, AreOthersRead, AreSoundFiles, AreFilesOf, joins_of, resealed};
 
-use crate::reading::SegmentFiles;
-use cs_delta::{Delta, Image, merge_owned, read_delta, read_delta_text};
-use cs_jix::{JoinIndex, read_jix, read_jix_text};
+use cs_delta::{Delta, Image, merge_owned, read_delta_text};
+use cs_jix::{JoinIndex, read_jix_text};
 use cs_schema::{Catalog, FileName};
 use cs_segment::fault::FileFault;
 use cs_segment::seal::DIGEST;
-use cs_segment::{Segment, par_read_segment, par_read_text, read_text};
+use cs_segment::{Segment, par_read_text, read_text};
 use cs_store::{Fault, FileSet};
 use std::alloc::Global;
 use std::thread::{Threads, join_mut};
@@ -28,13 +26,13 @@ use std::thread::{Threads, join_mut};
 /// How many bytes of a segment's file are worth the start of threads.
 const WORTH_THREADS: usize = 524_288;
 
-/// The bytes under a name, which has to be there.
-fn bytes_of(files: &FileSet, name: FileName) -> Result<&[u8], Fault>
-    ensures ok { IfOk result (λ bytes. contents_of files.now name ≡ Some bytes.now) }
-    ensures err { IfErr result (λ fault. (contents_of files.now name ≡ None) × (fault ≡ FaultData.Missing name)) }
+/// The body of the file under a name: all but the digest at its end.
+fn body_of(files: &FileSet, name: FileName) -> Result<&[u8], Fault>
+    ensures ok { IfOk result (λ body. resealed (contents_of files.now) name ≡ Some (sealed body.now)) }
+    ensures err { IfErr result (λ fault. (resealed (contents_of files.now) name ≡ None) × (fault ≡ FaultData.Missing name)) }
 {
     match files.get(name) {
-        Some(bytes) => Ok(bytes),
+        Some(bytes) => Ok(&bytes[..bytes.len().saturating_sub(DIGEST)]),
         None => Err(Fault::Missing(name)),
     }
 }
@@ -49,14 +47,19 @@ fn refusal(name: FileName, fault: FileFault) -> Fault
     }
 }
 
+/// What the files of a segment hold: its image, and its join indexes with their targets.
+#[derive(Drop)]
+pub struct SegmentFiles {
+    pub image: Image,
+    pub joins: Vec<(u16, JoinIndex)>,
+}
+
 /// The files of one segment, to be read.
 #[derive(Clone, Copy)]
 pub(crate) struct SegmentSource<'a> {
     pub(crate) alloc: Global,
     pub(crate) catalog: &'a Catalog,
     pub(crate) files: &'a FileSet,
-    /// Whether digests are compared: else texts are read whatever their digests are.
-    pub(crate) compared: bool,
     /// Whether a large file is read by threads of its own.
     pub(crate) in_threads: bool,
     pub(crate) p: u16,
@@ -85,68 +88,29 @@ impl SegmentSource<'_> {
         }
     }
 
-    /// The segment of which the bytes are the file.
-    fn segment_in<R: Threads>(&self, rt: &R, bytes: &[u8]) -> Result<Segment, FileFault>
-        ensures found { IfOk result (IsSegmentOf self.now.catalog.now self.now.p self.now.s (read_bytes self.now.compared bytes.now)) }
-        ensures refused { result ≡ Err FileFault.Damaged → (b : Base) → IsSegmentFile self.now.catalog.now self.now.p self.now.s (read_bytes self.now.compared bytes.now) b → ⊥ }
-        ensures only { IfOk result (λ segment. (b : Base) → IsSegmentFile self.now.catalog.now self.now.p self.now.s (read_bytes self.now.compared bytes.now) b → b ≡ segment.base) }
+    /// The segment whose file has this body.
+    fn segment_of<R: Threads>(&self, rt: &R, body: &[u8]) -> Result<Segment, FileFault>
+        ensures found { IfOk result (IsSegmentOf self.now.catalog.now self.now.p self.now.s (sealed body.now)) }
+        ensures refused { result ≡ Err FileFault.Damaged → (b : Base) → IsSegmentFile self.now.catalog.now self.now.p self.now.s (sealed body.now) b → ⊥ }
+        ensures only { IfOk result (λ segment. (b : Base) → IsSegmentFile self.now.catalog.now self.now.p self.now.s (sealed body.now) b → b ≡ segment.base) }
     {
-        if self.compared {
-            return par_read_segment(rt, self.alloc, self.catalog, self.p, self.s, bytes);
+        if self.in_threads && body.len() >= WORTH_THREADS {
+            return par_read_text(rt, self.alloc, self.catalog, self.p, self.s, body);
         }
-        let text = &bytes[..bytes.len().saturating_sub(DIGEST)];
-        self.segment_of(rt, text)
-    }
-
-    /// The segment whose file is this text and its digest.
-    fn segment_of<R: Threads>(&self, rt: &R, text: &[u8]) -> Result<Segment, FileFault>
-        ensures found { IfOk result (IsSegmentOf self.now.catalog.now self.now.p self.now.s (sealed text.now)) }
-        ensures refused { result ≡ Err FileFault.Damaged → (b : Base) → IsSegmentFile self.now.catalog.now self.now.p self.now.s (sealed text.now) b → ⊥ }
-        ensures only { IfOk result (λ segment. (b : Base) → IsSegmentFile self.now.catalog.now self.now.p self.now.s (sealed text.now) b → b ≡ segment.base) }
-    {
-        if self.in_threads && text.len() >= WORTH_THREADS {
-            return par_read_text(rt, self.alloc, self.catalog, self.p, self.s, text);
-        }
-        read_text(self.alloc, self.catalog, self.p, self.s, text)
-    }
-
-    /// The delta of which the bytes are the file.
-    fn delta_in(&self, bytes: &[u8]) -> Result<Delta, FileFault>
-        ensures found { IfOk result (IsDeltaFile self.now.catalog.now self.now.p self.now.s (read_bytes self.now.compared bytes.now)) }
-        ensures refused { result ≡ Err FileFault.Damaged → (d : DeltaData) → IsDeltaFile self.now.catalog.now self.now.p self.now.s (read_bytes self.now.compared bytes.now) d → ⊥ }
-        ensures only { IfOk result (λ delta. (d : DeltaData) → IsDeltaFile self.now.catalog.now self.now.p self.now.s (read_bytes self.now.compared bytes.now) d → d ≡ delta) }
-    {
-        if self.compared {
-            return read_delta(self.alloc, self.catalog, self.p, self.s, bytes);
-        }
-        let text = &bytes[..bytes.len().saturating_sub(DIGEST)];
-        read_delta_text(self.alloc, self.catalog, self.p, self.s, text)
-    }
-
-    /// The join index to a projection of which the bytes are the file.
-    fn join_in(&self, q: u16, bytes: &[u8]) -> Result<JoinIndex, FileFault>
-        ensures found { IfOk result (IsJoinIndexFile self.now.p self.now.s q (read_bytes self.now.compared bytes.now)) }
-        ensures refused { result ≡ Err FileFault.Damaged → (entries : List Place) → IsJoinIndexFile self.now.p self.now.s q (read_bytes self.now.compared bytes.now) entries → ⊥ }
-        ensures only { IfOk result (λ join. (entries : List Place) → IsJoinIndexFile self.now.p self.now.s q (read_bytes self.now.compared bytes.now) entries → entries ≡ join) }
-    {
-        if self.compared {
-            return read_jix(self.alloc, self.p, self.s, q, bytes);
-        }
-        let text = &bytes[..bytes.len().saturating_sub(DIGEST)];
-        read_jix_text(self.alloc, self.p, self.s, q, text)
+        read_text(self.alloc, self.catalog, self.p, self.s, body)
     }
 
     /// Reads the segment file.
     fn read_base<R: Threads>(&self, rt: &R) -> Result<Segment, Fault>
-        ensures ok { IfOk result (HoldsBase self.now.catalog.now (as_read self.now.compared (contents_of self.now.files.now)) self.now.p self.now.s) }
-        ensures err { IfErr result (λ fault. MemoryOr fault (IsRefused self.now.catalog.now (as_read self.now.compared (contents_of self.now.files.now)) (NameData.Seg self.now.p self.now.s) fault)) }
+        ensures ok { IfOk result (HoldsBase self.now.catalog.now (resealed (contents_of self.now.files.now)) self.now.p self.now.s) }
+        ensures err { IfErr result (λ fault. MemoryOr fault (IsRefused self.now.catalog.now (resealed (contents_of self.now.files.now)) (NameData.Seg self.now.p self.now.s) fault)) }
     {
         let name = self.base_name();
-        let bytes = match bytes_of(self.files, name) {
-            Ok(bytes) => bytes,
+        let body = match body_of(self.files, name) {
+            Ok(body) => body,
             Err(fault) => return Err(fault),
         };
-        match self.segment_in(rt, bytes) {
+        match self.segment_of(rt, body) {
             Ok(segment) => Ok(segment),
             Err(fault) => Err(refusal(name, fault)),
         }
@@ -154,15 +118,15 @@ impl SegmentSource<'_> {
 
     /// Reads the delta.
     fn read_changes(&self) -> Result<Delta, Fault>
-        ensures ok { IfOk result (HoldsChanges self.now.catalog.now (as_read self.now.compared (contents_of self.now.files.now)) self.now.p self.now.s) }
-        ensures err { IfErr result (λ fault. MemoryOr fault (IsRefused self.now.catalog.now (as_read self.now.compared (contents_of self.now.files.now)) (NameData.Del self.now.p self.now.s) fault)) }
+        ensures ok { IfOk result (HoldsChanges self.now.catalog.now (resealed (contents_of self.now.files.now)) self.now.p self.now.s) }
+        ensures err { IfErr result (λ fault. MemoryOr fault (IsRefused self.now.catalog.now (resealed (contents_of self.now.files.now)) (NameData.Del self.now.p self.now.s) fault)) }
     {
         let name = self.delta_name();
-        let bytes = match bytes_of(self.files, name) {
-            Ok(bytes) => bytes,
+        let body = match body_of(self.files, name) {
+            Ok(body) => body,
             Err(fault) => return Err(fault),
         };
-        match self.delta_in(bytes) {
+        match read_delta_text(self.alloc, self.catalog, self.p, self.s, body) {
             Ok(delta) => Ok(delta),
             Err(fault) => Err(refusal(name, fault)),
         }
@@ -170,19 +134,19 @@ impl SegmentSource<'_> {
 
     /// Reads the join index to a projection.
     fn read_join(&self, q: u16) -> Result<JoinIndex, Fault>
-        ensures ok { IfOk result (IsJoinOf (as_read self.now.compared (contents_of self.now.files.now)) self.now.p self.now.s q) }
-        ensures err { IfErr result (λ fault. MemoryOr fault (IsRefused self.now.catalog.now (as_read self.now.compared (contents_of self.now.files.now)) (NameData.Jix self.now.p self.now.s q) fault)) }
+        ensures ok { IfOk result (IsJoinOf (resealed (contents_of self.now.files.now)) self.now.p self.now.s q) }
+        ensures err { IfErr result (λ fault. MemoryOr fault (IsRefused self.now.catalog.now (resealed (contents_of self.now.files.now)) (NameData.Jix self.now.p self.now.s q) fault)) }
     {
         let name = FileName::Jix {
             p: self.p,
             s: self.s,
             q,
         };
-        let bytes = match bytes_of(self.files, name) {
-            Ok(bytes) => bytes,
+        let body = match body_of(self.files, name) {
+            Ok(body) => body,
             Err(fault) => return Err(fault),
         };
-        match self.join_in(q, bytes) {
+        match read_jix_text(self.alloc, self.p, self.s, q, body) {
             Ok(join) => Ok(join),
             Err(fault) => Err(refusal(name, fault)),
         }
@@ -190,11 +154,11 @@ impl SegmentSource<'_> {
 
     /// The image of the segment. A delta that cannot be merged is damaged.
     fn merge_image(&self, segment: Segment, delta: &Delta) -> Result<Image, Fault>
-        requires base { HoldsBase self.now.catalog.now (as_read self.now.compared (contents_of self.now.files.now)) self.now.p self.now.s segment }
-        requires changes { HoldsChanges self.now.catalog.now (as_read self.now.compared (contents_of self.now.files.now)) self.now.p self.now.s delta.now }
+        requires base { HoldsBase self.now.catalog.now (resealed (contents_of self.now.files.now)) self.now.p self.now.s segment }
+        requires changes { HoldsChanges self.now.catalog.now (resealed (contents_of self.now.files.now)) self.now.p self.now.s delta.now }
         requires rules { IsCatalog self.now.catalog.now }
-        ensures ok { IfOk result (IsKindedImageOf self.now.catalog.now (as_read self.now.compared (contents_of self.now.files.now)) self.now.p self.now.s) }
-        ensures err { IfErr result (λ fault. MemoryOr fault (IsRefused self.now.catalog.now (as_read self.now.compared (contents_of self.now.files.now)) (NameData.Del self.now.p self.now.s) fault)) }
+        ensures ok { IfOk result (IsKindedImageOf self.now.catalog.now (resealed (contents_of self.now.files.now)) self.now.p self.now.s) }
+        ensures err { IfErr result (λ fault. MemoryOr fault (IsRefused self.now.catalog.now (resealed (contents_of self.now.files.now)) (NameData.Del self.now.p self.now.s) fault)) }
     {
         match merge_owned(self.alloc, segment, delta) {
             Ok(image) => Ok(image),
@@ -205,8 +169,8 @@ impl SegmentSource<'_> {
     /// The join indexes, with their targets.
     fn read_joins(&self) -> Result<Vec<(u16, JoinIndex)>, Fault>
         ensures targets { IfOk result (λ joins. map (λ j. j.0) joins.items ≡ joins_of self.now.catalog.now self.now.p) }
-        ensures joins { IfOk result (λ joins. (j : ℕ × List Place) → IsIn j joins.items → IsJoinOf (as_read self.now.compared (contents_of self.now.files.now)) self.now.p self.now.s j.0 j.1) }
-        ensures err { IfErr result (λ fault. MemoryOr fault (IsFirstBadJoin self.now.catalog.now (as_read self.now.compared (contents_of self.now.files.now)) self.now.p self.now.s fault)) }
+        ensures joins { IfOk result (λ joins. (j : ℕ × List Place) → IsIn j joins.items → IsJoinOf (resealed (contents_of self.now.files.now)) self.now.p self.now.s j.0 j.1) }
+        ensures err { IfErr result (λ fault. MemoryOr fault (IsFirstBadJoin self.now.catalog.now (resealed (contents_of self.now.files.now)) self.now.p self.now.s fault)) }
         ensures rules { IsCatalog self.now.catalog.now }
     {
         let mut joins = Vec::new(self.alloc);
@@ -228,7 +192,7 @@ impl SegmentSource<'_> {
 
     /// What the delta and the join indexes hold, each whether or not the other can be read.
     fn read_others(&self) -> (Result<Delta, Fault>, Result<Vec<(u16, JoinIndex)>, Fault>)
-        ensures others { AreOthersRead self.now.catalog.now (as_read self.now.compared (contents_of self.now.files.now)) self.now.p self.now.s result }
+        ensures others { AreOthersRead self.now.catalog.now (resealed (contents_of self.now.files.now)) self.now.p self.now.s result }
         ensures rules { IsCatalog self.now.catalog.now }
     {
         (self.read_changes(), self.read_joins())
@@ -251,8 +215,8 @@ impl SegmentSource<'_> {
         (Result<Delta, Fault>, Result<Vec<(u16, JoinIndex)>, Fault>),
         Result<Segment, Fault>,
     )
-        ensures others { AreOthersRead self.now.catalog.now (as_read self.now.compared (contents_of self.now.files.now)) self.now.p self.now.s result.0 }
-        ensures base { IsBaseRead self.now.catalog.now (as_read self.now.compared (contents_of self.now.files.now)) self.now.p self.now.s result.1 }
+        ensures others { AreOthersRead self.now.catalog.now (resealed (contents_of self.now.files.now)) self.now.p self.now.s result.0 }
+        ensures base { IsBaseRead self.now.catalog.now (resealed (contents_of self.now.files.now)) self.now.p self.now.s result.1 }
         ensures rules { IsCatalog self.now.catalog.now }
     {
         if !self.in_threads || !self.is_large() {
@@ -263,20 +227,20 @@ impl SegmentSource<'_> {
         join_mut(
             rt,
             &mut || -> (Result<Delta, Fault>, Result<Vec<(u16, JoinIndex)>, Fault>)
-                ensures others { AreOthersRead self.entry.now.catalog.now (as_read self.entry.now.compared (contents_of self.entry.now.files.now)) self.entry.now.p self.entry.now.s result }
+                ensures others { AreOthersRead self.entry.now.catalog.now (resealed (contents_of self.entry.now.files.now)) self.entry.now.p self.entry.now.s result }
                 ensures rules { IsCatalog self.entry.now.catalog.now }
             { self.read_others() },
             &mut || -> Result<Segment, Fault>
-                ensures { IsBaseRead self.entry.now.catalog.now (as_read self.entry.now.compared (contents_of self.entry.now.files.now)) self.entry.now.p self.entry.now.s result }
+                ensures { IsBaseRead self.entry.now.catalog.now (resealed (contents_of self.entry.now.files.now)) self.entry.now.p self.entry.now.s result }
             { self.read_base(rt) },
         )
     }
 
     /// What the files hold, or the refusal of the least bad one.
     pub(crate) fn read<R: Threads>(&self, rt: &R) -> Result<SegmentFiles, Fault>
-        ensures sound { IfOk result (λ _. AreSoundFiles self.now.catalog.now (as_read self.now.compared (contents_of self.now.files.now)) (self.now.p, self.now.s)) }
-        ensures ok { IfOk result (AreFilesOf self.now.catalog.now (as_read self.now.compared (contents_of self.now.files.now)) (self.now.p, self.now.s)) }
-        ensures err { IfErr result (λ fault. MemoryOr fault (IsFirstBadOf self.now.catalog.now (as_read self.now.compared (contents_of self.now.files.now)) (self.now.p, self.now.s) fault)) }
+        ensures sound { IfOk result (λ _. AreSoundFiles self.now.catalog.now (resealed (contents_of self.now.files.now)) (self.now.p, self.now.s)) }
+        ensures ok { IfOk result (AreFilesOf self.now.catalog.now (resealed (contents_of self.now.files.now)) (self.now.p, self.now.s)) }
+        ensures err { IfErr result (λ fault. MemoryOr fault (IsFirstBadOf self.now.catalog.now (resealed (contents_of self.now.files.now)) (self.now.p, self.now.s) fault)) }
     {
         let ((delta, joins), segment) = self.read_each(rt);
         let segment = match segment {

@@ -9,10 +9,10 @@ ghost use Rattle.cs_rebuild.specs.WorkLaws.{one_value};
 
 use crate::anchored::walk_anchored;
 use crate::appending::join_table;
+use crate::cutting::count_pieces;
 use crate::lending::lent_columns;
 use crate::rounds::Tasks;
 use crate::run::Run;
-use crate::walking::count_pieces;
 use cs_board::{Gate, Round};
 use cs_rows::range::WalkFault;
 use cs_rows::{PlanWalk, Table, Walked};

@@ -1,18 +1,19 @@
-//! Recovery and the check of a store.
+//! Recovery, the check and the table of a store.
 ghost use Rattle.std.specs.Prelude.{◌≡◌, ◌≤◌, Some};
 ghost use Rattle.cs_store.specs.FileSet.{Files, contents_of};
 ghost use Rattle.cs_recovery.specs.Claims.{IsRebuildAnswer, IsCheckAnswer};
 ghost use Rattle.cs_recovery.specs.Laws.{RebuildClauses, CheckClauses};
+ghost use Rattle.cs_recovery.specs.TableAnswers.{IsTableAnswer, TableClauses};
 ghost use Rattle.cs_rebuild.specs.Held.{held_files};
 ghost use Rattle.cs_rebuild.specs.Steps.{safety_refusal as refusal_of};
 
-use crate::counting::count_rows;
+use crate::answering::answer;
 use crate::held::Held;
-use crate::rebuilding::rebuild_files;
 use crate::run::Run;
+use crate::wanted::{Answer, Wanted};
 use cs_board::{Gate, OpenGate};
 use cs_safety::{SafetyFault, ksafe, safe};
-use cs_schema::{Catalog, Loss};
+use cs_schema::{Catalog, Cells, Loss};
 use cs_store::{Fault, FileSet};
 use std::alloc::Global;
 use std::marker::Sync;
@@ -106,7 +107,15 @@ fn rebuild_held<R: Threads + Sync, G: Gate + Sync>(
     if !safe(catalog, loss) {
         return Err(Fault::Unsafe(loss));
     }
-    rebuild_files(run, catalog, loss, files, shared)
+    let (mut files, mut shared) = (files, shared);
+    let answered = match answer(run, catalog, loss, &mut files, &mut shared, Wanted::Files) {
+        Ok(answered) => answered,
+        Err(fault) => return Err(fault),
+    };
+    match answered {
+        Answer::Files(files) => Ok(files),
+        _ => unreachable!(),
+    }
 }
 
 /// The number of rows of a store that is sound, and safe for losses of at most `k` sites.
@@ -189,7 +198,22 @@ fn check_held<R: Threads + Sync, G: Gate + Sync>(
     if let Err(fault) = ksafe(catalog, k) {
         return Err(safety_refusal(fault));
     }
-    count_rows(run, catalog, Loss::none(), files, shared)
+    let (mut files, mut shared) = (files, shared);
+    let answered = match answer(
+        run,
+        catalog,
+        Loss::none(),
+        &mut files,
+        &mut shared,
+        Wanted::Count,
+    ) {
+        Ok(answered) => answered,
+        Err(fault) => return Err(fault),
+    };
+    match answered {
+        Answer::Count(rows) => Ok(rows),
+        _ => unreachable!(),
+    }
 }
 
 /// How a catalog that is not safe is refused.
@@ -199,5 +223,38 @@ fn safety_refusal(fault: SafetyFault) -> Fault
     match fault {
         SafetyFault::BadK => Fault::BadK,
         SafetyFault::Unsafe(loss) => Fault::Unsafe(loss),
+    }
+}
+
+/// The rows of the table that the survivors of a loss hold, by primary key, as a column of cells for each column of the table.
+/// Only the files of surviving segments are looked at. With no site lost they are those of the whole store.
+///
+/// The first refusal that applies comes, as of `rebuild`: `Site`, `Unsafe`, `Missing` or `Damaged` of the least such file,
+/// `Astray`, `Twice`, `Full`, `Misplaced`, `Misled`. `Memory` may take the place of any answer.
+pub fn table<R: Threads + Sync, G: Gate + Sync>(
+    run: &Run<'_, R, G>,
+    catalog: &Catalog,
+    files: &FileSet,
+    loss: Loss,
+) -> Result<Vec<Cells>, Fault>
+    ensures answer { IsTableAnswer catalog.now (contents_of files.now) loss result }
+    ensures clauses { TableClauses catalog.now (contents_of files.now) loss result }
+{
+    let _rules = catalog.projection_count();
+    let _sites = loss.count();
+    if !catalog.has_sites(loss) {
+        return Err(Fault::Site);
+    }
+    if !safe(catalog, loss) {
+        return Err(Fault::Unsafe(loss));
+    }
+    let (mut held, mut shared) = (Held::Lent(files), Held::Lent(files));
+    let answered = match answer(run, catalog, loss, &mut held, &mut shared, Wanted::Columns) {
+        Ok(answered) => answered,
+        Err(fault) => return Err(fault),
+    };
+    match answered {
+        Answer::Columns(columns) => Ok(columns),
+        _ => unreachable!(),
     }
 }

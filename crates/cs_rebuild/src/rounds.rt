@@ -6,7 +6,7 @@ ghost use Rattle.cs_store.specs.declared.fault.Fault.{Fault as FaultData};
 ghost use Rattle.cs_rebuild.specs.Rounds.{is_memory, IsNoMemory, IsFirstFault};
 
 use crate::run::Run;
-use cs_board::{Gate, OpenGate, Round, RunFault, Work, run, run_in_turn};
+use cs_board::{Gate, Round, RunFault, Work, run};
 use cs_store::Fault;
 use std::marker::{Send, Sync};
 use std::thread::Threads;
@@ -102,19 +102,6 @@ impl<'a, R: Threads + Sync, G: Gate + Sync> Run<'a, R, G> {
     {
         self.gate.opened(round, tasks.count());
         self.part(0, tasks)
-    }
-
-    /// Does tasks in this thread alone, one after the other. No round opens, and the gate is told of none.
-    pub(crate) fn in_turn<T: Tasks + Sync>(&self, tasks: &T) -> Result<Vec<T::Out>, Fault>
-        ensures ok { IfOk result (λ outs. IsAnswered (T.fault_at tasks.now) (T.answers tasks.now) (T.tasks tasks.now) outs.items) }
-        ensures err { IfErr result (λ fault. MemoryOr fault (IsFirstFault (T.fault_at tasks.now) (T.tasks tasks.now) fault)) }
-    {
-        let work = TasksWork { tasks };
-        match run_in_turn(self.alloc, &work, &OpenGate) {
-            Ok(outs) => Ok(outs),
-            Err(RunFault::Memory) => Err(Fault::Memory),
-            Err(RunFault::At(_, fault)) => Err(fault),
-        }
     }
 
     /// Does tasks that are a part of a round that is open, with so many before them, as `round` does.

@@ -8,9 +8,9 @@ ghost use Rattle.cs_rows.specs.WalkByRows.{surviving_rows, walked_by_rows};
 ghost use Rattle.cs_rebuild.specs.Walking.{HasTableKinds, RowsFaultAt, RowsAnswerAt};
 ghost use Rattle.cs_rebuild.specs.WorkLaws.{one_value};
 
+use crate::cutting::count_pieces;
 use crate::rounds::Tasks;
 use crate::run::Run;
-use crate::walking::count_pieces;
 use cs_board::{Gate, Round};
 use cs_rows::by_rows::walk_fresh_rows;
 use cs_rows::counts::surviving_row_count;

@@ -1,28 +1,20 @@
-//! The table that the survivors of a loss hold.
+//! The rows of the table by primary key.
 ghost use Rattle.std.specs.Prelude.{◌≡◌, ◌<◌, ◌^◌, ℕ, All, false, length, map, slice_index, IfOk};
 ghost use Rattle.std.specs.Option.{option_map, unwrap_or};
 ghost use Rattle.cs_schema.specs.Rows.{cell};
 ghost use Rattle.cs_schema.specs.Values.{kind_of, values};
-ghost use Rattle.cs_store.specs.FileSet.{contents_of};
 ghost use Rattle.cs_rows.specs.TableView.{over};
 ghost use Rattle.cs_rows.specs.WalkedView.{AreColumns, count_of, rows_of};
 ghost use Rattle.cs_order.specs.Orders.{row_at};
 ghost use Rattle.cs_order.specs.Tables.{is_twice, table_of};
 ghost use Rattle.cs_recovery.specs.Columns.{AreColumnsOf};
-ghost use Rattle.cs_recovery.specs.TableAnswers.{IsTableAnswer, TableClauses};
 
 use crate::columns::cells_at;
 use crate::lending::column_count;
-use crate::ordered_store::OrderedStore;
-use crate::reading::read_store;
 use crate::run::Run;
-use crate::verifying::verify;
-use cs_board::Gate;
 use cs_order::key_order;
 use cs_rows::{Lent, Table};
-use cs_safety::safe;
-use cs_schema::{Catalog, Cells, Kind, Loss};
-use cs_store::{Fault, FileSet};
+use cs_schema::{Catalog, Cells, Kind};
 use std::alloc::{AllocError, Global};
 use std::marker::Sync;
 use std::mem::replace;
@@ -81,42 +73,4 @@ pub fn rows_by_key<R: Threads + Sync, G>(
     let numbers = key_order(run.rt, run.alloc, &walked, catalog)?;
     let (made, lent) = walked.into_columns();
     pick_columns(run.alloc, catalog, made, &lent, numbers.as_slice())
-}
-
-/// The rows of the table that the survivors of a loss hold, by primary key, as a column of cells for each column of the table.
-/// Only the files of surviving segments are looked at. With no site lost they are those of the whole store.
-///
-/// The first refusal that applies comes, as of `rebuild`: `Site`, `Unsafe`, `Missing` or `Damaged` of the least such file,
-/// `Astray`, `Twice`, `Full`, `Misplaced`, `Misled`. `Memory` may take the place of any answer.
-pub fn table<R: Threads + Sync, G: Gate + Sync>(
-    run: &Run<'_, R, G>,
-    catalog: &Catalog,
-    files: &FileSet,
-    loss: Loss,
-) -> Result<Vec<Cells>, Fault>
-    ensures answer { IsTableAnswer catalog.now (contents_of files.now) loss result }
-    ensures clauses { TableClauses catalog.now (contents_of files.now) loss result }
-{
-    let _rules = catalog.projection_count();
-    let _sites = loss.count();
-    if !catalog.has_sites(loss) {
-        return Err(Fault::Site);
-    }
-    if !safe(catalog, loss) {
-        return Err(Fault::Unsafe(loss));
-    }
-    let survivors = match read_store(run, catalog, loss, files) {
-        Ok(survivors) => survivors,
-        Err(fault) => return Err(fault),
-    };
-    let store = match verify(run, catalog, loss, &survivors) {
-        Ok(store) => store,
-        Err(fault) => return Err(fault),
-    };
-    // the orders are let go of before the rows are copied
-    let OrderedStore { walked, .. } = store.into_ordered();
-    match rows_by_key(run, catalog, walked) {
-        Ok(columns) => Ok(columns),
-        Err(_) => Err(Fault::Memory),
-    }
 }

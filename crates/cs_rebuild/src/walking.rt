@@ -1,5 +1,5 @@
 //! Walking the surviving rows, by the catalog's rule.
-ghost use Rattle.std.specs.Prelude.{◌≡◌, ◌<◌, ◌≤◌, ◌+◌, ◌*◌, ◌^◌, length, Ok, Err, IfOk, IfErr};
+ghost use Rattle.std.specs.Prelude.{◌≡◌, ◌<◌, ◌^◌, length, Ok, Err, IfOk, IfErr};
 ghost use Rattle.cs_schema.specs.CatalogRules.{IsCatalog};
 ghost use Rattle.cs_schema.specs.FileNames.{FileContents};
 ghost use Rattle.cs_store.specs.Fault.{MemoryOr};
@@ -21,18 +21,6 @@ use cs_schema::{Catalog, Loss, Safety};
 use cs_store::Fault;
 use std::marker::Sync;
 use std::thread::Threads;
-
-/// The number of pieces of `cut` rows, the last of which may have fewer.
-pub fn count_pieces(rows: usize, cut: u32) -> u32
-    requires few { rows < 2 ^ 32 }
-    requires cut { 1 ≤ cut }
-    ensures { (rows ≤ result * cut) × (result * cut < rows + cut) }
-{
-    if rows == 0 {
-        return 0;
-    }
-    ((rows - 1) / cut as usize) as u32 + 1
-}
 
 /// The rows to which the walk of a plan leads.
 fn walk_plan<'a, R: Threads + Sync, G: Gate + Sync>(

@@ -3,10 +3,11 @@ ghost use Rattle.std.specs.Prelude.{◌≡◌, ◌⊎◌, ◌++◌, All, Some, m
 ghost use Rattle.cs_schema.specs.declared.file_name.FileName.{FileName as NameData};
 ghost use Rattle.cs_store.specs.FileSet.{contents_of};
 ghost use Rattle.cs_store.specs.declared.fault.Fault.{Fault as FaultData};
-ghost use Rattle.cs_rebuild.specs.OnStore.{written_on};
+ghost use Rattle.cs_rebuild.specs.OnStore.{IsSound, written_on};
 ghost use Rattle.cs_rebuild.specs.LostFiles.{affected_joins, join_name, lost_names};
 
 use crate::affected_joins::joins_after;
+use crate::lost_files::lost_files;
 use crate::ordered_store::OrderedStore;
 use crate::run::Run;
 use crate::sound_store::SoundStore;
@@ -15,10 +16,10 @@ use cs_schema::FileName;
 use cs_store::{Fault, FileSet};
 use std::alloc::{AllocError, Global};
 use std::marker::Sync;
-use std::thread::Threads;
+use std::thread::{Threads, join_mut};
 
 /// The files of the lost segments and the affected join indexes, which are made, put together.
-pub fn put_together(
+fn put_together(
     alloc: Global,
     store: &OrderedStore<'_>,
     lost: Vec<(FileName, Vec<u8>)>,
@@ -41,20 +42,51 @@ pub fn put_together(
     Ok(files)
 }
 
-/// The files that a recovery writes, of which those of the lost segments and their deltas are made.
-pub fn recovered_files<R: Threads + Sync, G: Gate + Sync>(
+/// The join indexes that the loss affects, and beside them the files of the lost segments: neither asks for the other.
+fn make_files<R: Threads + Sync, G: Gate + Sync>(
+    run: &Run<'_, R, G>,
+    store: &OrderedStore<'_>,
+) -> (
+    Result<Vec<(FileName, Vec<u8>)>, AllocError>,
+    Result<Vec<(FileName, Vec<u8>)>, AllocError>,
+)
+    requires { IsSound store.now }
+    ensures join_names { IfOk result.0 (λ made. map (λ file. file.0) made.items ≡ map join_name (affected_joins store.now.catalog.now store.now.loss)) }
+    ensures join_texts { IfOk result.0 (λ made. All (λ file. written_on store.now file.0 ≡ Some file.1.items) made.items) }
+    ensures lost_names { IfOk result.1 (λ made. map (λ file. file.0) made.items ≡ lost_names store.now.catalog.now store.now.loss) }
+    ensures lost_texts { IfOk result.1 (λ made. All (λ file. written_on store.now file.0 ≡ Some file.1.items) made.items) }
+{
+    // of a closure over a struct of references `join` says nothing
+    join_mut(
+        run.rt,
+        &mut || -> Result<Vec<(FileName, Vec<u8>)>, AllocError>
+            requires { IsSound store.now }
+            ensures names { IfOk result (λ made. map (λ file. file.0) made.items ≡ map join_name (affected_joins store.entry.now.catalog.now store.entry.now.loss)) }
+            ensures texts { IfOk result (λ made. All (λ file. written_on store.entry.now file.0 ≡ Some file.1.items) made.items) }
+        { joins_after(run, store) },
+        &mut || -> Result<Vec<(FileName, Vec<u8>)>, AllocError>
+            ensures names { IfOk result (λ made. map (λ file. file.0) made.items ≡ lost_names store.entry.now.catalog.now store.entry.now.loss) }
+            ensures texts { IfOk result (λ made. All (λ file. written_on store.entry.now file.0 ≡ Some file.1.items) made.items) }
+        { lost_files(run, store) },
+    )
+}
+
+/// The files that a recovery writes.
+pub fn write_files<R: Threads + Sync, G: Gate + Sync>(
     run: &Run<'_, R, G>,
     store: &SoundStore<'_>,
-    lost: Vec<(FileName, Vec<u8>)>,
 ) -> Result<FileSet, Fault>
-    requires names { map (λ file. file.0) lost.items ≡ lost_names store.now.catalog.now store.now.loss }
-    requires texts { All (λ file. written_on store.now file.0 ≡ Some file.1.items) lost.items }
     ensures ok { IfOk result (λ out. (n : NameData) → contents_of out n ≡ written_on store.now n) }
     ensures err { IfErr result (λ fault. fault ≡ FaultData.Memory) }
 {
     let store = store.ordered();
-    let joins = match joins_after(run, store) {
+    let (joins, lost) = make_files(run, store);
+    let joins = match joins {
         Ok(joins) => joins,
+        Err(_) => return Err(Fault::Memory),
+    };
+    let lost = match lost {
+        Ok(lost) => lost,
         Err(_) => return Err(Fault::Memory),
     };
     match put_together(run.alloc, store, lost, joins) {

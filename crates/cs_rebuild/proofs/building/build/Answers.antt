@@ -44,8 +44,8 @@ store_of-store-requires-clause-table g c =
     let are : (row : Row) → IsIn row w.rows → IsRow C row = λ row i. rows_are C c.args.rows.now c.requires c.see_columns.ensures row (subst (IsIn row) rows i) in
     (held_afresh C c.projection_count-rules.ensures.rules w are c.in-Ok-new.survivors c.in-Ok-orders_of.ensures.sound).table
 
-pub of-requires : goal.of-requires
-of-requires g c =
+pub of-sound-requires : goal.of-sound-requires
+of-sound-requires g c =
     let C = c.args.catalog.now in
     let w = c.in-Ok.walked in
     let rows : w.rows ≡ rows_in c.args.rows.now = ap (λ (x : WalkedData). x.rows) c.in-Ok.ensures in
@@ -54,15 +54,15 @@ of-requires g c =
     let e = c.store_of-store.ensures in
     (no_files, on_store (λ D L v x. HoldsTable D no_files L v x) (sym e.catalog) (sym (e.loss ∙ c.every_site.ensures)) (sym e.survivors) (sym e.walked) held)
 
-pub returns-in-Ok-lost_files-clause-answer : goal.returns-in-Ok-lost_files-clause-answer
-returns-in-Ok-lost_files-clause-answer g c =
+pub returns-clause-answer : goal.returns-clause-answer
+returns-clause-answer g c =
     let C = c.args.catalog.now in
     let w = c.in-Ok.walked in
     let rows : w.rows ≡ rows_in c.args.rows.now = ap (λ (x : WalkedData). x.rows) c.in-Ok.ensures in
     let e = c.store_of-store.ensures in
-    let r = c.recovered_files-in-Ok-lost_files.result in
-    let files = on_store (λ D L v x. IfOk r (λ out. (n : FileName) → contents_of out n ≡ written D L (held_by v) (table_of D x.rows) n)) e.catalog (e.loss ∙ c.every_site.ensures) e.survivors e.walked (subst (λ (o : OrderedStore). IfOk r (λ out. (n : FileName) → contents_of out n ≡ written_on o n)) c.of.ensures c.recovered_files-in-Ok-lost_files.ensures.ok) in
-    subst (λ (l : List Row). IsBuildAnswer C l r) rows (built_answer C c.projection_count-rules.ensures.rules w.rows c.in-Ok-new.survivors c.in-Ok-orders_of.ensures.sound r files c.recovered_files-in-Ok-lost_files.ensures.err)
+    let r = c.write_files.result in
+    let files = on_store (λ D L v x. IfOk r (λ out. (n : FileName) → contents_of out n ≡ written D L (held_by v) (table_of D x.rows) n)) e.catalog (e.loss ∙ c.every_site.ensures) e.survivors e.walked (subst (λ (o : OrderedStore). IfOk r (λ out. (n : FileName) → contents_of out n ≡ written_on o n)) c.of-sound.ensures c.write_files.ensures.ok) in
+    subst (λ (l : List Row). IsBuildAnswer C l r) rows (built_answer C c.projection_count-rules.ensures.rules w.rows c.in-Ok-new.survivors c.in-Ok-orders_of.ensures.sound r files c.write_files.ensures.err)
 
-pub returns-in-Ok-lost_files-clause-clauses : goal.returns-in-Ok-lost_files-clause-clauses
-returns-in-Ok-lost_files-clause-clauses g c = build_ends c.args.catalog.now c.projection_count-rules.ensures.rules (rows_in c.args.rows.now) (rows_are c.args.catalog.now c.args.rows.now c.requires c.see_columns.ensures) _ (returns-in-Ok-lost_files-clause-answer g c)
+pub returns-clause-clauses : goal.returns-clause-clauses
+returns-clause-clauses g c = build_ends c.args.catalog.now c.projection_count-rules.ensures.rules (rows_in c.args.rows.now) (rows_are c.args.catalog.now c.args.rows.now c.requires c.see_columns.ensures) _ (returns-clause-answer g c)

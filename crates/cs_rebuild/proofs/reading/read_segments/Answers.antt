@@ -1,24 +1,4 @@
-use Rattle.std.proofs.Common.{◌≤◌, length, subst, sym, ◌∙◌}
-use Rattle.rayon.proofs.ListFacts.{IfOk-then}
-use Rattle.cs_store.specs.FileSet.{contents_of}
-use Rattle.cs_rebuild.specs.Reading.{as_read}
-use Rattle.cs_schema.specs.Lists.{IsIn}
-use Rattle.cs_recovery.proofs.Exact.{survivors_survive}
-use Rattle.cs_rebuild.proofs.Segments.{least_bad}
-use Rattle.cs_rebuild.proofs.Verdicts.{memory_or, on_error}
 use Rattle.cs_rebuild.proofs.reading.read_segments.Goals as goal
 
-pub read_in_order-requires-clause-few : goal.read_in_order-requires-clause-few
-read_in_order-requires-clause-few g c κs within = subst (λ l. length l ≤ 128) (sym c.as_slice.ensures.value) c.in-Ok.ensures.few
-
-pub read_in_order-requires-clause-exist : goal.read_in_order-requires-clause-exist
-read_in_order-requires-clause-exist g c κs within a i = (survivors_survive c.args.catalog.now c.args.loss a (subst (IsIn a) (c.as_slice.ensures.value ∙ c.in-Ok.ensures.all) i)).0
-
-pub returns-in-Ok-clause-ok : goal.returns-in-Ok-clause-ok
-returns-in-Ok-clause-ok g c =
-    IfOk-then c.read_in_order.result _ _ c.read_in_order.ensures.ok (λ kept h. h c.args.loss (λ a i. subst (IsIn a) (sym (c.as_slice.ensures.value ∙ c.in-Ok.ensures.all)) i))
-
-pub returns-in-Ok-clause-bad : goal.returns-in-Ok-clause-bad
-returns-in-Ok-clause-bad g c =
-    on_error c.read_in_order.result _ _ c.read_in_order.ensures.err (λ fault h.
-    memory_or fault h (least_bad c.args.catalog.now (as_read c.args.compared (contents_of c.args.files.now)) c.args.loss c.as_slice.result.now (c.as_slice.ensures.value ∙ c.in-Ok.ensures.all) (length c.as_slice.result.now) fault))
+pub invariant_of-work : goal.invariant_of-work
+invariant_of-work g c = record { rules = c.projection_count-rules.ensures.rules; few = c.requires.few; exist = c.requires.exist }

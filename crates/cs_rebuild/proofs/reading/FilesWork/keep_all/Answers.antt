@@ -17,7 +17,7 @@ use Rattle.cs_rows.specs.Survivors.{SurvivorsData, held}
 use Rattle.cs_recovery.specs.Contents.{IsImageOf, IsJoinOf}
 use Rattle.cs_recovery.specs.Verdicts.{surviving_segments}
 use Rattle.cs_recovery.proofs.Judged.{in_survivors}
-use Rattle.cs_rebuild.specs.Reading.{AreFilesOf, IsKept, AreOthersKept, as_read, joins_of}
+use Rattle.cs_rebuild.specs.Reading.{AreFilesOf, IsKept, AreOthersKept, resealed, joins_of}
 use Rattle.cs_rebuild.specs.Steps.{AreRead}
 use Rattle.cs_rebuild.proofs.Keeping.{popped, one_less, place_in, no_rest}
 use Rattle.cs_rebuild.proofs.Numbers.{by_equal}
@@ -58,7 +58,7 @@ all_read C cat F L segments are v catalog kept = record {
         filter_in (has_join C p) (numbers_below (length C.projections)) q (range_in 0 (length C.projections) q (omega arith) (omega (arith, below))) h.0.1
 
 -- the files of the segment whose turn it is
-module _ (C : CatalogData) (F : FileContents) (segments : List (ℕ × ℕ)) (n len : ℕ) (e : len ≡ n) (out : Rattle.cs_rebuild.specs.declared.reading.SegmentFiles.SegmentFiles) (a : ℕ × ℕ) (at : slice_get segments n ≡ Some a) where
+module _ (C : CatalogData) (F : FileContents) (segments : List (ℕ × ℕ)) (n len : ℕ) (e : len ≡ n) (out : Rattle.cs_rebuild.specs.declared.files_of.SegmentFiles.SegmentFiles) (a : ℕ × ℕ) (at : slice_get segments n ≡ Some a) where
   there : get_or segments len (0, 0) ≡ a
   there = ap (λ m. get_or segments m (0, 0)) e ∙ get_or_from_slice_get segments n a (0, 0) at
 
@@ -72,7 +72,7 @@ keep-requires-clause-exists g c =
     let n = length c.pop.new.self.items in
     let last = popped c.args.all.items c.loop-held.all.items c.pop.new.self.items c.in-Some.held c.loop-held.invariant.rest c.in-Some.ensures.items in
     let files = c.requires.each n c.in-Some.held last.1 in
-    let same = there w.catalog.now (as_read w.compared (contents_of w.files.now)) segments n c.len.result (omega (arith, c.len.ensures)) c.in-Some.held files.0 files.1 in
+    let same = there w.catalog.now (resealed (contents_of w.files.now)) segments n c.len.result (omega (arith, c.len.ensures)) c.in-Some.held files.0 files.1 in
     subst (λ (D : CatalogData). HasSegment D (get_or segments c.len.result (0, 0)).0 (get_or segments c.len.result (0, 0)).1) (sym c.loop-held.invariant.catalog)
     (subst (λ (x : ℕ × ℕ). HasSegment w.catalog.now x.0 x.1) (sym same) (w.exist files.0 (in_at segments n files.0 files.1)))
 
@@ -85,7 +85,7 @@ keep-requires-clause-kinds g c =
     let last = popped c.args.all.items c.loop-held.all.items c.pop.new.self.items c.in-Some.held c.loop-held.invariant.rest c.in-Some.ensures.items in
     let files = c.requires.each n c.in-Some.held last.1 in
     subst (λ (D : CatalogData). c.in-Some.held.image.kinds ≡ kinds_at D (get_or segments c.len.result (0, 0)).0) (sym c.loop-held.invariant.catalog)
-    (turn w.catalog.now (as_read w.compared (contents_of w.files.now)) segments n c.len.result (omega (arith, c.len.ensures)) c.in-Some.held files.0 files.1 files.2).image.1
+    (turn w.catalog.now (resealed (contents_of w.files.now)) segments n c.len.result (omega (arith, c.len.ensures)) c.in-Some.held files.0 files.1 files.2).image.1
 
 pub keep-requires-clause-targets : goal.keep-requires-clause-targets
 keep-requires-clause-targets g c =
@@ -95,13 +95,13 @@ keep-requires-clause-targets g c =
     let last = popped c.args.all.items c.loop-held.all.items c.pop.new.self.items c.in-Some.held c.loop-held.invariant.rest c.in-Some.ensures.items in
     let files = c.requires.each n c.in-Some.held last.1 in
     subst (λ (D : CatalogData). map (λ (j : ℕ × List Place). j.0) c.in-Some.held.joins.items ≡ joins_of D (get_or segments c.len.result (0, 0)).0) (sym c.loop-held.invariant.catalog)
-    (turn w.catalog.now (as_read w.compared (contents_of w.files.now)) segments n c.len.result (omega (arith, c.len.ensures)) c.in-Some.held files.0 files.1 files.2).targets
+    (turn w.catalog.now (resealed (contents_of w.files.now)) segments n c.len.result (omega (arith, c.len.ensures)) c.in-Some.held files.0 files.1 files.2).targets
 
 pub loop-held-preserved : goal.loop-held-preserved
 loop-held-preserved g c =
     let w = c.args.self.now in
     let C = w.catalog.now in
-    let F = as_read w.compared (contents_of w.files.now) in
+    let F = resealed (contents_of w.files.now) in
     let segments = w.segments.now in
     let new = c.pop.new.self.items in
     let n = length new in
@@ -126,4 +126,4 @@ pub returns-clause-ok : goal.returns-clause-ok
 returns-clause-ok g c L are =
     let w = c.args.self.now in
     let none = (no_rest _ c.pop.result c.in_default.not-Some c.pop.ensures.cases).0 in
-    all_read w.catalog.now w.rules (as_read w.compared (contents_of w.files.now)) L w.segments.now are c.loop-held.survivors c.loop-held.invariant.catalog (λ k a at. c.loop-held.invariant.kept k a (omega (arith, none)) at)
+    all_read w.catalog.now w.rules (resealed (contents_of w.files.now)) L w.segments.now are c.loop-held.survivors c.loop-held.invariant.catalog (λ k a at. c.loop-held.invariant.kept k a (omega (arith, none)) at)

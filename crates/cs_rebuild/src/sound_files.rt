@@ -1,0 +1,127 @@
+//! The surviving files of a store: what they hold, or the least bad one.
+ghost use Rattle.std.specs.Prelude.{◌≡◌, ◌↔◌, Some, None, Ok, Err, IsTrue, IfOk, IfErr};
+ghost use Rattle.std.specs.declared.cmp.Ordering.TheVariants.{Less};
+ghost use Rattle.cs_schema.specs.CatalogData.{CatalogData};
+ghost use Rattle.cs_schema.specs.CatalogRules.{IsCatalog};
+ghost use Rattle.cs_schema.specs.FileNames.{FileContents, name_cmp, surviving};
+ghost use Rattle.cs_schema.specs.Losses.{Sites};
+ghost use Rattle.cs_schema.specs.declared.file_name.FileName.{FileName as NameData};
+ghost use Rattle.cs_store.specs.FileSet.{contents_of};
+ghost use Rattle.cs_store.specs.Fault.{MemoryOr};
+ghost use Rattle.cs_store.specs.declared.fault.Fault.{Fault as FaultData};
+ghost use Rattle.cs_recovery.specs.Verdicts.{FileFault, IsVerdict};
+ghost use Rattle.cs_rebuild.specs.Reading.{AreDigests, IsFirstUnsealed, resealed};
+ghost use Rattle.cs_rebuild.specs.Steps.{AreBodiesSound, AreRead, IsBadFile};
+
+use crate::digests::least_unsealed;
+use crate::reading::read_bodies;
+use crate::run::Run;
+use cs_board::Gate;
+use cs_rows::Survivors;
+use cs_schema::{Catalog, FileName, Loss};
+use cs_store::{Fault, FileSet};
+use std::alloc::AllocError;
+use std::marker::Sync;
+use std::thread::{Threads, join_mut};
+
+/// The name of the file that a fault refuses.
+fn refused_name(fault: &Fault) -> Option<FileName>
+    ensures named { (F : FileContents) (n : NameData) → FileFault F n fault.now → result ≡ Some n }
+    ensures memory { fault.now ≡ FaultData.Memory → result ≡ None }
+{
+    match fault {
+        Fault::Missing(name) | Fault::Damaged(name) => Some(*name),
+        _ => None,
+    }
+}
+
+/// Whether a name comes before another.
+fn is_before(name: FileName, other: FileName) -> bool
+    ensures { IsTrue result ↔ name_cmp name other ≡ Less }
+{
+    name < other
+}
+
+/// The fault of the lesser name: that of the least bad body, or of the least wrong digest.
+fn lesser(fault: Fault, unsealed: FileName) -> Fault
+    ensures { (C : CatalogData) (L : Sites) (F : FileContents) → IsCatalog C → IsFirstUnsealed F (surviving C L) unsealed → MemoryOr fault (IsBadFile C (resealed F) L fault) → MemoryOr result (IsBadFile C F L result) }
+{
+    let bad = match refused_name(&fault) {
+        Some(bad) => bad,
+        None => return fault,
+    };
+    if is_before(bad, unsealed) {
+        return fault;
+    }
+    Fault::Damaged(unsealed)
+}
+
+/// What is made of the bodies of surviving files if their digests are right, and else the fault of the least bad file.
+pub fn unless_bad<T: Drop>(
+    unsealed: Result<Option<FileName>, AllocError>,
+    read: Result<T, Fault>,
+) -> Result<T, Fault>
+    ensures ok { IfOk result (λ made. (read ≡ Ok made) × (unsealed ≡ Ok None)) }
+    ensures err { IfErr result (λ fault. (C : CatalogData) (L : Sites) (F : FileContents) → IsCatalog C → IfOk unsealed (AreDigests C L F) → IfOk read (λ _. AreBodiesSound C L F) → IfErr read (λ f. MemoryOr f (IsBadFile C (resealed F) L f)) → MemoryOr fault (IsBadFile C F L fault)) }
+{
+    let unsealed = match unsealed {
+        Ok(unsealed) => unsealed,
+        Err(_) => return Err(Fault::Memory),
+    };
+    let name = match unsealed {
+        Some(name) => name,
+        None => return read,
+    };
+    let fault = match read {
+        Ok(_made) => return Err(Fault::Damaged(name)),
+        Err(fault) => fault,
+    };
+    Err(lesser(fault, name))
+}
+
+/// The least wrong digest, and beside it what the bodies of the surviving files hold.
+fn read_beside<'a, R: Threads + Sync, G: Gate + Sync>(
+    run: &Run<'_, R, G>,
+    catalog: &'a Catalog,
+    loss: Loss,
+    files: &FileSet,
+) -> (
+    Result<Option<FileName>, AllocError>,
+    Result<Survivors<'a>, Fault>,
+)
+    ensures digests { IfOk result.0 (AreDigests catalog.now loss (contents_of files.now)) }
+    ensures ok { IfOk result.1 (AreRead catalog.now (resealed (contents_of files.now)) loss) }
+    ensures bad { IfErr result.1 (λ fault. MemoryOr fault (IsBadFile catalog.now (resealed (contents_of files.now)) loss fault)) }
+{
+    // of a closure over a struct of references `join` says nothing
+    join_mut(
+        run.rt,
+        &mut || -> Result<Option<FileName>, AllocError>
+            ensures { IfOk result (AreDigests catalog.entry.now loss (contents_of files.entry.now)) }
+        { least_unsealed(run, catalog, loss, files) },
+        &mut || -> Result<Survivors<'_>, Fault>
+            ensures ok { IfOk result (AreRead catalog.entry.now (resealed (contents_of files.entry.now)) loss) }
+            ensures bad { IfErr result (λ fault. MemoryOr fault (IsBadFile catalog.entry.now (resealed (contents_of files.entry.now)) loss fault)) }
+        { read_bodies(run, catalog, loss, files) },
+    )
+}
+
+/// What the files that survive a loss hold, or the refusal of the least bad one.
+pub fn read_store<'a, R: Threads + Sync, G: Gate + Sync>(
+    run: &Run<'_, R, G>,
+    catalog: &'a Catalog,
+    loss: Loss,
+    files: &FileSet,
+) -> Result<Survivors<'a>, Fault>
+    ensures ok { IfOk result (AreRead catalog.now (contents_of files.now) loss) }
+    ensures bad { IfErr result (λ fault. MemoryOr fault (IsBadFile catalog.now (contents_of files.now) loss fault)) }
+    ensures err { IfErr result (λ fault. MemoryOr fault (IsVerdict catalog.now (contents_of files.now) loss (Err fault))) }
+    ensures rules { IsCatalog catalog.now }
+{
+    let _rules = catalog.projection_count();
+    let (unsealed, read) = read_beside(run, catalog, loss, files);
+    match unless_bad(unsealed, read) {
+        Ok(survivors) => Ok(survivors),
+        Err(fault) => Err(fault),
+    }
+}
