@@ -1,4 +1,4 @@
-//! Which of the rebuilt files stand in place already.
+//! Which rebuilt files are in place already.
 ghost use Rattle.std.specs.Prelude.{◌≡◌, ℕ, List, map, IfOk, OnOk, None, Some};
 ghost use Rattle.std.specs.FinMap.{entries};
 ghost use Rattle.cs_store.specs.FileSet.{contents_of};
@@ -11,16 +11,16 @@ use cs_schema::FileName;
 use cs_store::{FileSet, Readable};
 use std::alloc::{AllocError, Global};
 
-/// The rebuilt files as they are compared with what stands under their names.
+/// The rebuilt files, compared with the files that have their names.
 #[derive(Drop)]
 pub struct Compared {
-    /// What becomes of each name of the answer, in their order.
+    /// The step for each rebuilt file, ascending by name.
     pub steps: Vec<Step>,
-    /// The names that don't have the rebuilt bytes yet, in their order.
+    /// The names that do not have the rebuilt bytes yet, ascending.
     pub changes: Vec<FileName>,
 }
 
-/// What becomes of a name that is to have these bytes.
+/// What has to be done for a name that is to have these bytes.
 fn standing(read: &Readable, name: FileName, bytes: &[u8]) -> What
     ensures same { result ≡ what.Same → contents_of read.now.files name ≡ Some bytes.now }
     ensures stays { contents_of read.now.files name ≡ Some bytes.now → result ≡ what.Same }
@@ -35,7 +35,7 @@ fn standing(read: &Readable, name: FileName, bytes: &[u8]) -> What
     What::New
 }
 
-/// What becomes of a name of the answer.
+/// The step for a rebuilt file.
 fn step_of(read: &Readable, answer: &FileSet, name: FileName) -> Step
     ensures named { result.name ≡ name }
     ensures same { result.what ≡ what.Same → WasRead answer.now read.now.files name }
@@ -50,7 +50,7 @@ fn step_of(read: &Readable, answer: &FileSet, name: FileName) -> Step
     }
 }
 
-/// Compares the answer with what was read under its names.
+/// Compares the rebuilt files with what was read under their names.
 pub fn compare(alloc: Global, read: &Readable, answer: &FileSet) -> Result<Compared, AllocError>
     ensures { IfOk result (λ compared. OthersWereRead answer.now compared.changes.items read.now.files) }
 {
@@ -58,7 +58,7 @@ pub fn compare(alloc: Global, read: &Readable, answer: &FileSet) -> Result<Compa
     compare_names(alloc, read, answer, names.as_slice())
 }
 
-/// Compares the files of these names, which are all of the answer's.
+/// Compares the files of these names, which are those of all rebuilt files.
 fn compare_names(
     alloc: Global,
     read: &Readable,
@@ -78,7 +78,7 @@ fn compare_names(
     Ok(compared)
 }
 
-/// Adds a step, and its name to the changes unless its bytes stand there.
+/// Adds a step, and also its name to the changes unless its bytes are in place.
 fn add_step(compared: &mut Compared, step: Step) -> Result<(), AllocError>
     ensures { OnOk result (AddsStep step compared.old.changes.items compared.new.changes.items) }
 {

@@ -1,10 +1,11 @@
-//! A store restored in place, and what stood there before put back, so that a stop at any moment costs nothing.
+//! Restores a store in place, and undoes a restore, so that an interruption at any moment loses nothing.
 //!
-//! `restore` reads what survives, rebuilds what was lost, keeps what is to be replaced, puts the rebuilt files in place one
-//! by one, and reads all back. A store that it was stopped in holds its table still, and is restored again to the same files.
+//! `restore` rebuilds what was lost from what survives, keeps the files that it replaces, puts the rebuilt files in place
+//! one by one, and reads the whole store back. A store whose restore was interrupted still holds its table, and restoring
+//! it again puts the same files in place.
 //!
-//! `put_back` keeps what stands under the names that were changed, and then gives each the file that stood there before, or
-//! none. It asks nothing of the store: what it takes back may be a wrong guess.
+//! `put_back` keeps the files of the names that had changed, and then gives each name its earlier file, or none. It makes
+//! no demand on the store: the restore that it undoes may have been a wrong guess.
 #![tactic(auto)]
 
 mod comparing;

@@ -6,7 +6,7 @@ use cs_schema::FileName;
 use cs_store::{FileSet, Sink, StoreFault, save};
 use std::alloc::{AllocError, Global};
 
-/// A sink that keeps the names alone.
+/// A sink that keeps only the names.
 #[derive(Drop)]
 struct NameList {
     names: Vec<FileName>,

@@ -1,4 +1,4 @@
-//! Putting the rebuilt files in place.
+//! Puts the rebuilt files in place.
 ghost use Rattle.std.specs.Prelude.{◌≡◌, ◌≤◌, Option, OnOk, OnErr, IsErrOf};
 ghost use Rattle.cs_schema.specs.declared.file_name.FileName.{FileName};
 ghost use Rattle.cs_store.specs.Fault.{CountsFault};
@@ -9,7 +9,7 @@ use cs_schema::FileName;
 use cs_shelf::{Shelf, write_fault};
 use cs_store::{Fault, FileSet, StoreFault};
 
-/// Puts the file of this name in place, if the answer has it.
+/// Puts the rebuilt file of this name in place, if there is one.
 fn put_one<S: Shelf>(answer: &FileSet, name: FileName, shelf: &mut S) -> Result<(), StoreFault>
     ensures ok { OnOk result (Follows (HasOne answer.now name) (S.holds shelf.old) (S.holds shelf.new)) }
     ensures may { Follows (MayHaveOne answer.now name) (S.holds shelf.old) (S.holds shelf.new) }
@@ -26,9 +26,9 @@ fn put_one<S: Shelf>(answer: &FileSet, name: FileName, shelf: &mut S) -> Result<
     }
 }
 
-/// Puts the files of these names in place, in this order, and then syncs. All other files of the answer stand there.
+/// Puts the rebuilt files of these names in place, in this order, and then syncs. All other rebuilt files are in place.
 ///
-/// A stop at any moment leaves each name what it had or the answer's bytes, and changes no name that the answer lacks.
+/// A stop at any moment leaves each name with its old file or the rebuilt one, and changes no other name.
 fn put_all<S: Shelf>(answer: &FileSet, names: &[FileName], shelf: &mut S) -> Result<(), Fault>
     requires { OthersAreThere answer.now names.now (S.holds shelf.old) }
     ensures whole { OnOk result (Follows (IsPutOver answer.now) (S.holds shelf.old) (S.holds shelf.new)) }
@@ -53,7 +53,7 @@ fn put_all<S: Shelf>(answer: &FileSet, names: &[FileName], shelf: &mut S) -> Res
     }
 }
 
-/// Keeps what stands under these names, and then puts their files in place. All other files of the answer stand there.
+/// Keeps the files of these names, and then puts the rebuilt ones in place. All other rebuilt files are in place.
 pub fn exchange<S: Shelf>(answer: &FileSet, names: &[FileName], shelf: &mut S) -> Result<(), Fault>
     requires { OthersAreThere answer.now names.now (S.holds shelf.old) }
     ensures whole { OnOk result (Follows (IsPutOver answer.now) (S.holds shelf.old) (S.holds shelf.new)) }

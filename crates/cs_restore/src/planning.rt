@@ -1,4 +1,4 @@
-//! What a restore is to do, found without changing anything.
+//! Plans a restore without changing anything.
 ghost use Rattle.std.specs.Prelude.{◌≡◌, ◌<◌, ◌≤◌, ℕ, [], ⊤, Ok, Some, IfOk, MatchOption};
 ghost use Rattle.std.specs.List.{slice_get};
 ghost use Rattle.cs_schema.specs.FileNames.{surviving};
@@ -17,17 +17,17 @@ use std::alloc::{AllocError, Global};
 use std::marker::Sync;
 use std::thread::Threads;
 
-/// The rebuilt files, and what becomes of each.
+/// The rebuilt files, and what has to be done for each.
 #[derive(Drop)]
 pub struct Plan {
     pub answer: FileSet,
-    /// What becomes of each name of the answer, in their order.
+    /// The step for each rebuilt file, ascending by name.
     pub steps: Vec<Step>,
-    /// The names that don't have the rebuilt bytes yet, in their order.
+    /// The names that do not have the rebuilt bytes yet, ascending.
     pub changes: Vec<FileName>,
 }
 
-/// The first surviving name that was unreadable.
+/// The first surviving name whose file could not be read.
 fn unread(
     alloc: Global,
     catalog: &Catalog,
@@ -46,9 +46,9 @@ fn unread(
     Ok(None)
 }
 
-/// What a restore of a store that lost these sites is to do, of which this was read. No file changes.
+/// Plans the restore of a store that lost these sites, given what was read of it. No file changes.
 ///
-/// `Read` names the first surviving file that was unreadable; else the refusals are those of `rebuild`.
+/// `Read` names the first surviving file that could not be read; all other refusals are those of `rebuild`.
 pub fn plan_restore<R: Threads + Sync, G: Gate + Sync>(
     run: &Run<'_, R, G>,
     catalog: &Catalog,
@@ -88,7 +88,7 @@ pub fn plan_restore<R: Threads + Sync, G: Gate + Sync>(
     }
 }
 
-/// Reads the whole store back, and checks it where nothing is lost: how many rows it has. No file changes.
+/// Reads the whole store back and checks it with no loss; returns its number of rows. No file changes.
 pub fn check_held<S: Shelf, R: Threads + Sync, G: Gate + Sync>(
     run: &Run<'_, R, G>,
     catalog: &Catalog,

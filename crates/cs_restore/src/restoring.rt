@@ -1,4 +1,4 @@
-//! Restoring a store in place.
+//! Restores a store in place.
 ghost use Rattle.std.specs.Prelude.{◌≤◌, [], IfOk};
 ghost use Rattle.cs_schema.specs.FileNames.{surviving};
 ghost use Rattle.cs_shelf.specs.Shelf.{AddsCopies, Follows, IsReadIn, KeepsOld, LeavesOnly};
@@ -14,20 +14,20 @@ use cs_store::{Fault, Readable};
 use std::marker::Sync;
 use std::thread::Threads;
 
-/// What a restore did.
+/// The result of a restore.
 #[derive(Drop)]
 pub struct Restored {
-    /// How many rows the store has.
+    /// The number of rows of the store.
     pub rows: u64,
-    /// What became of each rebuilt file, in the order of names.
+    /// What was done for each rebuilt file, ascending by name.
     pub steps: Vec<Step>,
 }
 
-/// Rebuilds what the loss took from the store of which this was read, puts it in place file by file, reads all back and
-/// checks it.
+/// Rebuilds the files of a loss from what was read of the store, puts them in place one by one, reads the whole store back
+/// and checks it.
 ///
-/// Nothing changes before `rebuild` has answered. After a fault, and after a stop at any moment, each name has what it had
-/// or what was rebuilt; asked for again with the same loss, it puts the same files in place. What it replaces is kept.
+/// Nothing changes before `rebuild` has succeeded. After a fault, and after a stop at any moment, each name has its old
+/// file or the rebuilt one; run again with the same loss, a restore puts the same files in place. What it replaces is kept.
 pub fn restore<S: Shelf, R: Threads + Sync, G: Gate + Sync>(
     run: &Run<'_, R, G>,
     catalog: &Catalog,

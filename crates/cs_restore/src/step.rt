@@ -1,29 +1,29 @@
-//! What a restore does with each file.
+//! What a restore does for each file.
 ghost use Rattle.std.specs.Prelude.{◌≡◌, ◌≢◌};
 
 use cs_schema::FileName;
 
-/// What becomes of the name of a rebuilt file.
+/// What a restore does for the name of a rebuilt file.
 #[derive(Clone, Copy, Debug, PartialEq, Eq)]
 pub enum What {
-    /// Nothing stands there yet.
+    /// The name has no file yet.
     New,
-    /// Other bytes stand there, or what can't be read.
+    /// The name has other bytes, or something that cannot be read.
     Replaces,
-    /// The rebuilt bytes stand there already.
+    /// The name has the rebuilt bytes already.
     Same,
 }
 
-/// A rebuilt file, and what becomes of its name.
+/// A rebuilt file, and what is done for its name.
 #[derive(Clone, Copy, Debug, PartialEq, Eq)]
 pub struct Step {
     pub name: FileName,
     pub what: What,
-    /// How many bytes it has.
+    /// The size of the rebuilt file, in bytes.
     pub bytes: u64,
 }
 
-/// What becomes of a name that has these bytes where it is to have those.
+/// What has to be done for a name that has the bytes `held` and is to have `bytes`.
 pub fn what_of(held: &[u8], bytes: &[u8]) -> What
     ensures same { result ≡ What.Same → held.now ≡ bytes.now }
     ensures stays { held.now ≡ bytes.now → result ≡ What.Same }

@@ -1,12 +1,12 @@
 //! Laws over the definitions: each function does nothing, and its contract is the law.
 ghost use Rattle.cs_restore.specs.Undoing.{UndoBringsBack, StoppedUndoGoesOn};
 
-/// Where what was kept is what stood there before, an undo brings just that back.
+/// If the kept files are the earlier ones, an undo brings exactly those back.
 pub fn undo_brings_back()
     ensures { UndoBringsBack }
 {}
 
-/// An undo that stopped anywhere may be asked for again: it comes to the same files.
+/// An undo that was interrupted at any moment can be run again, and ends with the same files.
 pub fn stopped_undo_goes_on()
     ensures { StoppedUndoGoesOn }
 {}

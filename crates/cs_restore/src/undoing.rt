@@ -1,4 +1,4 @@
-//! Putting back what stood under the names that were changed.
+//! Puts back the files of the names that had changed.
 ghost use Rattle.std.specs.Prelude.{◌≡◌, ◌≤◌, Option, OnOk, IsErrOf};
 ghost use Rattle.cs_schema.specs.declared.file_name.FileName.{FileName};
 ghost use Rattle.cs_store.specs.Fault.{CountsFault};
@@ -9,7 +9,7 @@ use cs_schema::FileName;
 use cs_shelf::{Shelf, write_fault};
 use cs_store::{Fault, FileSet, StoreFault};
 
-/// Puts back the file of this name, or takes away what stands there, where there was none.
+/// Puts back the file of this name, or removes what is there if there was none.
 fn put_back_one<S: Shelf>(back: &FileSet, name: FileName, shelf: &mut S) -> Result<(), StoreFault>
     ensures ok { OnOk result (Follows (IsOneBack back.now name) (S.holds shelf.old) (S.holds shelf.new)) }
     ensures may { Follows (MayBeOneBack back.now name) (S.holds shelf.old) (S.holds shelf.new) }
@@ -26,7 +26,7 @@ fn put_back_one<S: Shelf>(back: &FileSet, name: FileName, shelf: &mut S) -> Resu
     }
 }
 
-/// Puts back what stood under these names, in this order, and then syncs.
+/// Puts back the files of these names, in this order, and then syncs.
 fn put_back_all<S: Shelf>(back: &FileSet, names: &[FileName], shelf: &mut S) -> Result<(), Fault>
     ensures whole { OnOk result (Follows (IsBack back.now names.now) (S.holds shelf.old) (S.holds shelf.new)) }
     ensures durable { OnOk result (Follows (IsBack back.now names.now) (S.holds shelf.old) (S.may_leave shelf.new)) }
@@ -50,10 +50,10 @@ fn put_back_all<S: Shelf>(back: &FileSet, names: &[FileName], shelf: &mut S) -> 
     }
 }
 
-/// Keeps what stands under these names, and then gives each the file that it had before, or none where it had none.
+/// Keeps the files of these names, and then gives each name its earlier file, or none if it had none.
 ///
-/// After a fault, and after a stop at any moment, each name has what it had or what it had before, and no other name
-/// changed; asked for again, it comes to the same files. What it replaces and takes away is kept.
+/// After a fault, and after a stop at any moment, each name has its current file or its earlier one, and no other name has
+/// changed; run again, it ends with the same files. What it replaces and removes is kept.
 pub fn put_back<S: Shelf>(back: &FileSet, names: &[FileName], shelf: &mut S) -> Result<(), Fault>
     ensures whole { OnOk result (Follows (IsBack back.now names.now) (S.holds shelf.old) (S.holds shelf.new)) }
     ensures durable { OnOk result (Follows (IsBack back.now names.now) (S.holds shelf.old) (S.may_leave shelf.new)) }

@@ -1,4 +1,5 @@
 mod Copies
+pub mod Faults
 pub mod Loads
 pub mod Moments
 pub mod Names

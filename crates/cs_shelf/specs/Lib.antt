@@ -1,3 +1,4 @@
+pub mod Faults
 pub mod Memory
 pub mod MemoryReads
 pub mod MemoryRest

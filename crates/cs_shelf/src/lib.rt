@@ -1,7 +1,7 @@
-//! Stores that can be changed, file by file, so that a stop at any moment costs nothing, and the work that changes them.
+//! Stores that are changed file by file, so that an interruption at any moment loses nothing, and the work that changes them.
 //!
-//! A shelf says by its ghost members what a read finds, what a stop may leave, and which old files are
-//! kept. One in memory can be made to stop at each of its calls.
+//! A shelf states by its ghost members what a read finds, what an interruption may leave, and which old files are kept.
+//! A shelf in memory can be made to stop at any of its calls.
 #![tactic(auto)]
 
 mod memory;

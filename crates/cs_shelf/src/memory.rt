@@ -1,4 +1,4 @@
-//! A shelf in memory, for tests: it keeps its past contents, and can be made to stop at one call.
+//! A shelf in memory, for tests: it records its past contents, and can be made to stop at a call.
 ghost use Rattle.std.specs.Prelude.{◌≡◌, length};
 ghost use Rattle.std.proofs.Common.{inl};
 
@@ -14,14 +14,14 @@ use std::alloc::Global;
 pub use stop::Stop;
 use stop::{Course, next_course};
 
-/// A shelf whose calls are done at once, so that a stop leaves what is there.
+/// A shelf whose calls take effect at once, so that a stop leaves the current files.
 #[derive(Drop)]
 pub struct MemoryShelf {
-    /// What a read finds.
+    /// The current files.
     pub files: FileSet,
     /// The old files that are kept apart.
     pub kept: FileSet,
-    /// The contents that it had before each change.
+    /// The contents before each change.
     pub past: Vec<FileSet>,
     pub stop: Option<Stop>,
     pub faults: u64,
@@ -29,7 +29,7 @@ pub struct MemoryShelf {
 }
 
 impl MemoryShelf {
-    /// A shelf that holds these files, and has kept those.
+    /// A shelf with these files and these kept copies.
     pub fn new(alloc: Global, files: FileSet, kept: FileSet, stop: Option<Stop>) -> Self
         ensures files { result.files ≡ files }
         ensures kept { result.kept ≡ kept }

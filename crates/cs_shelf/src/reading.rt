@@ -1,11 +1,11 @@
-//! Reading what a shelf holds, which changes nothing.
-ghost use Rattle.std.specs.Prelude.{◌≡◌, ◌≢◌, ◌≤◌, [], None, IfOk, IsErrOf};
+//! Reads of a shelf, which change nothing.
+ghost use Rattle.std.specs.Prelude.{◌≡◌, ◌≢◌, ◌≤◌, [], None, IfOk, IfErr};
 ghost use Rattle.std.specs.List.{AllByRecursion};
 ghost use Rattle.cs_schema.specs.FileNames.{surviving};
-ghost use Rattle.cs_schema.specs.declared.file_name.FileName.{FileName};
-ghost use Rattle.cs_store.specs.Fault.{CountsFault};
+ghost use Rattle.cs_store.specs.Fault.{CountsFault, MemoryOr};
 ghost use Rattle.cs_store.specs.FileSet.{contents_of};
 ghost use Rattle.cs_store.specs.LoadReadable.{LoadsReadable};
+ghost use Rattle.cs_shelf.specs.Faults.{FailsToRead};
 ghost use Rattle.cs_shelf.specs.Shelf.{ChangesNothing, IsFoundIn, IsReadIn};
 
 use crate::Shelf;
@@ -13,7 +13,7 @@ use cs_schema::{Catalog, Loss};
 use cs_store::{Fault, FileSet, Readable, load, load_readable};
 use std::alloc::{AllocError, Global};
 
-/// Reads the files that survive the loss. No file changes at any moment, whatever it answers.
+/// Reads the files that survive a loss. No file changes at any moment, whatever the answer.
 pub fn load_held<S: Shelf>(
     alloc: Global,
     catalog: &Catalog,
@@ -22,14 +22,13 @@ pub fn load_held<S: Shelf>(
 ) -> Result<FileSet, Fault>
     ensures found { IfOk result (λ files. IsFoundIn (S.holds shelf.new) (surviving catalog.now loss) files) }
     ensures unchanged { ChangesNothing S.holds S.may_leave S.kept S.moment S.left_since shelf.old shelf.new }
-    ensures device { (name : FileName) → IsErrOf result (Fault.Read name)
-        → CountsFault (S.fault_count shelf.old) (S.fault_count shelf.new) }
+    ensures device { IfErr result (λ fault. MemoryOr fault (FailsToRead (S.fault_count shelf.old) (S.fault_count shelf.new) fault)) }
     ensures counted { S.fault_count shelf.old ≤ S.fault_count shelf.new }
 {
     load(alloc, catalog, loss, shelf)
 }
 
-/// Reads each of the store's files that can be read. No file changes at any moment, whatever it answers.
+/// Reads every file of the store that can be read. No file changes at any moment, whatever the answer.
 pub fn load_readable_held<S: Shelf>(
     alloc: Global,
     catalog: &Catalog,

@@ -1,11 +1,11 @@
-//! How a shelf's refusals are answered.
+//! The fault for a refusal of a shelf.
 ghost use Rattle.std.specs.Prelude.{◌≡◌};
 ghost use Rattle.cs_store.specs.Save.{refusal};
 
 use cs_schema::FileName;
 use cs_store::{Fault, StoreFault};
 
-/// How a refusal at this file, or at the sync, is answered.
+/// The fault for a refusal at this file, or at the sync if no file is given.
 pub fn write_fault(at: Option<FileName>, fault: StoreFault) -> Fault
     ensures { result ≡ refusal at fault }
 {

@@ -1,4 +1,4 @@
-//! A store that can be changed.
+//! A store whose files can be changed.
 ghost use Rattle.std.specs.Prelude.{◌≡◌, ℕ, List, Option, ◌≤◌, OnOk, IfErr, IsErrOf};
 ghost use Rattle.cs_schema.specs.declared.file_name.FileName.{FileName};
 ghost use Rattle.cs_store.specs.declared.fault.StoreFault.{StoreFault};
@@ -11,27 +11,27 @@ use cs_store::{Source, StoreFault};
 
 /// A store whose files can be replaced and removed one by one.
 ///
-/// Its ghost members are claims about its files: one in memory says what they are and what a stop may
-/// leave, and one over a folder, of which no contract is told, makes no claim at all (no outcome).
-/// A stop is a crash of the system or the end of the process.
+/// Its ghost members are claims about its files. A shelf in memory says what they are and what a stop may leave. A shelf
+/// over a folder makes no claim (it has no possible contents), since no contract knows what a disk holds. A stop is a
+/// crash of the system or the end of the process.
 pub trait Shelf: Source {
-    /// The files that a read finds.
+    /// The contents that reads may find.
     ghost holds: { Self → Files → Type 0 };
 
-    /// What a stop at this moment may leave.
+    /// The contents that a stop at this moment may leave.
     ghost may_leave: { Self → Files → Type 0 };
 
     /// The old files that are kept apart.
     ghost kept: { Self → Files → Type 0 };
 
-    /// The moment, as a number that doesn't fall.
+    /// The current moment, a number that never falls.
     ghost moment: { Self → ℕ };
 
-    /// What a stop at some moment from that one on might have left, during a call or between two.
+    /// The contents that a stop might have left at any moment since a given one, during a call or between two calls.
     ghost left_since: { Self → ℕ → Files → Type 0 };
 
-    /// Keeps a copy of the file under each of these names that has one, before any is replaced or removed. One
-    /// that is kept already stays as it is. After it, a stop leaves what a read finds.
+    /// Keeps a copy of the file of each of these names, if there is one, before any is replaced or removed. A copy that
+    /// exists already stays as it is. After this call a stop leaves what a read finds.
     fn keep(&mut self, names: &[FileName]) -> Result<(), StoreFault>
         ensures ok { OnOk result (HasCopies names.now (holds self.old) (kept self.new)) }
         ensures copies { Follows (AddsCopies (holds self.old)) (kept self.old) (kept self.new) }
@@ -43,8 +43,7 @@ pub trait Shelf: Source {
             → CountsFault (Self.fault_count self.old) (Self.fault_count self.new) }
         ensures counted { Self.fault_count self.old ≤ Self.fault_count self.new };
 
-    /// Puts these bytes under the name, in the place of what stood there, at one blow. Until a sync a
-    /// stop may leave what stood there.
+    /// Replaces the file of this name by these bytes, atomically. Until the next sync a stop may leave the old file.
     fn replace(&mut self, name: FileName, bytes: &[u8]) -> Result<(), StoreFault>
         ensures ok { OnOk result (Follows (Has name bytes.now) (holds self.old) (holds self.new)) }
         ensures err { IfErr result (λ fault. Follows (MayHave name bytes.now) (holds self.old) (holds self.new)) }
@@ -55,8 +54,7 @@ pub trait Shelf: Source {
             → CountsFault (Self.fault_count self.old) (Self.fault_count self.new) }
         ensures counted { Self.fault_count self.old ≤ Self.fault_count self.new };
 
-    /// Takes what stands under the name away, at one blow; where nothing stands, nothing changes. Until a sync a
-    /// stop may leave what stood there.
+    /// Removes the file of this name, if there is one, atomically. Until the next sync a stop may leave the old file.
     fn remove(&mut self, name: FileName) -> Result<(), StoreFault>
         ensures ok { OnOk result (Follows (Lacks name) (holds self.old) (holds self.new)) }
         ensures err { IfErr result (λ fault. Follows (MayLack name) (holds self.old) (holds self.new)) }
@@ -67,7 +65,7 @@ pub trait Shelf: Source {
             → CountsFault (Self.fault_count self.old) (Self.fault_count self.new) }
         ensures counted { Self.fault_count self.old ≤ Self.fault_count self.new };
 
-    /// After it, a stop leaves what a read finds.
+    /// Brings all changes to the disk: after this call a stop leaves what a read finds.
     fn sync(&mut self) -> Result<(), StoreFault>
         ensures ok { OnOk result (IsNoMore (holds self.old) (may_leave self.new)) }
         ensures same { IsNoMore (holds self.old) (holds self.new) }
@@ -78,16 +76,16 @@ pub trait Shelf: Source {
             → CountsFault (Self.fault_count self.old) (Self.fault_count self.new) }
         ensures counted { Self.fault_count self.old ≤ Self.fault_count self.new };
 
-    /// What a read finds, a stop may leave: the end of the process is one.
+    /// A stop may leave what a read finds, since the end of the process is a stop.
     ghost holds_now: { (shelf : Self) (c : Files) → holds shelf c → may_leave shelf c };
 
-    /// This moment is one of those since an earlier one.
+    /// The current moment counts as a moment since any earlier one.
     ghost counts_now: { (shelf : Self) (t : ℕ) (c : Files) → t ≤ moment shelf → may_leave shelf c → left_since shelf t c };
 
-    /// Since this moment there is no other.
+    /// Since the current moment there is no other moment.
     ghost only_now: { (shelf : Self) (c : Files) → left_since shelf (moment shelf) c → may_leave shelf c };
 
-    /// A read gives what is held.
+    /// A read returns what is held.
     ghost reads_find: { (s : Self) (name : FileName) (file : Option (List ℕ)) (t : Self) → Self.gives s name file t
         → (c : Files) → holds s c → file ≡ contents_of c name };
 
@@ -95,7 +93,7 @@ pub trait Shelf: Source {
     ghost reads_change_nothing: { (s : Self) (name : FileName) (file : Option (List ℕ)) (t : Self) → Self.gives s name file t
         → ChangesNothing holds may_leave kept moment left_since s t };
 
-    /// Nor does one that fails.
+    /// A read that fails changes no file.
     ghost refusals_change_nothing: { (s : Self) (name : FileName) (why : StoreFault) (t : Self) → Self.refuses s name why t
         → ChangesNothing holds may_leave kept moment left_since s t };
 }

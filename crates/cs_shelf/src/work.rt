@@ -1,24 +1,24 @@
-//! Work that changes a store: what it is, what an undo puts back, and why a store isn't taken for it.
+//! Work that changes a store: what it is, what an undo puts back, and why a store cannot be locked for it.
 use cs_schema::{FileName, Loss};
 use cs_store::FileSet;
 use std::fmt;
 
-/// The name of the record in a store's folder, while a restore or an undo is not finished.
+/// The name of the record in a store's folder while a restore or an undo is unfinished.
 pub const RESTORING: &str = "RESTORING";
 
-/// The name of the journal in a store's folder: a line of JSON for each restore and undo that was finished.
+/// The name of the journal in a store's folder: a line of JSON for each finished restore and undo.
 pub const JOURNAL: &str = "restores.jsonl";
 
-/// What changes a store.
+/// Work that changes a store.
 #[derive(Clone, Copy, Debug, PartialEq, Eq)]
 pub enum Work {
-    /// What these sites lost is rebuilt.
+    /// The files of these lost sites are rebuilt.
     Restore(Loss),
-    /// What stood in the store before the work of this number is put back.
+    /// The files from before the work with this number are put back.
     Undo(u32),
 }
 
-/// A kind of work on a store, by the verb that does it.
+/// A kind of work on a store, named by its verb.
 #[derive(Clone, Copy, Debug, PartialEq, Eq)]
 pub enum WorkKind {
     Restore,
@@ -26,7 +26,7 @@ pub enum WorkKind {
 }
 
 impl Work {
-    /// The kind of this work.
+    /// The kind of the work.
     pub fn kind(&self) -> WorkKind {
         match self {
             Work::Restore(_) => WorkKind::Restore,
@@ -53,49 +53,49 @@ impl fmt::Display for Work {
     }
 }
 
-/// Which work is undone.
+/// The work to undo.
 #[derive(Clone, Copy, Debug, PartialEq, Eq)]
 pub enum UndoOf {
-    /// The last that was finished.
+    /// The last work that was finished.
     Last,
-    /// That of this number.
+    /// The work with this number.
     Number(u32),
-    /// That of which an undo is not finished.
+    /// The work whose undo is unfinished.
     Unfinished,
 }
 
-/// What an undo puts back.
+/// The files that an undo puts back.
 #[derive(Drop)]
 pub struct Undoable {
     /// The N of `replaced/N`.
     pub number: u32,
-    /// What stood under the names where something did.
+    /// The old files, for the names that had one.
     pub back: FileSet,
-    /// The names that changed, in their order.
+    /// The names that changed, ascending.
     pub names: Vec<FileName>,
 }
 
-/// Why a store isn't taken.
+/// Why a store cannot be locked.
 #[derive(Debug, Drop)]
 pub enum Untaken {
     /// Out of memory.
     Memory,
-    /// A file or a folder failed.
+    /// A call on a file or a folder failed.
     Device,
-    /// A restore of the store is not finished.
+    /// A restore of the store is unfinished.
     Unfinished,
-    /// An undo of the store is not finished.
+    /// An undo of the store is unfinished.
     UnfinishedUndo,
-    /// Nothing of the kind is unfinished.
+    /// No work of this kind is unfinished.
     Finished,
-    /// A restore or an undo of the store is at work.
+    /// A restore or an undo of the store is running.
     Busy,
-    /// The record is none.
+    /// The record cannot be parsed.
     Damaged,
-    /// Nothing is kept under this number, or under any.
+    /// Nothing is kept under this number, or under any number if none is given.
     NoneKept(Option<u32>),
-    /// What is kept under this number has no record.
+    /// The files that are kept under this number have no record.
     Unrecorded(u32),
-    /// Under this number the file of this name is missing, or is no regular file that can be read.
+    /// The file that is kept under this number and name is missing, or is not a readable regular file.
     Incomplete(u32, FileName),
 }

@@ -1,4 +1,4 @@
-//! How the files of a shelf in memory change.
+//! Changes of the files of a shelf in memory.
 ghost use Rattle.std.specs.Prelude.{◌≡◌, [], ◌∷◌, ◌++◌, IsSome, IfOk, OnOk, OnErr, IsErrOf};
 ghost use Rattle.std.specs.FinMap.{insert};
 ghost use Rattle.cs_store.specs.FileSet.{contents_of};
@@ -25,7 +25,7 @@ fn copy(alloc: Global, files: &FileSet) -> Result<FileSet, StoreFault>
     }
 }
 
-/// Puts the file over the others, and keeps what was there.
+/// Adds or replaces a file, and records the old contents.
 pub fn put_over(
     alloc: Global,
     files: &mut FileSet,
@@ -51,7 +51,7 @@ pub fn put_over(
     Ok(())
 }
 
-/// Takes the file away from the others, and keeps what was there.
+/// Removes a file, and records the old contents.
 pub fn take_away(
     alloc: Global,
     files: &mut FileSet,
@@ -73,7 +73,7 @@ pub fn take_away(
     Ok(())
 }
 
-/// Keeps a copy of the file with this name, if there is one and none is kept.
+/// Keeps a copy of the file of this name, if there is a file and no copy yet.
 fn keep_copy(
     alloc: Global,
     files: &FileSet,
@@ -99,7 +99,7 @@ fn keep_copy(
     }
 }
 
-/// Keeps a copy of the file under each of these names that has one, if none is kept.
+/// Keeps a copy of the file of each of these names that has a file and no copy yet.
 pub fn keep_copies(
     alloc: Global,
     files: &FileSet,

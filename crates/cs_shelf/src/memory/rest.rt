@@ -1,4 +1,4 @@
-//! The files of all names but one.
+//! All files of a set but one.
 ghost use Rattle.std.specs.Prelude.{◌≡◌, IfOk, IsErrOf, ⊤};
 ghost use Rattle.std.specs.FinMap.{empty};
 ghost use Rattle.cs_store.specs.FileSet.{contents_of};
@@ -8,7 +8,7 @@ use cs_schema::FileName;
 use cs_store::{FileSet, Sink, StoreFault, save};
 use std::alloc::Global;
 
-/// A sink that passes over one name. Under each other it keeps the first file.
+/// A sink that skips one name. Of every other name it keeps the first file.
 #[derive(Drop)]
 struct Rest {
     files: FileSet,
@@ -52,7 +52,7 @@ impl Sink for Rest {
     }
 }
 
-/// The files of all names but this one.
+/// All files but the one of this name.
 pub fn without(alloc: Global, files: &FileSet, name: FileName) -> Result<FileSet, StoreFault>
     ensures gone { IfOk result (λ left. Lacks name files.now left) }
     ensures memory { IsErrOf result StoreFault.Device → ⊥ }

@@ -1,16 +1,16 @@
-//! Where a shelf in memory stops.
+//! The call at which a shelf in memory stops.
 ghost use Rattle.std.specs.Prelude.{◌≡◌, ◌≤◌, ◌⊎◌};
 ghost use Rattle.cs_store.specs.Fault.{CountsFault};
 
-/// Where a shelf stops: `after` calls go well, the next one takes effect or doesn't, and from it on
-/// every call is a fault of the device that changes nothing.
+/// When a shelf stops: `after` calls succeed, the next one takes effect or not, and from then on every call fails with a
+/// fault of the device and changes nothing.
 #[derive(Clone, Copy, Debug, PartialEq, Eq)]
 pub struct Stop {
     pub after: u64,
     pub takes_effect: bool,
 }
 
-/// How a call goes.
+/// The outcome of a call.
 #[derive(Clone, Copy, Debug, PartialEq, Eq)]
 pub enum Course {
     Well,
@@ -18,7 +18,7 @@ pub enum Course {
     StopsAfter,
 }
 
-/// How this call goes. It counts the device's faults.
+/// The outcome of the next call. Faults of the device are counted.
 pub fn next_course(stop: &mut Option<Stop>, faults: &mut u64) -> Course
     ensures device { (result ≡ Course.Well) ⊎ CountsFault faults.old faults.new }
     ensures counted { faults.old ≤ faults.new }
