@@ -1,0 +1,4 @@
+mod EntryLemmas
+mod ReadLemmas
+mod SourceLemmas
+mod SiteLemmas
