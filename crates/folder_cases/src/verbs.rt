@@ -1,12 +1,16 @@
 //! Verbs, with what they print.
 use anyhow::Result;
 use pinepolo_args::parse;
+use pinepolo_folders::{Folders, run_in_folders};
 use pinepolo_progress::OpenGate;
-use pinepolo_run::{Host, World, run};
+use pinepolo_run::Host;
+use std::fs::File;
 use std::io;
 use std::io::Write;
 use std::marker::Sync;
+use std::rt::Files;
 use std::thread::Threads;
+use std::time::Clock;
 
 /// How many processors there are.
 const PROCESSORS: u32 = 2;
@@ -26,16 +30,16 @@ impl Write for Full {
 }
 
 /// Runs a verb over the places, and gives its status.
-fn run_over<R, P, W, E>(
+fn run_over<R, F, W, E>(
     rt: &R,
-    places: &mut P,
+    places: &mut Folders<F>,
     words: &[&str],
     out: &mut W,
     err: &mut E,
 ) -> Result<u8>
 where
     R: Threads + Sync + AllocGlobal,
-    P: World,
+    F: Files<File = File> + Alloc + Clock + Copy + Drop + Sync,
     W: Write,
     E: Write,
 {
@@ -48,18 +52,19 @@ where
         rt,
         alloc,
         gate: &OpenGate,
+        sites: None,
     };
     let parsed = parse(alloc, owned.as_slice(), PROCESSORS);
-    Ok(run(&host, &parsed, places, out, err))
+    Ok(run_in_folders(&host, parsed, places, out, err))
 }
 
 /// Runs a verb over the places, and prints its lines and its status. Words that begin with `full` are those of a verb
 /// whose standard output takes nothing.
-pub fn answered<R: Threads + Sync + AllocGlobal + Print, P: World>(
-    rt: &R,
-    places: &mut P,
-    words: &[&str],
-) -> Result<()> {
+pub fn answered<R, F>(rt: &R, places: &mut Folders<F>, words: &[&str]) -> Result<()>
+where
+    R: Threads + Sync + AllocGlobal + Print,
+    F: Files<File = File> + Alloc + Clock + Copy + Drop + Sync,
+{
     let alloc = rt.alloc();
     let mut out = Vec::new(alloc);
     let mut err = Vec::new(alloc);

@@ -4,9 +4,9 @@
 #![tactic(auto)]
 
 use pinepolo_args::parse;
-use pinepolo_folders::Folders;
+use pinepolo_folders::{Folders, run_in_folders};
 use pinepolo_progress::ProgressLine;
-use pinepolo_run::{CUT, Host, Stop, report, run};
+use pinepolo_run::{CUT, Host, VerbError, report};
 use std::io::IsTerminal;
 use std::process::ExitCode;
 use std::{env, io, thread};
@@ -27,18 +27,22 @@ fn main(rt: HostRuntime) -> ExitCode {
         rt: &rt,
         alloc,
         gate: &gate,
+        sites: None,
     };
     let mut places = Folders::new(alloc, rt);
     let status = match env::args(&rt) {
         Ok(args) => match args.skip(1).collect::<Vec<String>>(alloc) {
             Ok(words) => {
                 let parsed = parse(alloc, words.as_slice(), processors);
-                run(&host, &parsed, &mut places, &mut out, &mut err)
+                run_in_folders(&host, parsed, &mut places, &mut out, &mut err)
             }
-            Err(_) => report(&Stop::Memory, &mut err),
+            Err(_) => report(&VerbError::OutOfMemory, &mut err),
         },
-        Err(e) if e.kind() == io::ErrorKind::OutOfMemory => report(&Stop::Memory, &mut err),
-        Err(_) => report(&Stop::Words, &mut err),
+        Err(e) if e.kind() == io::ErrorKind::OutOfMemory => report(
+            &VerbError::OutOfMemory,
+            &mut err,
+        ),
+        Err(_) => report(&VerbError::NotUtf8, &mut err),
     };
     ExitCode::from(status)
 }

@@ -2,8 +2,16 @@
 //! taken or written proves none of them anew.
 #![tactic(auto)]
 
+mod copies;
 mod folders;
 mod listing;
+mod meter;
 mod rebuilt;
+mod running;
+mod sites;
+mod sites_error;
+mod tables;
 
 pub use folders::Folders;
+pub use running::run_in_folders;
+pub use sites_error::{CatalogCopy, SitesError};
