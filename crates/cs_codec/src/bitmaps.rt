@@ -17,6 +17,7 @@ use crate::encoding::{CodecFault, ColumnEncoding};
 use crate::few_cells::{FEW, FewCells, copies};
 use crate::numbered::{cells_of, has_text};
 use cs_schema::Code;
+use cs_schema::limits::SEGMENT_ROWS;
 use std::alloc::{AllocError, Global};
 use std::collections::BTreeMap;
 
@@ -248,7 +249,7 @@ impl<C: Cell, L: Column<C>> ColumnEncoding<C, L> for Bitmaps {
     }
 
     fn can_join(left: &BitmapsPart<C>, right: &BitmapsPart<C>) -> bool {
-        u64::from(left.count) + u64::from(right.count) <= 1_048_576
+        u64::from(left.count) + u64::from(right.count) <= u64::from(SEGMENT_ROWS)
     }
 
     fn join(left: BitmapsPart<C>, right: BitmapsPart<C>) -> Result<BitmapsPart<C>, AllocError> {

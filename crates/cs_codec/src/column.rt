@@ -1,5 +1,6 @@
 //! Columns: lists of cells that grow at the end.
-ghost use Rattle.std.specs.Prelude.{◌≡◌, ℕ, ◌-◌, ◌<◌, ◌≤◌, List, [], ◌∷◌, ◌++◌, length, take, drop, replicate, slice_get, slice_index, Some, OnOk, IfOk, IfSome, IfNone, IsTrue, ◌↔◌};
+ghost use Rattle.std.specs.Prelude.{◌≡◌, ◌↔◌, ℕ, ◌-◌, ◌*◌, ◌<◌, ◌≤◌, List, [], ◌∷◌, ◌++◌, length, take, drop, replicate};
+ghost use Rattle.std.specs.Prelude.{slice_get, slice_index, Some, OnOk, IfOk, IfSome, IfNone, IsTrue};
 ghost use Rattle.std.specs.Int.{w64, to_be_bytes};
 ghost use Rattle.cs_codec.specs.Cells.{NoneStandsAt};
 ghost use Rattle.cs_codec.specs.Columns.{Reads, cells_at};
@@ -26,12 +27,14 @@ pub trait Column<C: Cell>: Drop {
     fn reserve(&mut self, more: usize, bytes: usize) -> Result<(), AllocError>
         ensures { cells self.new ≡ cells self.old };
 
-    /// About how many bytes the cells take when written.
-    fn size(&self) -> usize;
+    /// About how many bytes the cells take when written: at most eight times as many as they do.
+    fn size(&self) -> usize
+        ensures { result ≤ 8 * length (plain_text C.bytes (cells self.now)) };
 
-    /// About how many bytes the cells at these indices take when written.
+    /// About how many bytes the cells at these indices take when written: at most eight times as many as they do.
     fn size_at(&self, places: &[u32]) -> usize
-        requires { (k : ℕ) → k < length places.now → slice_index places.now k < length (cells self.now) };
+        requires { (k : ℕ) → k < length places.now → slice_index places.now k < length (cells self.now) }
+        ensures { result ≤ 8 * length (plain_text C.bytes (cells_at (cells self.now) places.now)) };
 
     /// A copy of the cell at an index.
     fn cell(&self, at: usize) -> C

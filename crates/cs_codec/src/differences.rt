@@ -11,6 +11,7 @@ use crate::encoding::{CodecFault, ColumnEncoding};
 use crate::groups::{read_groups, write_short};
 use crate::numbers::{read_number, write_number};
 use cs_schema::Code;
+use cs_schema::limits::SEGMENT_ROWS;
 use std::alloc::{AllocError, Global};
 use std::marker::Model;
 
@@ -122,7 +123,7 @@ impl DifferencesPart {
     fn goes_on(&self, other: &DifferencesPart) -> bool
         ensures { IsTrue result ↔ NeverFallsShort (self.now ++ other.now) }
     {
-        if self.count + other.count > 1_048_576 {
+        if self.count + other.count > SEGMENT_ROWS {
             return false;
         }
         if self.count == 0 || other.count == 0 {

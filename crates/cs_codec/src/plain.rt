@@ -12,6 +12,7 @@ use crate::cell::Cell;
 use crate::column::{Column, lone_bits};
 use crate::encoding::{CodecFault, ColumnEncoding};
 use cs_schema::Code;
+use cs_schema::limits::SEGMENT_ROWS;
 use std::alloc::{AllocError, Global};
 
 /// The encoded form of some cells of a column: their bytes and their number. For one cell that is a number it is the
@@ -116,7 +117,7 @@ impl<C: Cell, L: Column<C>> ColumnEncoding<C, L> for Plain {
     }
 
     fn can_join(left: &PlainPart, right: &PlainPart) -> bool {
-        u64::from(left.count) + u64::from(right.count) <= 1_048_576
+        u64::from(left.count) + u64::from(right.count) <= u64::from(SEGMENT_ROWS)
     }
 
     fn join(left: PlainPart, right: PlainPart) -> Result<PlainPart, AllocError> {

@@ -14,7 +14,8 @@ fn run_end<C: Cell, L: Column<C>>(column: &L, places: &[u32], start: usize, stop
     requires within { (k : ℕ) → k < length places.now → slice_index places.now k < length (L.cells column.now) }
     requires order { (start < stop) × (stop ≤ length places.now) }
     ensures within { (start < result) × (result ≤ stop) }
-    ensures end { (x : C) → slice_get (cells_at (L.cells column.now) places.now) start ≡ Some x → result ≡ min stop (start + 1 + kept C.eq x (drop (start + 1) (cells_at (L.cells column.now) places.now))) }
+    ensures end { (x : C) → slice_get (cells_at (L.cells column.now) places.now) start ≡ Some x
+        → result ≡ min stop (start + 1 + kept C.eq x (drop (start + 1) (cells_at (L.cells column.now) places.now))) }
 {
     let value = places[start] as usize;
     let mut end = start + 1;

@@ -13,6 +13,7 @@ use crate::encoding::{CodecFault, ColumnEncoding};
 use crate::numbers::write_number;
 use crate::run_reading::read_column;
 use cs_schema::Code;
+use cs_schema::limits::SEGMENT_ROWS;
 use std::alloc::{AllocError, Global};
 use std::marker::{Model, PhantomData};
 
@@ -100,7 +101,8 @@ impl<C: Cell, L: Column<C>> RunsPart<C, L> {
     fn append_to(self, values: &mut L, counts: &mut Vec<u32>) -> Result<(), AllocError>
         requires short { length (expand (zip_runs (L.cells values.old) counts.old.items)) + length self ≤ 1048576 }
         requires runs { AreColumnsOfRuns C.eq (L.cells values.old) counts.old.items }
-        ensures cells { OnOk result (expand (zip_runs (L.cells values.new) counts.new.items) ≡ expand (zip_runs (L.cells values.old) counts.old.items) ++ self) }
+        ensures cells { OnOk result (expand (zip_runs (L.cells values.new) counts.new.items)
+            ≡ expand (zip_runs (L.cells values.old) counts.old.items) ++ self) }
         ensures runs { OnOk result (AreColumnsOfRuns C.eq (L.cells values.new) counts.new.items) }
     {
         let others = self.values;
@@ -177,10 +179,13 @@ fn append_runs<C: Cell, L: Column<C>>(
     others: L,
     other_counts: Vec<u32>,
 ) -> Result<(), AllocError>
-    requires short { length (expand (zip_runs (L.cells values.old) counts.old.items)) + length (expand (zip_runs (L.cells others) other_counts.items)) ≤ 1048576 }
+    requires short { length (expand (zip_runs (L.cells values.old) counts.old.items))
+        + length (expand (zip_runs (L.cells others) other_counts.items)) ≤ 1048576 }
     requires runs { AreColumnsOfRuns C.eq (L.cells values.old) counts.old.items }
     requires others { AreColumnsOfRuns C.eq (L.cells others) other_counts.items }
-    ensures cells { OnOk result (expand (zip_runs (L.cells values.new) counts.new.items) ≡ expand (zip_runs (L.cells values.old) counts.old.items) ++ expand (zip_runs (L.cells others) other_counts.items)) }
+    ensures cells { OnOk result (expand (zip_runs (L.cells values.new) counts.new.items)
+        ≡ expand (zip_runs (L.cells values.old) counts.old.items)
+        ++ expand (zip_runs (L.cells others) other_counts.items)) }
     ensures runs { OnOk result (AreColumnsOfRuns C.eq (L.cells values.new) counts.new.items) }
 {
     let mut other_counts = other_counts;
@@ -207,7 +212,9 @@ fn push_run<C: Cell, L: Column<C>>(
     requires at { at < length (L.cells column.now) }
     requires short { length (expand (zip_runs (L.cells values.old) counts.old.items)) + 1 ≤ 1048576 }
     requires runs { AreColumnsOfRuns C.eq (L.cells values.old) counts.old.items }
-    ensures cells { OnOk result ((c : C) → slice_get (L.cells column.now) at ≡ Some c → expand (zip_runs (L.cells values.new) counts.new.items) ≡ expand (zip_runs (L.cells values.old) counts.old.items) ++ c ∷ []) }
+    ensures cells { OnOk result ((c : C) → slice_get (L.cells column.now) at ≡ Some c
+        → expand (zip_runs (L.cells values.new) counts.new.items)
+        ≡ expand (zip_runs (L.cells values.old) counts.old.items) ++ c ∷ []) }
     ensures runs { OnOk result (AreColumnsOfRuns C.eq (L.cells values.new) counts.new.items) }
 {
     let len = counts.len();
@@ -229,7 +236,8 @@ fn push_cell<C: Cell, L: Column<C>>(
 ) -> Result<(), AllocError>
     requires short { length (expand (zip_runs (L.cells values.old) counts.old.items)) + 1 ≤ 1048576 }
     requires runs { AreColumnsOfRuns C.eq (L.cells values.old) counts.old.items }
-    ensures cells { OnOk result (expand (zip_runs (L.cells values.new) counts.new.items) ≡ expand (zip_runs (L.cells values.old) counts.old.items) ++ cell.now ∷ []) }
+    ensures cells { OnOk result (expand (zip_runs (L.cells values.new) counts.new.items)
+        ≡ expand (zip_runs (L.cells values.old) counts.old.items) ++ cell.now ∷ []) }
     ensures runs { OnOk result (AreColumnsOfRuns C.eq (L.cells values.new) counts.new.items) }
 {
     let len = counts.len();
@@ -268,7 +276,7 @@ impl<C: Cell, L: Column<C>> ColumnEncoding<C, L> for Runs {
     }
 
     fn can_join(left: &RunsPart<C, L>, right: &RunsPart<C, L>) -> bool {
-        u64::from(left.count) + u64::from(right.count) <= 1_048_576
+        u64::from(left.count) + u64::from(right.count) <= u64::from(SEGMENT_ROWS)
     }
 
     fn join(left: RunsPart<C, L>, right: RunsPart<C, L>) -> Result<RunsPart<C, L>, AllocError> {

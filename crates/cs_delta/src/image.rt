@@ -17,7 +17,7 @@ use cs_segment::segment::Segment;
 use std::alloc::{AllocError, Global};
 use std::marker::Model;
 
-/// A segment with its delta merged: live keys, and the cells of their rows by columns.
+/// A segment with its delta merged: the keys of the live rows, and the cells of each column.
 #[derive(Drop)]
 pub struct Image {
     keys: Keys,
@@ -45,14 +45,14 @@ impl Image {
         self.keys.len()
     }
 
-    /// The highest key that was ever given.
+    /// The highest storage key that was ever given.
     pub fn top(&self) -> u32
         ensures { result ≡ self.now.image.top }
     {
         self.top
     }
 
-    /// The cells of a column of the projection.
+    /// The cells of the `j`-th column of the projection.
     pub fn column(&self, j: usize) -> &Cells
         requires { j < length self.now.kinds }
         ensures values { values result.now ≡ image_column self.now.image j }
@@ -69,7 +69,7 @@ impl Image {
         self.keys.at(i)
     }
 
-    /// The position of a live key.
+    /// The position of the row with this key, or `None` if no live row has it.
     pub fn position_of(&self, key: u32) -> Option<u32>
         ensures { result ≡ position_of_key self.now.image key }
     {
@@ -77,7 +77,7 @@ impl Image {
     }
 }
 
-/// The keys 1, 2, 3, .., so many.
+/// The keys 1 to `rows`.
 fn first_keys(alloc: Global, rows: u32) -> Result<Vec<u32>, AllocError>
     requires { rows ≤ 1048576 }
     ensures { IfOk result (λ keys. keys.items ≡ base_keys rows) }
@@ -89,7 +89,7 @@ fn first_keys(alloc: Global, rows: u32) -> Result<Vec<u32>, AllocError>
     Ok(keys)
 }
 
-/// The image of a segment and its delta, made of a copy of the segment.
+/// Merges a delta into a copy of a segment. `Damaged` if the delta is not one of this segment.
 pub fn merge(alloc: Global, segment: &Segment, delta: &Delta) -> Result<Image, FileFault>
     requires { AreOfOneCatalog segment.now delta.now }
     ensures merged { IfOk result (λ image. image ≡ merged_image segment.now delta.now) }
@@ -100,7 +100,8 @@ pub fn merge(alloc: Global, segment: &Segment, delta: &Delta) -> Result<Image, F
     merge_owned(alloc, copy, delta)
 }
 
-/// The image of a segment that isn't wanted any more, and its delta. Where no item changes it, its columns are moved.
+/// Merges a delta into a segment. If the delta has no items, the columns are moved. `Damaged` if the delta is not one of
+/// this segment.
 pub fn merge_owned(alloc: Global, segment: Segment, delta: &Delta) -> Result<Image, FileFault>
     requires { AreOfOneCatalog segment delta.now }
     ensures merged { IfOk result (λ image. image ≡ merged_image segment delta.now) }

@@ -1,11 +1,11 @@
-//! The file of a delta that says nothing yet.
+//! Writing the file of an empty delta.
 ghost use Rattle.std.specs.Prelude.{◌≡◌, IfOk};
 ghost use Rattle.cs_delta.specs.DeltaFile.{delta_text, no_changes};
 
 use cs_segment::seal::seal;
 use std::alloc::{AllocError, Global};
 
-/// The file of the delta with no items, for a segment of so many rows: of version 1, the rows the highest key.
+/// The file of the empty delta of a segment of `rows` rows, in version 1. The highest key is `rows`.
 pub fn write_empty_delta(alloc: Global, p: u16, s: u16, rows: u32) -> Result<Vec<u8>, AllocError>
     ensures { IfOk result (λ out. out.items ≡ delta_text (no_changes p s rows)) }
 {

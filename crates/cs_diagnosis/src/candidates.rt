@@ -36,7 +36,10 @@ pub fn find_candidate<'a, R: Threads + Sync, G: Gate + Sync>(
     requires safe { IsSafe remains.now.catalog.now loss }
     requires within { IsWithin remains.now.first loss }
     requires read { (F : FileContents) × AreRead remains.now.catalog.now F remains.now.first remains.now.survivors.now }
-    ensures { IfOk result (λ found. (F : FileContents) → AreRead remains.now.catalog.now F remains.now.first remains.now.survivors.now → MatchOption found (HasNoTable remains.now.catalog.now F remains.now.first loss) (IsCandidate remains.now.catalog.now F remains.now.first loss)) }
+    ensures { IfOk result (λ found. (F : FileContents)
+        → AreRead remains.now.catalog.now F remains.now.first remains.now.survivors.now
+        → MatchOption found (HasNoTable remains.now.catalog.now F remains.now.first loss)
+        (IsCandidate remains.now.catalog.now F remains.now.first loss)) }
 {
     let catalog = remains.catalog;
     let store = match order_store(run, catalog, loss, remains.survivors) {

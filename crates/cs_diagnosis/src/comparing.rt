@@ -16,15 +16,6 @@ pub fn row_count(catalog: &Catalog, columns: &[Cells]) -> usize
     columns[0].len()
 }
 
-/// The column of the primary key.
-fn key_column(catalog: &Catalog) -> usize
-    ensures column { result ≡ catalog.now.key }
-    ensures within { result < length catalog.now.columns }
-{
-    let _rules = catalog.projection_count();
-    catalog.key as usize
-}
-
 /// Compares the keys of two rows.
 fn key_order(catalog: &Catalog, first: &[Cells], i: usize, second: &[Cells], j: usize) -> Ordering
     requires first { IsTableIn catalog.now first.now }
@@ -33,7 +24,7 @@ fn key_order(catalog: &Catalog, first: &[Cells], i: usize, second: &[Cells], j: 
     requires there { j < count_of second.now }
     ensures { IsNext catalog.now.key (rows_in first.now) (rows_in second.now) i j result }
 {
-    let key = key_column(catalog);
+    let key = catalog.key_column();
     first[key].compare_cell(i, &second[key], j)
 }
 

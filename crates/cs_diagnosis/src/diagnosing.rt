@@ -50,8 +50,13 @@ fn diagnose_read<R: Threads + Sync, G: Progress + Sync>(
     at_most: Option<u8>,
 ) -> Result<Diagnosis, AllocError>
     requires at_most { IfSome at_most (λ n. n ≤ 16) }
-    requires read { (F : FileContents) × (unreadable : List NameData) × AreRead remains.now.catalog.now F remains.now.first remains.now.survivors.now × AreTold remains.now.catalog.now F unreadable bad.items remains.now.first }
-    ensures { IfOk result (λ d. (F : FileContents) (unreadable : List NameData) → AreRead remains.now.catalog.now F remains.now.first remains.now.survivors.now → AreTold remains.now.catalog.now F unreadable bad.items remains.now.first → IsDiagnosis remains.now.catalog.now F unreadable at_most d) }
+    requires read { (F : FileContents) × (unreadable : List NameData)
+        × AreRead remains.now.catalog.now F remains.now.first remains.now.survivors.now
+        × AreTold remains.now.catalog.now F unreadable bad.items remains.now.first }
+    ensures { IfOk result (λ d. (F : FileContents) (unreadable : List NameData)
+        → AreRead remains.now.catalog.now F remains.now.first remains.now.survivors.now
+        → AreTold remains.now.catalog.now F unreadable bad.items remains.now.first
+        → IsDiagnosis remains.now.catalog.now F unreadable at_most d) }
 {
     let forced = remains.first;
     let _sites = forced.count();
@@ -78,8 +83,11 @@ fn diagnose_bad<R: Threads + Sync, G: Progress + Sync>(
     at_most: Option<u8>,
 ) -> Result<Diagnosis, AllocError>
     requires at_most { IfSome at_most (λ n. n ≤ 16) }
-    requires bad { (unreadable : List NameData) × AreAbsent (contents_of files.now) unreadable × AreBadFiles catalog.now (contents_of files.now) unreadable bad.items }
-    ensures { IfOk result (λ d. (unreadable : List NameData) → AreAbsent (contents_of files.now) unreadable → AreBadFiles catalog.now (contents_of files.now) unreadable bad.items → IsDiagnosis catalog.now (contents_of files.now) unreadable at_most d) }
+    requires bad { (unreadable : List NameData) × AreAbsent (contents_of files.now) unreadable
+        × AreBadFiles catalog.now (contents_of files.now) unreadable bad.items }
+    ensures { IfOk result (λ d. (unreadable : List NameData) → AreAbsent (contents_of files.now) unreadable
+        → AreBadFiles catalog.now (contents_of files.now) unreadable bad.items
+        → IsDiagnosis catalog.now (contents_of files.now) unreadable at_most d) }
 {
     let first = bad_sites(catalog, bad.as_slice());
     match read_store(run, catalog, first, files) {

@@ -55,7 +55,8 @@ fn add_disputes(
     requires places { first < second }
     requires within { second < length tables.now }
     requires tables { (n : _) (t : FoundTable) → slice_get tables.now n ≡ Some t → IsTable catalog.now (rows_found t) }
-    ensures { OnOk result ((d : TableDisputes) × (found.new.items ≡ found.old.items ++ d ∷ []) × AreOfTables catalog.now tables.now at_most d × (d.first ≡ first) × (d.second ≡ second)) }
+    ensures { OnOk result ((d : TableDisputes) × (found.new.items ≡ found.old.items ++ d ∷ [])
+        × AreOfTables catalog.now tables.now at_most d × (d.first ≡ first) × (d.second ≡ second)) }
 {
     let alloc = *found.allocator();
     let (earlier, later) = (&tables[first], &tables[second]);

@@ -34,7 +34,9 @@ fn keep_known(
     loss: Loss,
     table: usize,
 ) -> Result<(), AllocError>
-    ensures { OnOk result ((findings.new.explanations.items ≡ findings.old.explanations.items ++ (record { loss = loss; table = table }) ∷ []) × (findings.new.tables.items ≡ findings.old.tables.items)) }
+    ensures { OnOk result ((findings.new.explanations.items
+        ≡ findings.old.explanations.items ++ (record { loss = loss; table = table }) ∷ [])
+        × (findings.new.tables.items ≡ findings.old.tables.items)) }
 {
     findings.explanations.push(Explanation { loss, table })?;
     Ok(())
@@ -89,7 +91,8 @@ fn walk_loss<R: Threads + Sync, G: Progress + Sync>(
         → IsKnown remains.now.catalog.now F remains.now.first findings.old.tables.items known.old
         → IsTried (HoldsSurvivors remains.now.catalog.now F loss) rows_found loss findings.old findings.new
         × IsKnown remains.now.catalog.now F remains.now.first findings.new.tables.items known.new) }
-    ensures kept { OnOk result ((conflicts : Option ConflictsData) × IsPlanKept remains.now.catalog.now loss conflicts known.old.walks known.new.walks) }
+    ensures kept { OnOk result ((conflicts : Option ConflictsData)
+        × IsPlanKept remains.now.catalog.now loss conflicts known.old.walks known.new.walks) }
 {
     run.gate.tried(loss);
     match find_candidate(run, remains, loss)? {
@@ -148,7 +151,8 @@ pub fn explain<R: Threads + Sync, G: Progress + Sync>(
     requires read { (F : FileContents) × AreRead remains.now.catalog.now F remains.now.first remains.now.survivors.now }
     ensures { IfOk result (λ found. (F : FileContents) → AreRead remains.now.catalog.now F remains.now.first remains.now.survivors.now
         → AreForced remains.now.catalog.now (HoldsSurvivors remains.now.catalog.now F) remains.now.first
-        → AreExplanations remains.now.catalog.now (HoldsSurvivors remains.now.catalog.now F) at_most rows_found found.explanations.items found.tables.items) }
+        → AreExplanations remains.now.catalog.now (HoldsSurvivors remains.now.catalog.now F) at_most
+        rows_found found.explanations.items found.tables.items) }
 {
     let alloc = run.alloc;
     let losses = all_losses(alloc, remains.catalog, at_most)?;

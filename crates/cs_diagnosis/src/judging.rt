@@ -19,7 +19,9 @@ pub fn conflicts_of<R: Threads + Sync, G: Gate + Sync>(
     run: &Run<'_, R, G>,
     store: &OrderedStore<'_>,
 ) -> Result<Conflicts, AllocError>
-    ensures { IfOk result (λ found. (F : FileContents) → AreRead store.now.catalog.now F store.now.loss store.now.survivors.now → AreConflictsOf store.now.catalog.now F store.now.loss (table_on store.now) found) }
+    ensures { IfOk result (λ found. (F : FileContents)
+        → AreRead store.now.catalog.now F store.now.loss store.now.survivors.now
+        → AreConflictsOf store.now.catalog.now F store.now.loss (table_on store.now) found) }
 {
     let _rules = store.catalog.projection_count();
     let segments = surviving_segments(run.alloc, store.catalog, store.loss)?;

@@ -28,7 +28,8 @@ pub struct Disputes {
 fn keep(found: &mut Disputes, dispute: Dispute, at_most: usize) -> Result<(), AllocError>
     requires { found.old.count < 2 ^ 64 - 1 }
     ensures count { OnOk result (found.new.count ≡ found.old.count + 1) }
-    ensures rows { OnOk result ((all : List DisputeData) → length all ≡ found.old.count → found.old.rows.items ≡ take at_most all → found.new.rows.items ≡ take at_most (all ++ dispute ∷ [])) }
+    ensures rows { OnOk result ((all : List DisputeData) → length all ≡ found.old.count
+        → found.old.rows.items ≡ take at_most all → found.new.rows.items ≡ take at_most (all ++ dispute ∷ [])) }
 {
     if found.rows.len() < at_most {
         found.rows.push(dispute)?;
@@ -50,7 +51,9 @@ pub fn find_disputes(
     requires first { IsTableIn catalog.now first.now }
     requires second { IsTableIn catalog.now second.now }
     requires few { count_of first.now + count_of second.now < 2 ^ 64 }
-    ensures { IfOk result (λ found. (all : List DisputeData) × AreDisputes catalog.now.key (rows_in first.now) (rows_in second.now) all × (found.count ≡ length all) × (found.rows.items ≡ take at_most all)) }
+    ensures { IfOk result (λ found. (all : List DisputeData)
+        × AreDisputes catalog.now.key (rows_in first.now) (rows_in second.now) all × (found.count ≡ length all)
+        × (found.rows.items ≡ take at_most all)) }
 {
     let rows = row_count(catalog, first);
     let others = row_count(catalog, second);

@@ -17,8 +17,10 @@ pub fn missing_files(
     catalog: &Catalog,
     files: &FileSet,
 ) -> Result<Vec<(FileName, Badness)>, AllocError>
-    ensures each { IfOk result (λ missing. (b : NameData × BadnessData) → IsIn b missing.items → HasName catalog.now b.0 × (contents_of files.now b.0 ≡ None)) }
-    ensures all { IfOk result (λ missing. (n : NameData) → HasName catalog.now n → contents_of files.now n ≡ None → IsIn (n, BadnessData.Missing) missing.items) }
+    ensures each { IfOk result (λ missing. (b : NameData × BadnessData) → IsIn b missing.items
+        → HasName catalog.now b.0 × (contents_of files.now b.0 ≡ None)) }
+    ensures all { IfOk result (λ missing. (n : NameData) → HasName catalog.now n
+        → contents_of files.now n ≡ None → IsIn (n, BadnessData.Missing) missing.items) }
 {
     let _rules = catalog.projection_count();
     let names = catalog.surviving(alloc, Loss::none())?;

@@ -67,7 +67,8 @@ impl Walks {
 
     /// Whether a plan leads to no table, or to one with a conflict that a loss misses.
     fn refutes_plan(&self, plan: &Plan, loss: Loss) -> bool
-        ensures { IsTrue result ↔ ((k : WalkedPlanData) × IsIn k self.now.plans.items × (k.plan ≡ plan.now) × ((c : ConflictsData) → k.conflicts ≡ Some c → ¬ AreAllHit c loss)) }
+        ensures { IsTrue result ↔ ((k : WalkedPlanData) × IsIn k self.now.plans.items × (k.plan ≡ plan.now)
+            × ((c : ConflictsData) → k.conflicts ≡ Some c → ¬ AreAllHit c loss)) }
     {
         for walked in &self.plans {
             if is_same(&walked.plan, plan) && !is_hit(&walked.conflicts, loss) {
@@ -80,7 +81,9 @@ impl Walks {
     /// Whether what survives a safe loss holds no table, by what is known of its walk.
     pub fn refutes(&self, catalog: &Catalog, loss: Loss) -> bool
         ensures refuted { IsTrue result ↔ IsRefuted catalog.now loss self.now }
-        ensures none_held { IsTrue result → (F : FileContents) (first : Sites) → AreWalks catalog.now F first self.now → IsWithin first loss → IsSafe catalog.now loss → (T : List Row) → ¬ HoldsSurvivors catalog.now F loss T }
+        ensures none_held { IsTrue result → (F : FileContents) (first : Sites)
+            → AreWalks catalog.now F first self.now → IsWithin first loss → IsSafe catalog.now loss
+            → (T : List Row) → ¬ HoldsSurvivors catalog.now F loss T }
     {
         match catalog.safety {
             Safety::Whole => match plan(catalog, loss) {
@@ -99,7 +102,9 @@ impl Walks {
         conflicts: Option<Conflicts>,
     ) -> Result<(), AllocError>
         ensures kept { OnOk result (IsPlanKept catalog.now loss conflicts self.old self.new) }
-        ensures walks { OnOk result ((F : FileContents) (first : Sites) → IsWalkOutcome catalog.now F first loss conflicts → AreWalks catalog.now F first self.old → AreWalks catalog.now F first self.new) }
+        ensures walks { OnOk result ((F : FileContents) (first : Sites)
+            → IsWalkOutcome catalog.now F first loss conflicts → AreWalks catalog.now F first self.old
+            → AreWalks catalog.now F first self.new) }
     {
         match catalog.safety {
             Safety::Whole => match plan(catalog, loss) {

@@ -7,7 +7,7 @@ ghost use Rattle.cs_jix.specs.Follow.{followed};
 use cs_delta::image::Image;
 use std::marker::Model;
 
-/// The entries of a join index: a segment of the target and a key there for each key of the segment.
+/// A join index: for each storage key of a segment, the segment and key at which the target projection stores the row.
 #[derive(Drop)]
 pub struct JoinIndex {
     segments: Vec<u16>,
@@ -27,7 +27,7 @@ impl Model for JoinIndex {
 }
 
 impl JoinIndex {
-    /// The entries with these segments and keys.
+    /// The join index with these segments and keys, one of each for an entry.
     pub(crate) fn from_parts(segments: Vec<u16>, keys: Vec<u32>) -> Self
         requires same { length segments.items ≡ length keys.items }
         requires few { length keys.items ≤ 4194304 }
@@ -43,7 +43,7 @@ impl JoinIndex {
         self.keys.len() as u32
     }
 
-    /// The place that stands at a key.
+    /// The segment and key in the target at the entry of a key. `None` if there is no such entry, or if it is empty.
     pub fn entry(&self, key: u32) -> Option<(u16, u32)>
         ensures { result ≡ entry_at self.now key }
     {
@@ -55,7 +55,8 @@ impl JoinIndex {
         if place.1 == 0 { None } else { Some(place) }
     }
 
-    /// The row at which a key's entry points, by segment and position in the target's images, where it is a live row there.
+    /// The row to which the entry of a key points: its segment in the target, and its position in the image of that
+    /// segment. `None` if the entry is empty, or if it points to no live row.
     pub fn follow(&self, key: u32, images: &[Option<Image>]) -> Option<(u16, u32)>
         ensures { result ≡ followed self.now key images.now }
     {

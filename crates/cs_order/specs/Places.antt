@@ -18,6 +18,13 @@ pub record IsThere (rows : List ℕ) (s row place : ℕ) : Type 0 where
   pub segment : segment_in place ≡ s
   pub index : slice_get rows (index_in place) ≡ Some row
 
+-- each row that stands in one of these segments alone has its place there
+abbrev pub ArePlacesIn : List (List ℕ) → List ℕ → Type 0
+ArePlacesIn lists places =
+    (s r : ℕ) → s < length lists → Contains (slice_index_or lists s []) r
+    → ((t : ℕ) → t < length lists → Contains (slice_index_or lists t []) r → t ≡ s)
+    → IsThere (slice_index_or lists s []) s r (slice_index places r)
+
 -- the row stands at a place of these segments
 abbrev pub IsPlaceOf : List (List ℕ) → ℕ → ℕ → Type 0
 IsPlaceOf lists row place = slice_get (slice_index_or lists (segment_in place) []) (index_in place) ≡ Some row

@@ -3,9 +3,9 @@ ghost use Rattle.std.specs.Prelude.{◌≡◌, ◌<◌, ◌≤◌, All, Contains
 ghost use Rattle.cs_order.specs.Orders.{numbers_in, StandsAt};
 ghost use Rattle.cs_order.specs.Places.{IsAmong};
 
-use crate::places::PLACES;
 use crate::ranges::RowIds;
 use crate::segments::ProjectionOrder;
+use cs_schema::limits::SEGMENT_ROWS;
 use std::marker::Model;
 
 /// The rows of each segment of each projection, by their numbers.
@@ -49,7 +49,7 @@ impl Orders {
             return find_row(&order.segments, row);
         }
         let place = order.places[row as usize];
-        ((place / PLACES) as u16, place % PLACES)
+        ((place / SEGMENT_ROWS) as u16, place % SEGMENT_ROWS)
     }
 }
 

@@ -21,6 +21,7 @@ mod segments;
 mod sort;
 mod sort_items;
 mod sorter;
+mod thresholds;
 mod writing;
 
 pub use all_orders::Orders;

@@ -89,7 +89,8 @@ fn made_orders<R: Threads + Sync>(
     by_key: &[u32],
 ) -> Result<Vec<Result<ProjectionOrder, OrderFault>>, AllocError>
     requires rows { AreAllRows sorter.now.catalog.now sorter.now.walked.now.rows all.now by_key.now }
-    ensures { IfOk result (λ made. AllZip (IsOrderOrFault sorter.now.catalog.now sorter.now.walked.now.rows) (range_with_len 0 (length sorter.now.catalog.now.projections)) made.items) }
+    ensures { IfOk result (λ made. AllZip (IsOrderOrFault sorter.now.catalog.now sorter.now.walked.now.rows)
+        (range_with_len 0 (length sorter.now.catalog.now.projections)) made.items) }
 {
     (0..sorter.catalog.projection_count())
         .into_par_iter()

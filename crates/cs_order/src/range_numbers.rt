@@ -42,7 +42,8 @@ fn write_int_ranges<R: Threads + Sync>(rt: &R, cuts: &[i64], ints: &[i64], numbe
     requires few { length cuts.now ≤ 65535 }
     requires long { length numbers.old ≡ length ints.now }
     ensures long { length numbers.new ≡ length numbers.old }
-    ensures ranges { EachIndex numbers.new (λ r. range_of (map Value.Int cuts.now) (Value.Int (slice_index_or ints.now r (pos 0))) ≡ slice_index numbers.new r) }
+    ensures ranges { EachIndex numbers.new (λ r. range_of (map Value.Int cuts.now)
+        (Value.Int (slice_index_or ints.now r (pos 0))) ≡ slice_index numbers.new r) }
 {
     write_each(rt, numbers, |row: usize, number: &mut u16| {
         *number = range_of_int(cuts, &ints[row]);

@@ -2,11 +2,9 @@
 ghost use Rattle.std.specs.Prelude.{◌<◌};
 ghost use Rattle.std.specs.Fork.{AcceptsEach, ChangesEach};
 
+use crate::thresholds::SHARE;
 use rayon::current_num_threads;
 use std::thread::{Threads, for_each_mut};
-
-/// The number of items that are worth a thread of their own.
-const SHARE: usize = 65_536;
 
 /// Calls `f` with the index and a reference of each item of a list, in one thread if the list is short.
 pub fn write_each<R: Threads + Sync, T: Send, F: Fn(usize, &mut T) + Sync>(

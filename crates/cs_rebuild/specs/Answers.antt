@@ -1,4 +1,4 @@
--- What is answered of a store's files once a loss is known to be safe.
+-- The answers about a store's files once a loss is known to be safe.
 use Rattle.std.specs.Prelude.{◌≡◌, List, Result, Ok, Err, length}
 use Rattle.cs_schema.specs.CatalogData.{CatalogData}
 use Rattle.cs_schema.specs.FileNames.{FileContents}
@@ -27,7 +27,7 @@ abbrev pub IsAnswer : Wanted → CatalogData → FileContents → Sites → Resu
 IsAnswer wanted C F L (Ok answer) = (T : List Row) × IsVerdict C F L (Ok T) × Gives wanted C F L T answer
 IsAnswer wanted C F L (Err f) = MemoryOr f (IsVerdict C F L (Err f))
 
--- what is answered of the survivors that were read, or the fault of the least bad file
+-- the answer about the survivors that were read, or the fault of the least bad file
 abbrev pub IsAnswerOfRead : Wanted → CatalogData → FileContents → Sites → Result (Result Answer Fault) Fault → Type 0
 IsAnswerOfRead wanted C F L (Ok answer) = (v : SurvivorsData) × AreRead C F L v × ((G : FileContents) → AreRead C G L v → IsAnswer wanted C G L answer)
 IsAnswerOfRead wanted C F L (Err f) = MemoryOr f (IsBadFile C F L f)

@@ -16,7 +16,7 @@ abbrev pub name_of : LostFile → FileName
 name_of (LostFile.Segment p s) = FileName.Seg p s
 name_of (LostFile.Delta p s) = FileName.Del p s
 
--- the names of a segment and its delta, where it is lost
+-- the names of a segment and its delta, if it is lost
 abbrev pub base_names : CatalogData → Sites → ℕ → ℕ → List FileName
 base_names C L p s = cond (lost C L p s) (FileName.Seg p s ∷ FileName.Del p s ∷ []) []
 
@@ -47,7 +47,7 @@ IsToWrite g (LostFile.Delta p s) = IsLostSegment g.catalog.now g.loss p s
 abbrev pub join_name : ℕ × ℕ × ℕ → FileName
 join_name a = FileName.Jix a.0 a.1 a.2
 
--- a join index, where the loss affects it
+-- a join index, if the loss affects it
 abbrev pub if_affected : CatalogData → Sites → ℕ → ℕ → ℕ → List (ℕ × ℕ × ℕ)
 if_affected C L p s q = cond (is_affected C L p s q) ((p, s, q) ∷ []) []
 

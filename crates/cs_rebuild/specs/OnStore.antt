@@ -8,10 +8,11 @@ use Rattle.cs_schema.specs.Rows.{Row}
 use Rattle.cs_rows.specs.Survivors.{SurvivorsData, contents_of}
 use Rattle.cs_rows.specs.Walk.{Contents}
 use Rattle.cs_order.specs.Tables.{table_of}
+use Rattle.cs_delta.specs.Image.{ImageData}
 use Rattle.cs_jix.specs.JoinIndex.{Place}
 use Rattle.cs_store.specs.declared.fault.Fault.{Fault}
 use Rattle.cs_recovery.specs.Expected.{written}
-use Rattle.cs_recovery.specs.Places.{entry_for}
+use Rattle.cs_recovery.specs.Places.{entries_for, entry_for, image_after}
 use Rattle.cs_recovery.specs.Verdicts.{misplaced, misled}
 use Rattle.cs_rebuild.specs.Steps.{HoldsTable}
 use Rattle.cs_rebuild.specs.declared.ordered_store.OrderedStore.{OrderedStore}
@@ -23,6 +24,14 @@ held_on g = contents_of g.survivors.now
 -- the table of the walked rows
 abbrev pub table_on : OrderedStore → List Row
 table_on g = table_of g.catalog.now g.walked.rows
+
+-- the image of a segment after the recovery
+abbrev pub image_on : OrderedStore → ℕ → ℕ → ImageData
+image_on g p s = image_after g.catalog.now g.loss (held_on g) (table_on g) p s
+
+-- the entries of a join index after the recovery
+abbrev pub entries_on : OrderedStore → ℕ → ℕ → ℕ → List Place
+entries_on g p s q = entries_for g.catalog.now g.loss (held_on g) (table_on g) p s q
 
 -- the files that a recovery writes
 abbrev pub written_on : OrderedStore → FileContents

@@ -41,7 +41,7 @@ misled_at C L S T a = when (is_misled C L S T a) (Fault.Misled a.0 a.1 a.2)
 abbrev pub JoinedFaultAt : CatalogData → Sites → Contents → List Row → List (ℕ × ℕ × ℕ) → ℕ → Option Fault → Type 0
 JoinedFaultAt C L S T joins i fault = fault ≡ option_and_then (misled_at C L S T) (slice_get joins i)
 
--- the entry at a key as the file has it, where an entry with no key has no segment
+-- the entry at a key as the file has it: an entry without a key has no segment
 abbrev pub raw_entry : List Place → ℕ → Place
 raw_entry entries key = unwrap_or (entry_at entries key) no_place
 

@@ -14,7 +14,7 @@ pub fn count_pieces(rows: usize, cut: u32) -> u32
     ((rows - 1) / cut as usize) as u32 + 1
 }
 
-/// How many pieces a column of so many rows has.
+/// The number of pieces of a column with so many rows: at least one.
 pub fn pieces_in(rows: usize, cut: u32) -> u32
     requires rows { rows ≤ 1048576 }
     requires cut { 1 ≤ cut }

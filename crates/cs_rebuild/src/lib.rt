@@ -1,12 +1,12 @@
-//! Rebuilding what a loss takes from a store, checking a store, handing out its table, and building a new one.
+//! Rebuilding what a loss takes from a store, checking a store, returning its table, and building a new store.
 //!
-//! All run in rounds over a claim board: the surviving files are read, their rows walked to the table's rows, the table's
-//! orders found, images and join indexes compared with them, and for `rebuild` the lost files encoded. `build` begins with
-//! the rows, and encodes every file. What they answer depends on the bytes alone: not on the number of workers, nor on how
+//! All run in rounds over a claim board: the surviving files are read, their rows walked to the table's rows, these
+//! sorted, and images and join indexes compared with them; `rebuild` then encodes the lost files. `build` begins with
+//! the rows and encodes every file. An answer depends on the bytes alone: neither on the number of workers nor on how
 //! the work is cut.
 //!
-//! The steps are public too, for those who judge many losses by what was read once: `read_store`, `order_store`, `is_placed`,
-//! `places`, and rounds of `Tasks`.
+//! The steps are public for callers who judge many losses by what was read once: `read_store`, `order_store`,
+//! `is_placed`, `places`, and rounds of `Tasks`.
 #![tactic(auto)]
 
 mod affected_joins;
@@ -45,6 +45,7 @@ mod sound_files;
 mod sound_store;
 mod surviving;
 mod surviving_table;
+mod thresholds;
 mod verifying;
 mod walking;
 mod wanted;

@@ -42,9 +42,11 @@ fn is_before(name: FileName, other: FileName) -> bool
     name < other
 }
 
-/// The fault of the lesser name: that of the least bad body, or of the least wrong digest.
+/// The fault of the lesser name: the least bad body, or the least wrong digest.
 fn lesser(fault: Fault, unsealed: FileName) -> Fault
-    ensures { (C : CatalogData) (L : Sites) (F : FileContents) → IsCatalog C → IsFirstUnsealed F (surviving C L) unsealed → MemoryOr fault (IsBadFile C (resealed F) L fault) → MemoryOr result (IsBadFile C F L result) }
+    ensures { (C : CatalogData) (L : Sites) (F : FileContents) → IsCatalog C
+        → IsFirstUnsealed F (surviving C L) unsealed → MemoryOr fault (IsBadFile C (resealed F) L fault)
+        → MemoryOr result (IsBadFile C F L result) }
 {
     let bad = match refused_name(&fault) {
         Some(bad) => bad,
@@ -56,13 +58,16 @@ fn lesser(fault: Fault, unsealed: FileName) -> Fault
     Fault::Damaged(unsealed)
 }
 
-/// What is made of the bodies of surviving files if their digests are right, and else the fault of the least bad file.
+/// What was made of the bodies of surviving files if their digests are right, otherwise the fault of the least bad
+/// file.
 pub fn unless_bad<T: Drop>(
     unsealed: Result<Option<FileName>, AllocError>,
     read: Result<T, Fault>,
 ) -> Result<T, Fault>
     ensures ok { IfOk result (λ made. (read ≡ Ok made) × (unsealed ≡ Ok None)) }
-    ensures err { IfErr result (λ fault. (C : CatalogData) (L : Sites) (F : FileContents) → IsCatalog C → IfOk unsealed (AreDigests C L F) → IfOk read (λ _. AreBodiesSound C L F) → IfErr read (λ f. MemoryOr f (IsBadFile C (resealed F) L f)) → MemoryOr fault (IsBadFile C F L fault)) }
+    ensures err { IfErr result (λ fault. (C : CatalogData) (L : Sites) (F : FileContents) → IsCatalog C
+        → IfOk unsealed (AreDigests C L F) → IfOk read (λ _. AreBodiesSound C L F)
+        → IfErr read (λ f. MemoryOr f (IsBadFile C (resealed F) L f)) → MemoryOr fault (IsBadFile C F L fault)) }
 {
     let unsealed = match unsealed {
         Ok(unsealed) => unsealed,
@@ -79,7 +84,7 @@ pub fn unless_bad<T: Drop>(
     Err(lesser(fault, name))
 }
 
-/// The least wrong digest, and beside it what the bodies of the surviving files hold.
+/// The least wrong digest and, in parallel, what the bodies of the surviving files hold.
 fn read_beside<'a, R: Threads + Sync, G: Gate + Sync>(
     run: &Run<'_, R, G>,
     catalog: &'a Catalog,
@@ -93,7 +98,7 @@ fn read_beside<'a, R: Threads + Sync, G: Gate + Sync>(
     ensures ok { IfOk result.1 (AreRead catalog.now (resealed (contents_of files.now)) loss) }
     ensures bad { IfErr result.1 (λ fault. MemoryOr fault (IsBadFile catalog.now (resealed (contents_of files.now)) loss fault)) }
 {
-    // of a closure over a struct of references `join` says nothing
+    // `join` promises nothing of a closure over a struct of references
     join_mut(
         run.rt,
         &mut || -> Result<Option<FileName>, AllocError>

@@ -1,5 +1,7 @@
 //! Laws about the definitions. Each function does nothing; its contract is the law.
-ghost use Rattle.cs_recovery.specs.Laws.{VerdictIsTheTable, AcceptedStoresRecover, VerdictTableIsHeld, WholeAgain, OneRebuildVerdict, CheckHasOneVerdict, WalkFindsTheTable, LevelsEnd, SurvivorsDecide, RebuildAnswersSuffice, CheckAnswersSuffice};
+ghost use Rattle.cs_recovery.specs.Laws.{VerdictIsTheTable, AcceptedStoresRecover, VerdictTableIsHeld, WholeAgain, OneRebuildVerdict};
+ghost use Rattle.cs_recovery.specs.Laws.{CheckHasOneVerdict, WalkFindsTheTable, LevelsEnd, SurvivorsDecide, RebuildAnswersSuffice};
+ghost use Rattle.cs_recovery.specs.Laws.{CheckAnswersSuffice};
 
 /// If surviving files hold a table, every verdict on them is that table.
 pub fn verdict_is_the_table()

@@ -2,7 +2,8 @@
 //! contract is the law.
 //!
 //! A loss is *accepted* with a table if it is safe and the files that survive it hold the table.
-ghost use Rattle.cs_recovery.specs.LossLaws.{FewerSurvivorsHold, AcceptanceGrows, OneTableIsHeld, ChangedSitesAreDetected, ChangedSitesAreCorrected, AcceptedLossesHitConflicts};
+ghost use Rattle.cs_recovery.specs.LossLaws.{FewerSurvivorsHold, AcceptanceGrows, OneTableIsHeld, ChangedSitesAreDetected};
+ghost use Rattle.cs_recovery.specs.LossLaws.{ChangedSitesAreCorrected, AcceptedLossesHitConflicts};
 
 /// What the files that survive a loss hold, those that survive a larger one hold too.
 pub fn fewer_survivors_hold()

@@ -22,7 +22,7 @@ use Rattle.cs_delta.specs.KindedImage.{KindedImage}
 use Rattle.cs_segment.specs.SegmentData.{kinds_at}
 use Rattle.cs_safety.specs.Paths.{holds_column}
 use Rattle.cs_rows.specs.declared.sources.Source.{Source}
-use Rattle.cs_rows.specs.declared.range.WalkFault.{WalkFault}
+use Rattle.cs_rows.specs.declared.fault.WalkFault.{WalkFault}
 use Rattle.cs_rows.specs.Walk.{Contents, image_cell}
 use Rattle.cs_rows.specs.WalkByRows.{Reached, Found, numbers_of, found_from, source_in, is_full, found_row}
 use Rattle.cs_rows.specs.OwnRows.{is_fresh, is_given}

@@ -11,7 +11,7 @@ use Rattle.cs_schema.specs.Lists.{numbers_below}
 use Rattle.cs_schema.specs.CatalogData.{CatalogData}
 use Rattle.cs_safety.specs.PlanData.{PlanData}
 use Rattle.cs_rows.specs.Walk.{Contents, At, is_astray, walked_cell, segment_rows}
-use Rattle.cs_rows.specs.declared.range.WalkFault.{WalkFault}
+use Rattle.cs_rows.specs.declared.fault.WalkFault.{WalkFault}
 use Rattle.cs_rows.specs.Columns.{Pushed, AreWalked, IsRowFault, rows_from}
 
 pub range_plus : (a n m : ℕ) → range_with_len a (n + m) ≡ range_with_len a n ++ range_with_len (a + n) m

@@ -9,7 +9,7 @@ use Rattle.cs_safety.specs.PlanData.{PlanData}
 use Rattle.cs_rows.specs.Walk.{Contents, At, is_astray, stand, walked_cell}
 use Rattle.cs_safety.specs.PlanData.{is_planned}
 use Rattle.cs_rows.specs.Steps.{IsAt}
-use Rattle.cs_rows.specs.declared.range.WalkFault.{WalkFault}
+use Rattle.cs_rows.specs.declared.fault.WalkFault.{WalkFault}
 
 -- where the walk of a row stands in each of the first n projections that the plan reaches
 abbrev pub PlacesAre : CatalogData → Contents → PlanData → At → List At → ℕ → Type 0

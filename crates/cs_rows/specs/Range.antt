@@ -7,7 +7,7 @@ use Rattle.cs_schema.specs.Rows.{Row}
 use Rattle.cs_schema.specs.Losses.{Sites}
 use Rattle.cs_safety.specs.PlanData.{PlanData, IsPlan}
 use Rattle.cs_rows.specs.Walk.{Contents, At, Stray, projection_rows, is_astray, walked_row}
-use Rattle.cs_rows.specs.declared.range.WalkFault.{WalkFault}
+use Rattle.cs_rows.specs.declared.fault.WalkFault.{WalkFault}
 
 -- the walked rows of some rows of the anchor, or the first of these that is astray
 abbrev pub walked_among : CatalogData → Contents → PlanData → List At → Result (List Row) Stray

@@ -12,7 +12,7 @@ use Rattle.cs_safety.specs.Paths.{holds_column}
 use Rattle.cs_rows.specs.declared.levels.Landed.{Landed}
 use Rattle.cs_rows.specs.declared.sources.Source.{Source}
 use Rattle.cs_rows.specs.declared.sources.Reading.{Reading}
-use Rattle.cs_rows.specs.declared.range.WalkFault.{WalkFault}
+use Rattle.cs_rows.specs.declared.fault.WalkFault.{WalkFault}
 use Rattle.cs_rows.specs.Walk.{Contents}
 use Rattle.cs_rows.specs.WalkByRows.{Reached, Found, Landing, numbers_of}
 use Rattle.cs_rows.specs.RangeByRows.{is_stray_row}

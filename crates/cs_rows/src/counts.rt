@@ -5,6 +5,7 @@ ghost use Rattle.cs_rows.specs.Walk.{projection_rows};
 ghost use Rattle.cs_rows.specs.WalkByRows.{surviving_rows};
 ghost use Rattle.cs_rows.specs.Survivors.{contents_of};
 ghost use Rattle.cs_rows.specs.RowSteps.{kept_count, projection_kept};
+ghost use Rattle.cs_rows.specs.PlanWalks.{anchor_rows};
 
 use crate::catalog_of::{is_lost, projection_count, segments};
 use crate::numbers::anchor;
@@ -39,7 +40,7 @@ pub(crate) fn rows_in_projection(survivors: &Survivors<'_>, p: u16) -> usize
 impl PlanWalk<'_, '_> {
     /// The number of rows of the anchor, over all its segments. A range of the walk numbers these.
     pub fn anchor_rows(&self) -> usize
-        ensures { result ≡ length (projection_rows self.now.survivors.now.catalog (contents_of self.now.survivors.now) self.now.plan.now.anchor) }
+        ensures { result ≡ length (anchor_rows self.now) }
     {
         rows_in_projection(self.survivors, anchor(self.plan))
     }

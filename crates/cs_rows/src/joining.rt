@@ -1,5 +1,5 @@
 //! Concatenating the cells of walked parts in a column.
-ghost use Rattle.std.specs.Prelude.{◌≡◌, ◌<◌, All, IfOk, length, map};
+ghost use Rattle.std.specs.Prelude.{◌≡◌, ◌<◌, ◌≤◌, ◌*◌, All, IfOk, length, map};
 ghost use Rattle.std.specs.List.{flat_map};
 ghost use Rattle.cs_schema.specs.CatalogData.{column};
 ghost use Rattle.cs_schema.specs.Values.{values, kind_of};
@@ -8,12 +8,14 @@ ghost use Rattle.cs_rows.specs.WalkedView.{IsWide};
 
 use crate::numbers::kind;
 use crate::walked::Walked;
+use cs_schema::limits::TEXT_BYTES;
 use cs_schema::{Catalog, Cells};
 use std::alloc::{AllocError, Global};
 
-/// The total number of rows of the parts.
+/// The total number of rows of the parts, if that fits 64 bits.
 pub fn rows_in(pieces: &[Walked]) -> usize
-    ensures { All IsWide pieces.now }
+    ensures wide { All IsWide pieces.now }
+    ensures few { result ≤ length (flat_map (λ piece. piece.rows) pieces.now) }
 {
     let mut rows: usize = 0;
     for piece in pieces {
@@ -22,16 +24,17 @@ pub fn rows_in(pieces: &[Walked]) -> usize
     rows
 }
 
-/// The total number of bytes of the parts' texts in a column.
+/// The total number of bytes of the parts' texts in a column. A text has at most 255.
 pub(crate) fn text_size(catalog: &Catalog, pieces: &[Walked], c: usize) -> usize
     requires column { c < length catalog.now.columns }
     requires kinds { All (λ piece. piece.kinds ≡ map (λ c. c.kind) catalog.now.columns) pieces.now }
+    ensures { result ≤ 255 * length (flat_map (λ piece. piece.rows) pieces.now) }
 {
     let mut size: usize = 0;
     for piece in pieces {
         size = size.saturating_add(piece.column(c).text_size());
     }
-    size
+    size.min(rows_in(pieces).saturating_mul(TEXT_BYTES))
 }
 
 /// The cells of the parts in a column, one part after the other.

@@ -1,12 +1,14 @@
 //! The walk by rows from one row, level by level.
-ghost use Rattle.std.specs.Prelude.{◌≡◌, ◌<◌, ◌≤◌, ◌==◌, ◌||◌, ◌++◌, ◌↔◌, [], ℕ, length, true, not, All, Some, None, IfOk, OnOk, IfSome, IsTrue, if◌then◌else◌};
+ghost use Rattle.std.specs.Prelude.{◌≡◌, ◌<◌, ◌≤◌, ◌==◌, ◌||◌, ◌++◌, ◌↔◌, [], length, true, not, All, Some, None, IfOk, OnOk, IfSome, if◌then◌else◌};
+ghost use Rattle.std.specs.Prelude.{IsTrue};
 ghost use Rattle.std.specs.List.{list_any, find, filter_map};
 ghost use Rattle.std.specs.Option.{option_map};
 ghost use Rattle.cs_schema.specs.Lists.{member};
 ghost use Rattle.cs_schema.specs.CatalogData.{segments, has_join};
 ghost use Rattle.cs_delta.specs.Image.{position_of_key};
 ghost use Rattle.cs_rows.specs.Walk.{entry_of};
-ghost use Rattle.cs_rows.specs.WalkByRows.{numbers_of, landing, looked_at, is_stray_landing, row_landing, lost_landing, level, with_level, found_from};
+ghost use Rattle.cs_rows.specs.WalkByRows.{numbers_of, landing, looked_at, level, with_level, found_from};
+ghost use Rattle.cs_rows.specs.WalkByRows.{is_stray_landing, row_landing, lost_landing};
 ghost use Rattle.cs_rows.specs.Survivors.{contents_of};
 ghost use Rattle.cs_rows.specs.RowSteps.{landing_of, landing_at, landings_of, started, Stands, LandsWell, AllLandWell, AllStand};
 
@@ -89,7 +91,8 @@ fn position(survivors: &Survivors<'_>, q: u16, segment: u16, key: u32) -> Option
 fn land(walk: &RowWalk<'_>, from: (u16, (u16, u32)), q: u16) -> Landed
     requires from { Stands walk.now.survivors.now.catalog (contents_of walk.now.survivors.now) from }
     requires projection { q < length walk.now.survivors.now.catalog.projections }
-    ensures leads { landing_of result ≡ landing walk.now.survivors.now.catalog walk.now.loss (contents_of walk.now.survivors.now) q (entry_of (contents_of walk.now.survivors.now) from.0 q from.1) }
+    ensures leads { landing_of result ≡ landing walk.now.survivors.now.catalog walk.now.loss
+        (contents_of walk.now.survivors.now) q (entry_of (contents_of walk.now.survivors.now) from.0 q from.1) }
     ensures there { LandsWell walk.now.survivors.now.catalog (contents_of walk.now.survivors.now) q result }
 {
     match entry(walk.survivors, from, q) {
@@ -148,7 +151,8 @@ fn enter_all(
 ) -> Result<bool, AllocError>
     ensures grows { length reached.old.items ≤ length reached.new.items }
     ensures sound { IfOk result (λ sound. sound ≡ not (list_any is_stray_landing (landings_of landings.now))) }
-    ensures reached { IfOk result (λ sound. sound ≡ true → reached.new.items ≡ reached.old.items ++ filter_map row_landing (landings_of landings.now)) }
+    ensures reached { IfOk result (λ sound. sound ≡ true → reached.new.items
+        ≡ reached.old.items ++ filter_map row_landing (landings_of landings.now)) }
     ensures marked { IfOk result (λ sound. sound ≡ true → marked.new.items ≡ marked.old.items ++ filter_map lost_landing (landings_of landings.now)) }
 {
     for (q, landed) in landings {
@@ -214,7 +218,8 @@ impl Finding {
     fn look(&self, walk: &RowWalk<'_>, q: u16) -> Option<Landed>
         requires stand { AllStand walk.now.survivors.now.catalog (contents_of walk.now.survivors.now) self.now }
         requires projection { q < length walk.now.survivors.now.catalog.projections }
-        ensures looked { option_map (landing_at q) result ≡ looked_at walk.now.survivors.now.catalog walk.now.loss (contents_of walk.now.survivors.now) self.now q }
+        ensures looked { option_map (landing_at q) result ≡ looked_at walk.now.survivors.now.catalog
+            walk.now.loss (contents_of walk.now.survivors.now) self.now q }
         ensures there { IfSome result (LandsWell walk.now.survivors.now.catalog (contents_of walk.now.survivors.now) q) }
     {
         if self.is_seen(q) {
@@ -233,7 +238,8 @@ impl Finding {
         landings: &mut Vec<(u16, Landed)>,
     ) -> Result<(), AllocError>
         requires stand { AllStand walk.now.survivors.now.catalog (contents_of walk.now.survivors.now) self.now }
-        ensures level { OnOk result (landings_of landings.new.items ≡ level walk.now.survivors.now.catalog walk.now.loss (contents_of walk.now.survivors.now) self.now) }
+        ensures level { OnOk result (landings_of landings.new.items
+            ≡ level walk.now.survivors.now.catalog walk.now.loss (contents_of walk.now.survivors.now) self.now) }
         ensures there { OnOk result (AllLandWell walk.now.survivors.now.catalog (contents_of walk.now.survivors.now) landings.new.items) }
     {
         landings.clear();
@@ -267,7 +273,8 @@ pub(crate) fn walk_from(
     landings: &mut Vec<(u16, Landed)>,
 ) -> Result<bool, AllocError>
     requires row { Stands walk.now.survivors.now.catalog (contents_of walk.now.survivors.now) row }
-    ensures found { IfOk result (λ sound. found_from walk.now.survivors.now.catalog walk.now.loss (contents_of walk.now.survivors.now) row.0 row.1 ≡ (if sound then Some finding.new else None)) }
+    ensures found { IfOk result (λ sound. found_from walk.now.survivors.now.catalog walk.now.loss
+        (contents_of walk.now.survivors.now) row.0 row.1 ≡ (if sound then Some finding.new else None)) }
     ensures stand { IfOk result (λ sound. sound ≡ true → AllStand walk.now.survivors.now.catalog (contents_of walk.now.survivors.now) finding.new) }
 {
     finding.start(row)?;

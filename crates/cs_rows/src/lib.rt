@@ -10,8 +10,10 @@
 mod block;
 pub mod by_rows;
 mod catalog_of;
+mod columns;
 pub mod counts;
 mod desk;
+mod fault;
 pub mod joining;
 pub mod laws;
 pub mod lent;

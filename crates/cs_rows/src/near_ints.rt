@@ -1,7 +1,7 @@
 //! Finding repeated int keys that lie close together.
 //!
 //! Each int from the least to the greatest has a mark, so rows are read once and nothing is sorted.
-ghost use Rattle.std.specs.Prelude.{◌≡◌, ◌≤◌, All, IfSome, OnOk, map, length};
+ghost use Rattle.std.specs.Prelude.{◌≡◌, ◌≤◌, ◌*◌, All, IfSome, OnOk, map, length};
 ghost use Rattle.cs_schema.specs.declared.cells.Value.{Value};
 ghost use Rattle.cs_rows.specs.Repeats.{AreRepeats, IsNear};
 
@@ -13,7 +13,8 @@ const MARKS: u64 = 8;
 
 /// The least int, and the number of ints from it to the greatest, if that is small for the number of rows.
 pub(crate) fn near_ints(ints: &[i64]) -> Option<(i64, usize)>
-    ensures { IfSome result (λ near. All (IsNear near.0 near.1) ints.now) }
+    ensures near { IfSome result (λ near. All (IsNear near.0 near.1) ints.now) }
+    ensures few { IfSome result (λ near. near.1 ≤ 8 * length ints.now) }
 {
     let mut least = i64::MAX;
     let mut most = i64::MIN;

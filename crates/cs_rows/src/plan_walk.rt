@@ -8,8 +8,7 @@ ghost use Rattle.cs_rows.specs.Range.{IsPlanOf};
 ghost use Rattle.cs_rows.specs.Routes.{IsRoute};
 
 use crate::catalog_of;
-use crate::numbers::{column_count, columns_of, source};
-use crate::range::place_in;
+use crate::numbers::{place_in, source};
 use crate::route::find_route;
 use crate::survivors::Survivors;
 use cs_safety::Plan;
@@ -39,9 +38,9 @@ fn find_reads(
     ensures { IfOk result (λ reads. AreReads catalog.now plan.now reads.items) }
 {
     let mut reads: Vec<(usize, usize)> = Vec::new(alloc);
-    for c in 0..column_count(catalog) {
-        let q = source(plan, c) as usize;
-        reads.push((q, place_in(columns_of(catalog, q), c)))?;
+    for c in 0..catalog.column_count() {
+        let q = source(plan, c);
+        reads.push((q as usize, place_in(catalog.columns_of(q), c)))?;
     }
     Ok(reads)
 }

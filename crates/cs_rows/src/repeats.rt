@@ -32,7 +32,9 @@ struct KeyedRow<'a> {
 impl PartialEq for KeyedRow<'_> {
     ghost eq = { eq_by_cmp (then_cmp (on (λ it. cell (values it.keys.now) it.row) value_cmp) (on (λ it. it.row) nat_cmp)) };
 
-    ghost laws = { partial_equiv_from_equiv (eq_by_cmp_equiv (then_total (on_total (λ it. cell (values it.keys.now) it.row) value_cmp_total) (on_total (λ it. it.row) nat_cmp_total))) };
+    ghost laws = { partial_equiv_from_equiv (eq_by_cmp_equiv
+        (then_total (on_total (λ it. cell (values it.keys.now) it.row) value_cmp_total)
+        (on_total (λ it. it.row) nat_cmp_total))) };
 
     fn eq(&self, other: &Self) -> bool {
         self.cmp(other).is_eq()
@@ -40,13 +42,17 @@ impl PartialEq for KeyedRow<'_> {
 }
 
 impl Eq for KeyedRow<'_> {
-    ghost laws = { eq_by_cmp_equiv (then_total (on_total (λ it. cell (values it.keys.now) it.row) value_cmp_total) (on_total (λ it. it.row) nat_cmp_total)) };
+    ghost laws = { eq_by_cmp_equiv
+        (then_total (on_total (λ it. cell (values it.keys.now) it.row) value_cmp_total)
+        (on_total (λ it. it.row) nat_cmp_total)) };
 }
 
 impl PartialOrd for KeyedRow<'_> {
     ghost partial_cmp = { as_partial_cmp (then_cmp (on (λ it. cell (values it.keys.now) it.row) value_cmp) (on (λ it. it.row) nat_cmp)) };
 
-    ghost laws = { partial_order_from_total (then_total (on_total (λ it. cell (values it.keys.now) it.row) value_cmp_total) (on_total (λ it. it.row) nat_cmp_total)) };
+    ghost laws = { partial_order_from_total
+        (then_total (on_total (λ it. cell (values it.keys.now) it.row) value_cmp_total)
+        (on_total (λ it. it.row) nat_cmp_total)) };
 
     fn partial_cmp(&self, other: &Self) -> Option<Ordering> {
         Some(self.cmp(other))

@@ -8,9 +8,8 @@ ghost use Rattle.cs_rows.specs.WalkByRows.{numbers_of};
 ghost use Rattle.cs_rows.specs.RowSteps.{IsSource, AreSources, IsReading, have_all};
 ghost use Rattle.cs_rows.specs.OwnRows.{is_found_before};
 
-use crate::catalog_of::{columns_of, key_column};
-use crate::own_rows::has_all_columns;
-use crate::range::place_in;
+use crate::catalog_of::{columns_of, has_all_columns, key_column};
+use crate::numbers::place_in;
 use crate::survivors::Survivors;
 use std::alloc::{AllocError, Global};
 
@@ -32,10 +31,11 @@ pub(crate) struct Reading {
 /// Where a column is read, if one of the projections has it: the first that does.
 fn first_source(survivors: &Survivors<'_>, projections: &[u16], c: usize) -> Option<Source>
     requires { All (λ p. p < length survivors.now.catalog.projections) projections.now }
-    ensures { MatchOption result (find (λ p. holds_column survivors.now.catalog p c) projections.now ≡ None) (IsSource survivors.now.catalog projections.now c) }
+    ensures { MatchOption result (find (λ p. holds_column survivors.now.catalog p c) projections.now ≡ None)
+        (IsSource survivors.now.catalog projections.now c) }
 {
     for at in 0..projections.len() {
-        let columns = columns_of(survivors, projections[at] as usize);
+        let columns = columns_of(survivors, projections[at]);
         let place = place_in(columns, c);
         if place < columns.len() {
             return Some(Source { reached: at, place });

@@ -1,12 +1,11 @@
 //! The surviving segments of a store that have been read.
-ghost use Rattle.std.specs.Prelude.{◌≡◌, ◌<◌, ◌+◌, ℕ, length, replicate, slice_index_or, IfOk, IfSome, None, Some, List, [], slice_set, MatchOption, map};
+ghost use Rattle.std.specs.Prelude.{◌≡◌, ◌<◌, length, replicate, slice_index_or, IfOk, IfSome, None, Some, List, [], slice_set, MatchOption};
 ghost use Rattle.cs_delta.specs.KindedImage.{KindedImage};
 ghost use Rattle.cs_jix.specs.JoinIndex.{Place};
 ghost use Rattle.cs_schema.specs.CatalogData.{segments};
 ghost use Rattle.cs_segment.specs.SegmentData.{kinds_at};
-ghost use Rattle.cs_rows.specs.Survivors.{images_of, joins_of, image_at, join_at, no_survivors, no_images, no_joins, with_image, with_join, AreSurvivors, HasRoom};
+ghost use Rattle.cs_rows.specs.Survivors.{images_of, image_at, join_at, no_survivors, with_image, with_join, AreSurvivors, HasRoom};
 
-use crate::numbers::{projection_count, segments};
 use cs_delta::image::Image;
 use cs_jix::JoinIndex;
 use cs_schema::Catalog;
@@ -158,13 +157,13 @@ impl<'a> Survivors<'a> {
     pub fn new(alloc: Global, catalog: &'a Catalog) -> Result<Self, AllocError>
         ensures { IfOk result (λ s. s ≡ no_survivors catalog.now) }
     {
-        let count = projection_count(catalog);
+        let count = catalog.projection_count();
         let mut images: Vec<ProjectionImages> = Vec::new(alloc);
         let mut joins: Vec<ProjectionJoins> = Vec::new(alloc);
         for p in 0..count {
-            let segments = segments(catalog, p);
+            let segments = catalog.segments(p) as usize;
             images.push(ProjectionImages::new(alloc, segments)?)?;
-            joins.push(ProjectionJoins::new(alloc, segments, count)?)?;
+            joins.push(ProjectionJoins::new(alloc, segments, count as usize)?)?;
         }
         Ok(Survivors {
             catalog,

@@ -2,11 +2,9 @@
 ghost use Rattle.std.specs.Prelude.{◌≡◌, ◌<◌, ◌++◌, ℕ, length, map, slice_get, slice_index_or, Some, [], IfOk, OnOk, OnErr, take};
 ghost use Rattle.cs_schema.specs.Values.{values, kind_of};
 ghost use Rattle.cs_schema.specs.Rows.{cell};
-ghost use Rattle.cs_rows.specs.WalkByRows.{without_repeats};
 ghost use Rattle.cs_rows.specs.WalkedView.{walked_data, AreColumns, IsWide};
 
-use crate::once::first_rows;
-use crate::range::new_columns;
+use crate::columns::new_columns;
 use cs_schema::{Catalog, Cells, Value};
 use std::alloc::{AllocError, Global};
 use std::marker::Model;
@@ -14,8 +12,11 @@ use std::marker::Model;
 /// Keeps only the first `rows` cells of each column.
 fn truncate_columns(columns: &mut Vec<Cells>, rows: usize)
     ensures count { length columns.new.items ≡ length columns.old.items }
-    ensures kinds { (c : ℕ) (d : Cells) → c < length columns.old.items → kind_of (slice_index_or columns.new.items c d) ≡ kind_of (slice_index_or columns.old.items c d) }
-    ensures cells { (c : ℕ) (d : Cells) → c < length columns.old.items → values (slice_index_or columns.new.items c d) ≡ take rows (values (slice_index_or columns.old.items c d)) }
+    ensures kinds { (c : ℕ) (d : Cells) → c < length columns.old.items
+        → kind_of (slice_index_or columns.new.items c d) ≡ kind_of (slice_index_or columns.old.items c d) }
+    ensures cells { (c : ℕ) (d : Cells) → c < length columns.old.items
+        → values (slice_index_or columns.new.items c d)
+        ≡ take rows (values (slice_index_or columns.old.items c d)) }
 {
     for c in 0..columns.len() {
         columns[c].truncate(rows);
@@ -30,12 +31,17 @@ fn append_columns(
     others: Vec<Cells>,
 ) -> Result<(), AllocError>
     requires count { length others.items ≡ length columns.old.items }
-    requires same_kinds { (c : ℕ) (d : Cells) → c < length columns.old.items → kind_of (slice_index_or columns.old.items c d) ≡ kind_of (slice_index_or others.items c d) }
+    requires same_kinds { (c : ℕ) (d : Cells) → c < length columns.old.items
+        → kind_of (slice_index_or columns.old.items c d) ≡ kind_of (slice_index_or others.items c d) }
     requires long { (c : ℕ) (d : Cells) → c < length columns.old.items → length (values (slice_index_or columns.old.items c d)) ≡ rows }
     ensures count { length columns.new.items ≡ length columns.old.items }
-    ensures kinds { (c : ℕ) (d : Cells) → c < length columns.old.items → kind_of (slice_index_or columns.new.items c d) ≡ kind_of (slice_index_or columns.old.items c d) }
-    ensures ok { OnOk result ((c : ℕ) (d : Cells) → c < length columns.old.items → values (slice_index_or columns.new.items c d) ≡ values (slice_index_or columns.old.items c d) ++ values (slice_index_or others.items c d)) }
-    ensures err { OnErr result ((c : ℕ) (d : Cells) → c < length columns.old.items → values (slice_index_or columns.new.items c d) ≡ values (slice_index_or columns.old.items c d)) }
+    ensures kinds { (c : ℕ) (d : Cells) → c < length columns.old.items
+        → kind_of (slice_index_or columns.new.items c d) ≡ kind_of (slice_index_or columns.old.items c d) }
+    ensures ok { OnOk result ((c : ℕ) (d : Cells) → c < length columns.old.items
+        → values (slice_index_or columns.new.items c d)
+        ≡ values (slice_index_or columns.old.items c d) ++ values (slice_index_or others.items c d)) }
+    ensures err { OnErr result ((c : ℕ) (d : Cells) → c < length columns.old.items
+        → values (slice_index_or columns.new.items c d) ≡ values (slice_index_or columns.old.items c d)) }
 {
     let mut others = others;
     while let Some(cells) = others.pop() {
@@ -93,6 +99,11 @@ impl Walked {
         &self.columns
     }
 
+    /// The allocator of the columns.
+    pub(crate) fn allocator(&self) -> Global {
+        *self.columns.allocator()
+    }
+
     /// No rows, with the columns of a catalog.
     pub fn none(alloc: Global, catalog: &Catalog) -> Result<Self, AllocError>
         ensures kinds { IfOk result (λ walked. walked.kinds ≡ map (λ c. c.kind) catalog.now.columns) }
@@ -141,21 +152,6 @@ impl Walked {
             Ok(()) => {}
             Err(fault) => return Err(fault),
         }
-        Ok(())
-    }
-    /// Removes each row whose primary key occurs in an earlier row, in O(n log n) steps. If memory is refused, nothing
-    /// changes.
-    ///
-    /// Runs in this thread; `join_once` gives the same rows of several walks with threads.
-    pub fn once(&mut self, catalog: &Catalog) -> Result<(), AllocError>
-        requires { self.old.kinds ≡ map (λ c. c.kind) catalog.now.columns }
-        ensures kinds { self.new.kinds ≡ self.old.kinds }
-        ensures ok { OnOk result (self.new.rows ≡ without_repeats catalog.now self.old.rows) }
-        ensures err { OnErr result (self.new ≡ self.old) }
-    {
-        let alloc = *self.columns.allocator();
-        let left = first_rows(alloc, catalog, self)?;
-        *self = left;
         Ok(())
     }
 }
