@@ -6,8 +6,8 @@ use Rattle.cs_restore.proofs.Compared.{others_there}
 use Rattle.cs_restore.proofs.Found.{same_survivors}
 use Rattle.cs_restore.proofs.planning.plan_restore.Goals as goal
 
-pub returns-in-Ok-compare : goal.returns-in-Ok-compare
-returns-in-Ok-compare g c d read =
+pub returns-in-Ok-compare-clause-plan : goal.returns-in-Ok-compare-clause-plan
+returns-in-Ok-compare-clause-plan g c d read =
     let C = c.args.catalog.now in
     let readable : AreSurvivorsRead C c.args.loss c.args.read.now.unreadable.items = subst (AreSurvivorsRead C c.args.loss) c.as_slice.ensures.value (rw c.in-Ok-None.field-0-is at c.in-Ok-None.ensures) in
     record {
