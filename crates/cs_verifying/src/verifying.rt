@@ -7,6 +7,7 @@ use crate::digests::digest_store;
 use crate::reading::manifest_at;
 use crate::verified::Verified;
 use cs_manifest::compare;
+use cs_schema::Loss;
 use pinepolo_places::{Places, Tables, VerbError};
 use std::alloc::Global;
 
@@ -24,7 +25,7 @@ pub fn verify<P: Places + Tables>(
         Ok(manifest) => manifest,
         Err(error) => return Err(error),
     };
-    let found = match digest_store(alloc, places, path) {
+    let found = match digest_store(alloc, places, path, Loss::none()) {
         Ok(found) => found,
         Err(error) => return Err(error),
     };

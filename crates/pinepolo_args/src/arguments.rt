@@ -84,6 +84,13 @@ pub const ARGUMENTS: &[Argument] = &[
         verbs: &["verify"],
     },
     Argument {
+        id: "site",
+        form: Form::Named("N", Value::Number(1, 16)),
+        presence: Presence::Optional,
+        help: "List the files of this site alone, 1 to 16",
+        verbs: &["manifest"],
+    },
+    Argument {
         id: "sites",
         form: Form::Named("FILE", Value::Text),
         presence: Presence::Optional,

@@ -165,7 +165,9 @@ fn perform<R: Threads + Sync, G: Progress + Sync, P: World>(
         }
         Verb::Restore(args) => restore_found(run, places, args).map(Answer::RestoredFound),
         Verb::Undo(args) => undo(run.alloc, places, args).map(Answer::Undone),
-        Verb::Manifest(args) => list(run.alloc, places, args.store).map(Answer::Listed),
+        Verb::Manifest(args) => {
+            list(run.alloc, places, args.store, args.site).map(Answer::Listed)
+        },
         Verb::Verify(args) => {
             verify(run.alloc, places, args.store, args.manifest).map(Answer::Verified)
         }
