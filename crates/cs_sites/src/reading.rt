@@ -1,5 +1,5 @@
 //! Reading a SITES file.
-ghost use Rattle.std.specs.Prelude.{◌≡◌, ◌==◌, Some, IfOk, IfErr, map, option_map};
+ghost use Rattle.std.specs.Prelude.{◌≡◌, ◌==◌, ◌≤◌, Some, IfOk, IfErr, length, map, option_map};
 ghost use Rattle.std.specs.List.{IsDistinct};
 ghost use Rattle.toml.specs.View.{view, table_view};
 ghost use Rattle.cs_sites.specs.Reading.{array_at, entries_of, IsBadTree, IsSitesOf, IsRefusalOf};
@@ -41,6 +41,7 @@ fn tree_sites(alloc: Global, table: &Table) -> Result<Vec<SiteFolder>, SitesFaul
 pub fn read_sites(alloc: Global, bytes: &[u8]) -> Result<Vec<SiteFolder>, SitesFault>
     ensures read { IfOk result (λ v. IsSitesOf bytes.now v.items) }
     ensures distinct { IfOk result (λ v. IsDistinct ◌==◌ (map (λ e. e.number) v.items)) }
+    ensures short { IfOk result (λ _. length bytes.now ≤ 65536) }
     ensures refused { IfErr result (IsRefusalOf bytes.now) }
 {
     if bytes.len() > SITES_LIMIT {
