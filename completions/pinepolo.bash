@@ -2,20 +2,22 @@
 _pinepolo() {
     local word=${COMP_WORDS[COMP_CWORD]} words=
     if [ "$COMP_CWORD" -eq 1 ]; then
-        mapfile -t COMPREPLY < <(compgen -W "check show diagnose recover restore undo manifest verify design load dump relayout" -- "$word")
+        mapfile -t COMPREPLY < <(compgen -W "check show diagnose drill recover restore undo manifest verify design load dump relayout" -- "$word")
         return
     fi
     case ${COMP_WORDS[1]} in
-    check) words="--k --workers --quiet --json" ;;
-    show) words="--quiet --json" ;;
-    diagnose) words="--at-most --disputes --manifest --workers --quiet --json" ;;
-    recover) words="--workers --quiet --json" ;;
+    check) words="--k --sites --workers --quiet --json" ;;
+    show) words="--sites --quiet --json --svg" ;;
+    diagnose) words="--at-most --disputes --manifest --sites --workers --quiet --json" ;;
+    drill) words="--lose --sites --workers --quiet --json" ;;
+    recover) words="--sites --workers --quiet --json" ;;
     restore) words="--dry-run --accept-loss --resume --workers --quiet --json" ;;
     undo) words="--resume --quiet --json" ;;
-    verify) words="--manifest --json" ;;
-    design) words="--lost --json --svg" ;;
+    manifest) words="--sites" ;;
+    verify) words="--manifest --sites --json" ;;
+    design) words="--lost --sites --json --svg" ;;
     load) words="--workers --quiet --json --replace-partial" ;;
-    dump) words="--lost --workers --quiet" ;;
+    dump) words="--lost --sites --workers --quiet" ;;
     relayout) words="--lost --workers --quiet --json --replace-partial" ;;
     esac
     mapfile -t COMPREPLY < <(compgen -W "$words" -- "$word"; compgen -f -- "$word")

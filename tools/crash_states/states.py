@@ -1,6 +1,6 @@
 """The states of a folder that a crash may leave, by what a file system promises.
 
-A synced file has its data, and a synced folder its names. Of what was done since then
+A synced file has its data and its mode, and a synced folder its names. A mode that was not synced is gone. Of what was done since then
 - `journal` leaves the changes of names in their order, of all folders together, and of each file the data that was
   written up to some moment; a sync brings all earlier changes of names to the disk, as a journal of metadata does;
 - `ordered` leaves the changes of each folder in their order, whatever became of other folders and of files;
@@ -54,6 +54,17 @@ def pending_writes(log, count):
     return pending, gone
 
 
+def modes_of(log, count):
+    """The mode of each file that was synced since it was given."""
+    given, modes = {}, {}
+    for op in log.ops[:count]:
+        if op.kind == "mode":
+            given[op.node] = op.at
+        elif op.kind == "sync" and op.node in given:
+            modes[op.node] = given.pop(op.node)
+    return modes
+
+
 def without_gaps(log, pending, kept):
     """Of these changes those that are left if each folder keeps its own in their order."""
     cut = set()
@@ -90,7 +101,7 @@ def chosen(log, count, model, random):
 
 
 def left(log, count, model, choice):
-    """The names of each folder and the data of each file that are left."""
+    """The names of each folder, and the data and the mode of each file that are left."""
     pending, (writes, gone) = set(pending_names(log, count, model)), pending_writes(log, count)
     last = {node: ats[choice.writes[node] - 1] for node, ats in writes.items() if choice.writes[node] > 0}
     dropped = gone | {at for node, ats in writes.items() for at in ats[choice.writes[node]:]}
@@ -110,7 +121,7 @@ def left(log, count, model, choice):
             if op.node in choice.zeros and op.node in writes and at in writes[op.node]:
                 part = bytes(len(part))
             change_data(data[op.node], op, part)
-    return names, data
+    return names, data, modes_of(log, count)
 
 
 def change_data(data, op, part):
@@ -125,16 +136,16 @@ def change_data(data, op, part):
 
 def key_of(log, state, at=0):
     """What tells a state from others."""
-    names, data = state
+    names, data, modes = state
     node = log.nodes[at]
     if node.kind == "folder":
         return tuple((name, key_of(log, state, names[at][name])) for name in sorted(names[at]))
-    return node.kind, at, bytes(data[at])
+    return node.kind, at, bytes(data[at]), modes.get(at)
 
 
 def write_state(log, state, path):
     """Makes the state at a path."""
-    names, data = state
+    names, data, modes = state
     made = {}
 
     def make(at, path):
@@ -152,6 +163,7 @@ def write_state(log, state, path):
         else:
             with open(path, "wb") as file:
                 file.write(data[at])
+            os.chmod(path, modes.get(at, node.mode))
         if node.kind != "folder":
             made.setdefault(at, path)
 

@@ -9,7 +9,7 @@ from dataclasses import dataclass, field
 
 # Calls that change files, and those by which it is known on which file they are done.
 CHANGES = ("openat", "write", "pwrite64", "ftruncate", "link", "linkat", "rename", "renameat", "renameat2", "unlink",
-           "unlinkat", "rmdir", "mkdir", "mkdirat", "symlink", "symlinkat", "fsync", "fdatasync", "close")
+           "unlinkat", "rmdir", "mkdir", "mkdirat", "symlink", "symlinkat", "chmod", "fsync", "fdatasync", "close")
 LINE = re.compile(r"^(\d+) +(\w+)\((.*)\) += (-?\d+)(.*)$")
 UNFINISHED = re.compile(r"^(\d+) +(.*) <unfinished \.\.\.>$")
 RESUMED = re.compile(r"^(\d+) +<\.\.\. \w+ resumed>(.*)$")
@@ -21,11 +21,12 @@ class Node:
     kind: str
     data: bytes = b""
     names: dict = field(default_factory=dict)
+    mode: int = 0o644
 
 
 @dataclass
 class Op:
-    """A change: of names (folder, name, node or None) at one blow, of the data of a node, or that a node is synced."""
+    """A change: of names (folder, name, node or None) at one blow, of the data or the mode of a node, or that a node is synced."""
     kind: str
     names: tuple = ()
     node: int = -1
@@ -65,7 +66,7 @@ class Log:
             node.kind, node.data = "link", os.readlink(path).encode()
         elif stat.S_ISREG(found.st_mode):
             with open(path, "rb") as file:
-                node.kind, node.data = "file", file.read()
+                node.kind, node.data, node.mode = "file", file.read(), stat.S_IMODE(found.st_mode)
             self.sizes[at] = len(node.data)
         return at
 
@@ -138,6 +139,8 @@ class Log:
             return
         elif call in ("unlink", "unlinkat", "rmdir"):
             self.change((*place, None))
+        elif call == "chmod":
+            self.ops.append(Op("mode", node=self.node(paths[0]), at=int(words[1], 8)))
         else:
             node = self.names[place[0]][place[1]]
             gone = [(*place, None)] if call.startswith("rename") else []

@@ -29,6 +29,10 @@ def files_of(store):
     return {name: thing(f"{store}/{name}") for name in sorted(os.listdir(store)) if name[0] == "p" and name[1].isdigit() and not name.endswith(".restoring")}
 
 
+def mode_of(path):
+    return stat.S_IMODE(os.lstat(path).st_mode)
+
+
 def digest_of(found):
     """The size and the digest of a file as the journal has them."""
     return {"bytes": len(found), "sha256": hashlib.sha256(found).hexdigest()} if isinstance(found, bytes) else None
@@ -51,6 +55,10 @@ class Verb:
         done = subprocess.run([self.program, *words], stdin=subprocess.DEVNULL, capture_output=True, text=True)
         return ended(words, done.returncode, done.stdout + done.stderr)
 
+    def can_do_next(self, room, said):
+        """Whether what is to be resumed by the words of a fault is unfinished."""
+        return "--resume" not in said or os.path.lexists(f"{room}/store/RESTORING")
+
     def break_store(self, store):
         """A store of which two sites are lost: a pipe, half a file and a folder stand under lost names, and one is empty."""
         shutil.copytree(self.example, store)
@@ -58,6 +66,7 @@ class Verb:
             os.remove(f"{store}/{name}")
         os.mkfifo(f"{store}/p0.s1.seg")
         os.truncate(f"{store}/p0.s1.del", 20)
+        os.chmod(f"{store}/p0.s1.del", 0o640)
         os.mkdir(f"{store}/p1.s0.seg")
         with open(f"{store}/p1.s0.seg/inner", "w") as file:
             file.write("inner")
@@ -97,6 +106,8 @@ class InPlace(Verb):
         if files_of(store) != self.after:
             return [f"not right: {' '.join(name for name in self.changed if files_of(store).get(name) != self.after.get(name))}"]
         wrong = self.lost(store) + self.told(store)
+        # What replaces a file has its mode.
+        wrong += [] if mode_of(f"{store}/p0.s1.del") == 0o640 else ["another mode"]
         wrong += self.run("undo", store)
         if not wrong and files_of(store) != self.before:
             wrong.append("an undo gives back something else")
@@ -148,7 +159,8 @@ class IntoNew(Verb):
         return {"load": ["load", "--replace-partial", f"{given}/catalog.toml", f"{given}/table.csv", new],
                 "relayout": ["relayout", "--replace-partial", f"{given}/store", f"{given}/catalog.toml", new],
                 "recover": ["recover", "--quiet", f"{given}/store", new, "2"],
-                "dump": ["dump", f"{given}/store", new]}[self.name]
+                "dump": ["dump", f"{given}/store", new],
+                "design": ["design", "--svg", new, f"{given}/catalog.toml"]}[self.name]
 
     def has_ended(self, room):
         mark = f"{room}/new/DONE" if self.name == "recover" else f"{room}/new"
@@ -173,4 +185,4 @@ def verb_of(name, program, example):
     return (InPlace if name in ("restore", "undo") else IntoNew)(name, program, example)
 
 
-VERBS = ("restore", "undo", "load", "relayout", "recover", "dump")
+VERBS = ("restore", "undo", "load", "relayout", "recover", "dump", "design")

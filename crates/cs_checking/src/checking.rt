@@ -9,7 +9,7 @@ use cs_parallel_io::load_readable_side_by_side;
 use cs_rebuild::Run;
 use cs_schema::Loss;
 use pinepolo_args::CheckArgs;
-use pinepolo_places::{Listings, Stop, find_store};
+use pinepolo_places::{Listings, VerbError, find_store};
 use pinepolo_progress::Progress;
 use pinepolo_text::Checked;
 use std::marker::Sync;
@@ -20,7 +20,7 @@ pub fn check<R: Threads + Sync, G: Progress + Sync, P: Listings>(
     run: &Run<'_, R, G>,
     places: &mut P,
     request: &CheckArgs<'_>,
-) -> Result<Checked, Stop>
+) -> Result<Checked, VerbError>
     ensures ok { IfOk result (λ checked. ChecksStore P.reads P.opens (standing P.Store.answers) (standing P.Store.fails) P.leaves
         places.old request.now.store.now request.now.k checked places.new) }
     ensures err { OnErr result (LooksUp P.reads P.misses places.old request.now.store.now places.new) }
@@ -28,13 +28,13 @@ pub fn check<R: Threads + Sync, G: Progress + Sync, P: Listings>(
     let (rt, alloc) = (run.rt, run.alloc);
     let (catalog, source) = match find_store(alloc, places, request.store) {
         Ok(found) => found,
-        Err(stop) => return Err(stop),
+        Err(error) => return Err(error),
     };
     let Ok(found) = load_readable_side_by_side(rt, alloc, &catalog, Loss::none(), &source) else {
-        return Err(Stop::Memory);
+        return Err(VerbError::OutOfMemory);
     };
     let Ok(unfinished) = places.unfinished(request.store) else {
-        return Err(Stop::Memory);
+        return Err(VerbError::OutOfMemory);
     };
     let unreadable = found.unreadable.as_slice();
     let is_unreadable = !unreadable.is_empty();
@@ -46,6 +46,6 @@ pub fn check<R: Threads + Sync, G: Progress + Sync, P: Listings>(
             verdict,
             unfinished,
         }),
-        Err(stop) => Err(stop),
+        Err(error) => Err(error),
     }
 }

@@ -13,7 +13,7 @@ use cs_inspection::{Badness, bad_files};
 use cs_rebuild::{Run, check_gated};
 use cs_schema::{Catalog, FileName, Loss};
 use cs_store::{Fault, FileSet};
-use pinepolo_places::Stop;
+use pinepolo_places::VerbError;
 use pinepolo_progress::{Progress, Stage};
 use pinepolo_text::Verdict;
 use std::alloc::Global;
@@ -40,12 +40,12 @@ fn allowed(catalog: &Catalog, asked: Option<u8>) -> Result<u8, u8>
 }
 
 /// The verdict on a number of sites that is too high.
-fn too_high(alloc: Global, catalog: &Catalog, k: u8) -> Result<Verdict, Stop>
+fn too_high(alloc: Global, catalog: &Catalog, k: u8) -> Result<Verdict, VerbError>
     requires { HasFatal catalog.now k }
     ensures { IfOk result (λ verdict. (loss : Sites) × (verdict ≡ Fatal k loss) × IsFirstFatal catalog.now loss) }
 {
     let Ok(fatal) = fatal_losses(alloc, catalog, Loss::none()) else {
-        return Err(Stop::Memory);
+        return Err(VerbError::OutOfMemory);
     };
     match fatal.first() {
         Some(loss) => Ok(Verdict::Fatal { k, loss: *loss }),
@@ -59,13 +59,13 @@ fn look_at<R: Threads + Sync, G: Progress + Sync>(
     catalog: &Catalog,
     files: &FileSet,
     unreadable: &[FileName],
-) -> Result<Vec<(FileName, Badness)>, Stop>
+) -> Result<Vec<(FileName, Badness)>, VerbError>
     ensures { IfOk result (λ bad. AreBadFiles catalog.now (contents_of files.now) unreadable.now bad.items) }
 {
     run.gate.reached(Stage::Inspecting);
     match bad_files(run.rt, run.alloc, catalog, files, unreadable) {
         Ok(bad) => Ok(bad),
-        Err(_) => Err(Stop::Memory),
+        Err(_) => Err(VerbError::OutOfMemory),
     }
 }
 
@@ -95,7 +95,7 @@ fn judge_files<R: Threads + Sync, G: Progress + Sync>(
     files: &FileSet,
     unreadable: &[FileName],
     k: u8,
-) -> Result<(Vec<(FileName, Badness)>, Verdict), Stop>
+) -> Result<(Vec<(FileName, Badness)>, Verdict), VerbError>
     ensures { IfOk result (λ judged. (asked : Option ℕ) → IsChosen catalog.now asked k
         → IsJudged catalog.now (contents_of files.now) unreadable.now asked judged.0.items judged.1) }
 {
@@ -103,12 +103,12 @@ fn judge_files<R: Threads + Sync, G: Progress + Sync>(
     if !unreadable.is_empty() {
         return match look_at(run, catalog, files, unreadable) {
             Ok(bad) => Ok((bad, Verdict::BadFiles)),
-            Err(stop) => Err(stop),
+            Err(error) => Err(error),
         };
     }
     let fault = match rows_of(run, catalog, files) {
         Ok(rows) => return Ok((Vec::new(run.alloc), Verdict::Sound { rows, k })),
-        Err(Fault::Memory) => return Err(Stop::Memory),
+        Err(Fault::Memory) => return Err(VerbError::OutOfMemory),
         Err(fault) => fault,
     };
     match look_at(run, catalog, files, unreadable) {
@@ -119,7 +119,7 @@ fn judge_files<R: Threads + Sync, G: Progress + Sync>(
                 Ok((bad, Verdict::BadFiles))
             }
         }
-        Err(stop) => Err(stop),
+        Err(error) => Err(error),
     }
 }
 
@@ -130,7 +130,7 @@ pub fn judge<R: Threads + Sync, G: Progress + Sync>(
     files: &FileSet,
     unreadable: &[FileName],
     asked: Option<u8>,
-) -> Result<(Vec<(FileName, Badness)>, Verdict), Stop>
+) -> Result<(Vec<(FileName, Badness)>, Verdict), VerbError>
     ensures { IfOk result (λ judged. IsJudged catalog.now (contents_of files.now) unreadable.now asked judged.0.items judged.1) }
 {
     let k = match allowed(catalog, asked) {
@@ -139,10 +139,10 @@ pub fn judge<R: Threads + Sync, G: Progress + Sync>(
     };
     let verdict = match too_high(run.alloc, catalog, k) {
         Ok(verdict) => verdict,
-        Err(stop) => return Err(stop),
+        Err(error) => return Err(error),
     };
     match look_at(run, catalog, files, unreadable) {
         Ok(bad) => Ok((bad, verdict)),
-        Err(stop) => Err(stop),
+        Err(error) => Err(error),
     }
 }

@@ -1,3 +1,7 @@
 pub mod Calls
+pub mod Ending
+pub mod Moving
 pub mod Placing
+pub mod Recording
 pub mod Seeing
+pub mod System

@@ -1,6 +1,6 @@
 -- Files and folders that are put in place.
 use Rattle.std.specs.Prelude.{◌≡◌, ℕ, List, ◌∷◌}
-use Rattle.cs_file_system.specs.Calls.{Calls, IsSettled, IsSynced, finish, rename, sync, sync_folder, write}
+use Rattle.cs_file_system.specs.Calls.{Calls, IsSettled, IsSynced, create, finish, rename, sync, sync_folder, write}
 
 -- the last call gave the new file at this path another name, once its bytes were on the disk
 pub record IsPut (beside path : List ℕ) (calls : Calls) : Type 0 where
@@ -14,10 +14,10 @@ pub record IsFolderPut (beside path parent : List ℕ) (calls : Calls) : Type 0 
   pub last : calls ≡ sync_folder parent ∷ rename beside path ∷ before
   pub settled : IsSettled beside before
 
--- a mark was written into a folder, once the names in that were on the disk, and then its bytes and all names were brought there
+-- a mark was made in a folder, once the names in that were on the disk, and then its bytes and all names were brought there
 pub record IsMarked (folder parent path : List ℕ) (calls : Calls) : Type 0 where
   pub before : Calls
-  pub last : calls ≡ sync_folder parent ∷ sync_folder folder ∷ sync path ∷ write path ∷ before
+  pub last : calls ≡ sync_folder parent ∷ sync_folder folder ∷ sync path ∷ write path ∷ create path ∷ before
   pub settled : IsSettled folder before
 
 -- the last call removed a mark, once the names in its folder were on the disk

@@ -1,6 +1,6 @@
 //! The calls of a file system.
 ghost use Rattle.std.specs.Prelude.{◌≡◌, ℕ, List, IfOk, OnOk, OnErr};
-ghost use Rattle.cs_file_system.specs.Calls.{Adds, Always, Calls, IsNoMore, IsSettled, IsSynced, MayAdd, finish, keep, remove, rename, sync, sync_folder, write};
+ghost use Rattle.cs_file_system.specs.Calls.{Adds, Always, Calls, IsNoMore, IsSettled, IsSynced, MayAdd, MayBeReplaced, create, finish, keep, link, remove, rename, sync, sync_folder, write};
 ghost use Rattle.cs_file_system.specs.Seeing.{IsSeen};
 
 use crate::standing::Standing;
@@ -8,14 +8,14 @@ use std::io;
 
 /// A file system whose calls are remembered. A path is the bytes of its text.
 pub trait FileSystem {
-    /// A new file that is open.
+    /// A file that is open to be written at its end.
     type File: Drop;
 
     /// The calls that were made so far, the last one first. The file system of the system, of which no contract is told, makes
     /// no claim (no such calls).
     ghost made: { Self → Calls → Type 0 };
 
-    /// An open file is the one that was made at this path.
+    /// An open file is the one that was made or opened at this path.
     ghost is_at: { Self.File → List ℕ → Type 0 };
 
     /// What stands at a path.
@@ -23,16 +23,36 @@ pub trait FileSystem {
         ensures ok { IfOk result (λ found. IsSeen found path.now (made self.old) (made self.new)) }
         ensures err { OnErr result (IsNoMore (made self.old) (made self.new)) };
 
-    /// Makes a new file of these bytes. Until a sync they may not be on the disk.
-    fn write_new(&mut self, path: &str, bytes: &[u8]) -> io::Result<Self::File>
+    /// Makes a new file, in which nothing is yet. An error of the kind `AlreadyExists` if something has the name.
+    fn create(&mut self, path: &str) -> io::Result<Self::File>
         ensures file { IfOk result (λ file. is_at file path.now) }
+        ensures ok { OnOk result (Adds (create path.now) (made self.old) (made self.new)) }
+        ensures err { OnErr result (MayAdd (create path.now) (made self.old) (made self.new)) };
+
+    /// Makes the mark that a folder is whole, a new file in which nothing is yet. The folder's names are on the disk.
+    fn create_mark(&mut self, folder: &str, path: &str) -> io::Result<Self::File>
+        requires { Always (made self.old) (IsSettled folder.now) }
+        ensures file { IfOk result (λ file. is_at file path.now) }
+        ensures ok { OnOk result (Adds (create path.now) (made self.old) (made self.new)) }
+        ensures err { OnErr result (MayAdd (create path.now) (made self.old) (made self.new)) };
+
+    /// Opens the file at a path, which is made if nothing stands there.
+    fn open_end(&mut self, path: &str) -> io::Result<Self::File>
+        ensures file { IfOk result (λ file. is_at file path.now) }
+        ensures ok { OnOk result (Adds (create path.now) (made self.old) (made self.new)) }
+        ensures err { OnErr result (MayAdd (create path.now) (made self.old) (made self.new)) };
+
+    /// Cuts a file after so many bytes. Until a sync that may not be on the disk.
+    fn cut(&mut self, path: &str, file: &mut Self::File, length: u64) -> io::Result<()>
+        requires { is_at file.old path.now }
+        ensures file { is_at file.new path.now }
         ensures ok { OnOk result (Adds (write path.now) (made self.old) (made self.new)) }
         ensures err { OnErr result (MayAdd (write path.now) (made self.old) (made self.new)) };
 
-    /// Makes the mark, of these bytes, that a folder is whole. The folder's names are on the disk.
-    fn write_mark(&mut self, folder: &str, path: &str, bytes: &[u8]) -> io::Result<Self::File>
-        requires { Always (made self.old) (IsSettled folder.now) }
-        ensures file { IfOk result (λ file. is_at file path.now) }
+    /// Writes these bytes at the end of a file. Until a sync they may not be on the disk.
+    fn write(&mut self, path: &str, file: &mut Self::File, bytes: &[u8]) -> io::Result<()>
+        requires { is_at file.old path.now }
+        ensures file { is_at file.new path.now }
         ensures ok { OnOk result (Adds (write path.now) (made self.old) (made self.new)) }
         ensures err { OnErr result (MayAdd (write path.now) (made self.old) (made self.new)) };
 
@@ -58,6 +78,13 @@ pub trait FileSystem {
         ensures ok { OnOk result (Adds (rename from.now to.now) (made self.old) (made self.new)) }
         ensures err { OnErr result (MayAdd (rename from.now to.now) (made self.old) (made self.new)) };
 
+    /// Gives a new file, whose bytes are on the disk, a second name. An error of the kind `AlreadyExists` if something has that
+    /// name.
+    fn link_new(&mut self, from: &str, to: &str) -> io::Result<()>
+        requires { Always (made self.old) (IsSynced from.now) }
+        ensures ok { OnOk result (Adds (link from.now to.now) (made self.old) (made self.new)) }
+        ensures err { OnErr result (MayAdd (link from.now to.now) (made self.old) (made self.new)) };
+
     /// Gives what stands at a path a second name, unless something has that name already.
     fn link(&mut self, from: &str, to: &str) -> io::Result<()>
         ensures ok { OnOk result (Adds (keep from.now to.now) (made self.old) (made self.new)) }
@@ -68,10 +95,23 @@ pub trait FileSystem {
         ensures ok { OnOk result (Adds (keep from.now to.now) (made self.old) (made self.new)) }
         ensures err { OnErr result (MayAdd (keep from.now to.now) (made self.old) (made self.new)) };
 
+    /// Moves what stands at a path, whatever it is, to another, in the place of what stands there. That is kept in a folder,
+    /// and the names of what is kept are on the disk.
+    fn move_over(&mut self, from: &str, to: &str, kept: &str, folder: &str) -> io::Result<()>
+        requires { Always (made self.old) (MayBeReplaced to.now kept.now folder.now) }
+        ensures ok { OnOk result (Adds (rename from.now to.now) (made self.old) (made self.new)) }
+        ensures err { OnErr result (MayAdd (rename from.now to.now) (made self.old) (made self.new)) };
+
+    /// Removes the file at a path, if there is one. It is kept in a folder, and the names of what is kept are on the disk.
+    fn remove_kept(&mut self, path: &str, kept: &str, folder: &str) -> io::Result<()>
+        requires { Always (made self.old) (MayBeReplaced path.now kept.now folder.now) }
+        ensures ok { OnOk result (Adds (remove path.now) (made self.old) (made self.new)) }
+        ensures err { OnErr result (MayAdd (remove path.now) (made self.old) (made self.new)) };
+
     /// Makes the folder, unless it is there.
     fn make_folder(&mut self, path: &str) -> io::Result<()>
-        ensures ok { OnOk result (Adds (write path.now) (made self.old) (made self.new)) }
-        ensures err { OnErr result (MayAdd (write path.now) (made self.old) (made self.new)) };
+        ensures ok { OnOk result (Adds (create path.now) (made self.old) (made self.new)) }
+        ensures err { OnErr result (MayAdd (create path.now) (made self.old) (made self.new)) };
 
     /// Removes the file, if there is one.
     fn remove(&mut self, path: &str) -> io::Result<()>
@@ -83,9 +123,25 @@ pub trait FileSystem {
         ensures ok { OnOk result (Adds (sync_folder path.now) (made self.old) (made self.new)) }
         ensures err { OnErr result (IsNoMore (made self.old) (made self.new)) };
 
+    /// Gives the mark of work on a folder, which is done, a second name, unless something has that name already. What was
+    /// written into a log about the work is on the disk, as are the folder's names.
+    fn keep_mark(&mut self, folder: &str, log: &str, mark: &str, kept: &str) -> io::Result<()>
+        requires logged { Always (made self.old) (IsSynced log.now) }
+        requires settled { Always (made self.old) (IsSettled folder.now) }
+        ensures ok { OnOk result (Adds (keep mark.now kept.now) (made self.old) (made self.new)) }
+        ensures err { OnErr result (MayAdd (keep mark.now kept.now) (made self.old) (made self.new)) };
+
     /// Removes the mark of unfinished work on a folder, if there is one. The folder's names are on the disk.
     fn finish(&mut self, folder: &str, mark: &str) -> io::Result<()>
         requires { Always (made self.old) (IsSettled folder.now) }
+        ensures ok { OnOk result (Adds (finish mark.now) (made self.old) (made self.new)) }
+        ensures err { OnErr result (MayAdd (finish mark.now) (made self.old) (made self.new)) };
+
+    /// Removes the mark of unfinished work on a folder, if there is one. The folder's names are on the disk, as are those in
+    /// the folder that keeps what the work replaced.
+    fn finish_kept(&mut self, folder: &str, kept: &str, mark: &str) -> io::Result<()>
+        requires settled { Always (made self.old) (IsSettled folder.now) }
+        requires kept_settled { Always (made self.old) (IsSettled kept.now) }
         ensures ok { OnOk result (Adds (finish mark.now) (made self.old) (made self.new)) }
         ensures err { OnErr result (MayAdd (finish mark.now) (made self.old) (made self.new)) };
 }

@@ -6,12 +6,20 @@
 #![tactic(auto)]
 
 mod calls;
+mod ending;
+mod locking;
+mod moving;
 mod owner;
 mod placing;
+mod recording;
 mod standing;
 mod system;
 
 pub use calls::FileSystem;
+pub use ending::{EndOfWork, Entry, end_recorded, end_work};
+pub use locking::TryLock;
+pub use moving::move_back;
 pub use placing::{mark, put, put_folder, put_owned, unmark, write_synced};
+pub use recording::{begin_record, rewrite_record, sweep};
 pub use standing::Standing;
 pub use system::SystemFiles;

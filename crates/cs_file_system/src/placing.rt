@@ -11,7 +11,8 @@ pub fn write_synced<F: FileSystem>(files: &mut F, path: &str, bytes: &[u8]) -> i
     ensures { OnOk result (Always (F.made files.new) (IsSynced path.now)) }
 {
     files.remove(path)?;
-    let mut file = files.write_new(path, bytes)?;
+    let mut file = files.create(path)?;
+    files.write(path, &mut file, bytes)?;
     files.sync(path, &mut file)
 }
 
@@ -36,7 +37,8 @@ pub fn put_owned<F: FileSystem>(
     ensures { OnOk result (Always (F.made files.new) (IsPut beside.now path.now)) }
 {
     files.remove(beside)?;
-    let mut file = files.write_new(beside, bytes)?;
+    let mut file = files.create(beside)?;
+    files.write(beside, &mut file, bytes)?;
     files.give_owner(folder, path, beside)?;
     files.sync(beside, &mut file)?;
     files.rename(beside, path)
@@ -67,7 +69,8 @@ pub fn mark<F: FileSystem>(
     ensures { OnOk result (Always (F.made files.new) (IsMarked folder.now parent.now path.now)) }
 {
     files.sync_folder(folder)?;
-    let mut written = files.write_mark(folder, path, bytes)?;
+    let mut written = files.create_mark(folder, path)?;
+    files.write(path, &mut written, bytes)?;
     files.sync(path, &mut written)?;
     files.sync_folder(folder)?;
     files.sync_folder(parent)

@@ -1,5 +1,6 @@
 //! The file system of the system. Each call is one of `std::fs`; that the trait says what it does is trusted.
 ghost use Rattle.std.specs.Prelude.{⊤};
+ghost use Rattle.cs_file_system.specs.System.{system_calls};
 
 use crate::calls::FileSystem;
 use crate::owner::give_owner;
@@ -29,10 +30,11 @@ fn unless_gone(done: io::Result<()>) -> io::Result<()> {
     }
 }
 
+#[tactic(auto, using(crate::specs::System::trusted))]
 impl<R: Files> FileSystem for SystemFiles<'_, R> {
     type File = R::File;
 
-    ghost made = { λ s calls. ⊥ };
+    ghost made = { λ files calls. system_calls calls };
 
     ghost is_at = { λ file path. ⊤ };
 
@@ -45,15 +47,26 @@ impl<R: Files> FileSystem for SystemFiles<'_, R> {
         }
     }
 
-    fn write_new(&mut self, path: &str, bytes: &[u8]) -> io::Result<R::File> {
+    fn create(&mut self, path: &str) -> io::Result<R::File> {
         let mut how = OpenOptions::new();
-        let mut file = how.write(true).create_new(true).open(self.0, path)?;
-        file.write_all(bytes)?;
-        Ok(file)
+        how.write(true).create_new(true).open(self.0, path)
     }
 
-    fn write_mark(&mut self, _folder: &str, path: &str, bytes: &[u8]) -> io::Result<R::File> {
-        self.write_new(path, bytes)
+    fn create_mark(&mut self, _folder: &str, path: &str) -> io::Result<R::File> {
+        self.create(path)
+    }
+
+    fn open_end(&mut self, path: &str) -> io::Result<R::File> {
+        let mut how = OpenOptions::new();
+        how.append(true).create(true).open(self.0, path)
+    }
+
+    fn cut(&mut self, _path: &str, file: &mut R::File, length: u64) -> io::Result<()> {
+        file.set_len(length)
+    }
+
+    fn write(&mut self, _path: &str, file: &mut R::File, bytes: &[u8]) -> io::Result<()> {
+        file.write_all(bytes)
     }
 
     fn give_owner(&mut self, folder: &str, path: &str, beside: &str) -> io::Result<()> {
@@ -72,12 +85,24 @@ impl<R: Files> FileSystem for SystemFiles<'_, R> {
         fs::rename(self.0, from, to)
     }
 
+    fn link_new(&mut self, from: &str, to: &str) -> io::Result<()> {
+        fs::hard_link(self.0, from, to)
+    }
+
     fn link(&mut self, from: &str, to: &str) -> io::Result<()> {
         unless_taken(fs::hard_link(self.0, from, to))
     }
 
     fn move_folder(&mut self, from: &str, to: &str) -> io::Result<()> {
         unless_taken(fs::rename(self.0, from, to))
+    }
+
+    fn move_over(&mut self, from: &str, to: &str, _kept: &str, _folder: &str) -> io::Result<()> {
+        fs::rename(self.0, from, to)
+    }
+
+    fn remove_kept(&mut self, path: &str, _kept: &str, _folder: &str) -> io::Result<()> {
+        self.remove(path)
     }
 
     fn make_folder(&mut self, path: &str) -> io::Result<()> {
@@ -92,7 +117,15 @@ impl<R: Files> FileSystem for SystemFiles<'_, R> {
         fs::open(self.0, path)?.sync_all()
     }
 
+    fn keep_mark(&mut self, _folder: &str, _log: &str, mark: &str, kept: &str) -> io::Result<()> {
+        self.link(mark, kept)
+    }
+
     fn finish(&mut self, _folder: &str, mark: &str) -> io::Result<()> {
+        unless_gone(fs::remove_file(self.0, mark))
+    }
+
+    fn finish_kept(&mut self, _folder: &str, _kept: &str, mark: &str) -> io::Result<()> {
         unless_gone(fs::remove_file(self.0, mark))
     }
 }

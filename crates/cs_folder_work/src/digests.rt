@@ -1,5 +1,4 @@
 //! The digests of files that a restore reads anyway, for the journal.
-use crate::record::Change;
 use cs_folders::FileLimits;
 use cs_schema::FileName;
 use sha2::{Digest, Sha256};
@@ -20,14 +19,6 @@ impl FileDigest {
             bytes: bytes.len() as u64,
             sha256: Sha256::digest(bytes),
         }
-    }
-}
-
-/// Whether it was noted that a name changes.
-fn is_noted(noted: Option<&BTreeMap<FileName, Change>>, name: &FileName) -> bool {
-    match noted {
-        Some(changes) => changes.contains_key(name),
-        None => false,
     }
 }
 
@@ -53,25 +44,22 @@ impl Digests {
         }
     }
 
+    /// Whether the file of this name may change.
+    pub fn has(&self, name: FileName) -> bool {
+        self.names.as_slice().binary_search(&name).is_ok()
+    }
+
     /// Notes the digest of what was read under a name, if it is one of these.
     pub fn note(&mut self, name: FileName, bytes: &[u8]) -> Result<(), AllocError> {
-        if self.names.as_slice().binary_search(&name).is_ok() {
+        if self.has(name) {
             self.now.insert(name, FileDigest::of(bytes))?;
         }
         Ok(())
     }
 
-    /// What was last read under these names is what stood there before they change; not so of names that were noted to change
-    /// before.
-    pub fn keep(
-        &mut self,
-        names: &[FileName],
-        noted: Option<&BTreeMap<FileName, Change>>,
-    ) -> Result<(), AllocError> {
+    /// What was last read under these names is what stood there before they change.
+    pub fn keep(&mut self, names: &[FileName]) -> Result<(), AllocError> {
         for name in names {
-            if is_noted(noted, name) {
-                continue;
-            }
             if let Some(digest) = self.now.remove(name) {
                 self.before.insert(*name, digest)?;
             }

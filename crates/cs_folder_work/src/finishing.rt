@@ -1,34 +1,64 @@
 //! The end of work on a store.
 use crate::digests::Digests;
-use crate::files::sync_folder;
-use crate::journal::append;
+use crate::journal::entry_of;
 use crate::replaced::kept_record;
-use crate::taking::{Taken, remove_record};
-use cs_shelf::RESTORING;
+use crate::taking::Taken;
+use cs_file_system::{EndOfWork, FileSystem, SystemFiles, end_recorded, end_work, unmark};
+use cs_shelf::{JOURNAL, RESTORING};
 use std::alloc::Global;
 use std::rt::Files;
 use std::time::Clock;
 use std::{fs, io};
 
-/// Ends work that is finished: its line joins the journal, and its record what it keeps. If the record is there already, so
-/// is the line; but a run that was stopped may not have synced the record's name.
+/// Ends work that is finished: its line joins the journal, and its record what it keeps. Whether that is on the disk.
 pub fn finish<R: Files + Clock>(
     alloc: Global,
     rt: &R,
     store: &str,
     taken: &Taken,
     digests: &Digests,
-) -> io::Result<()> {
-    if taken.record.changes.is_some() {
-        let number = taken.record.kept;
-        let kept = kept_record(alloc, store, number)?;
-        if !fs::exists(rt, kept.as_str())? {
-            append(alloc, rt, store, taken, digests)?;
-            let record = format!(in alloc; "{store}/{RESTORING}")?;
-            fs::hard_link(rt, record.as_str(), kept.as_str())?;
-        }
-        let folder = format!(in alloc; "{store}/replaced/{number}")?;
-        sync_folder(rt, folder.as_str())?;
+) -> io::Result<bool> {
+    if taken.record.changes.is_none() {
+        return remove_record(alloc, rt, store);
     }
-    remove_record(alloc, rt, store)
+    end_changes(alloc, rt, store, taken, digests)?;
+    Ok(SystemFiles(rt).sync_folder(store).is_ok())
+}
+
+/// The paths of what changes if the work of this number ends.
+fn end_of(alloc: Global, store: &str, number: u32) -> io::Result<EndOfWork> {
+    Ok(EndOfWork {
+        folder: String::from_str(alloc, store)?,
+        log: format!(in alloc; "{store}/{JOURNAL}")?,
+        mark: format!(in alloc; "{store}/{RESTORING}")?,
+        kept: format!(in alloc; "{store}/replaced/{number}")?,
+        kept_mark: kept_record(alloc, store, number)?,
+    })
+}
+
+/// Ends work that changed the store. If its record is with what it keeps already, its line is in the journal; but a run that
+/// was stopped may not have synced the record's name.
+fn end_changes<R: Files + Clock>(
+    alloc: Global,
+    rt: &R,
+    store: &str,
+    taken: &Taken,
+    digests: &Digests,
+) -> io::Result<()> {
+    let work = end_of(alloc, store, taken.record.kept)?;
+    let files = &mut SystemFiles(rt);
+    if fs::exists(rt, work.kept_mark.as_str())? {
+        return end_recorded(files, &work);
+    }
+    let entry = entry_of(alloc, rt, store, taken, digests)?;
+    end_work(files, &work, &entry)
+}
+
+/// Removes the record of the store in this folder: its work is finished, or changed nothing. Whether that is on the disk: else
+/// a crash may bring the record back.
+pub fn remove_record<R: Files>(alloc: Global, rt: &R, store: &str) -> io::Result<bool> {
+    let path = format!(in alloc; "{store}/{RESTORING}")?;
+    let files = &mut SystemFiles(rt);
+    unmark(files, store, path.as_str())?;
+    Ok(files.sync_folder(store).is_ok())
 }

@@ -1,34 +1,37 @@
 //! Giving a store's folder back.
-use crate::finishing::finish;
+use crate::finishing::{finish, remove_record};
 use crate::shelf::FolderShelf;
-use crate::taking::remove_record;
 use cs_store::StoreFault;
 use std::io::ErrorKind;
 use std::rt::Files;
 use std::time::Clock;
 
+/// How a folder was given back.
+#[derive(Clone, Copy)]
+pub struct Ended {
+    /// The number under which old files are kept, if some are.
+    pub kept: Option<u32>,
+    /// Whether it is on the disk that its record is gone: else a crash may bring the record back.
+    pub is_synced: bool,
+}
+
 impl<R: Files + Clock + Copy + Drop> FolderShelf<R> {
     /// Gives the folder back: its work is finished, or ended early. Work that ended early after the store may have changed
-    /// stays unfinished. The number under which old files are kept, if some are.
-    pub fn give_back(self, is_finished: bool) -> Result<Option<u32>, StoreFault> {
+    /// stays unfinished.
+    pub fn give_back(self, is_finished: bool) -> Result<Ended, StoreFault> {
         let kept = if self.has_kept {
             Some(self.number())
         } else {
             None
         };
-        let Some(taken) = &self.taken else {
-            return Ok(kept);
-        };
         let store = self.path.as_str();
-        let ended = if is_finished {
-            finish(self.alloc, &self.rt, store, taken, &self.digests)
-        } else if self.has_changed {
-            Ok(())
-        } else {
-            remove_record(self.alloc, &self.rt, store)
+        let ended = match &self.taken {
+            Some(taken) if is_finished => finish(self.alloc, &self.rt, store, taken, &self.digests),
+            Some(_) if !self.has_changed => remove_record(self.alloc, &self.rt, store),
+            _ => Ok(true),
         };
         match ended {
-            Ok(()) => Ok(kept),
+            Ok(is_synced) => Ok(Ended { kept, is_synced }),
             Err(e) if e.kind() == ErrorKind::OutOfMemory => Err(StoreFault::Memory),
             Err(_) => Err(StoreFault::Device),
         }

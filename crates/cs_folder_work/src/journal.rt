@@ -1,8 +1,10 @@
 //! The journal of a store: a line for each restore and undo that changed something.
 use crate::digests::{Digests, FileDigest};
-use crate::files::{io_error, read_regular, regular_size, sync_folder};
+use crate::files::{io_error, read_regular, regular_size};
 use crate::record::{Change, change_word};
+use crate::sealing::is_long_and_damaged;
 use crate::taking::Taken;
+use cs_file_system::Entry;
 use cs_folders::{FileLimits, read_bounded};
 use cs_reports::object::{Object, sites};
 use cs_schema::FileName;
@@ -10,14 +12,13 @@ use cs_shelf::{JOURNAL, Work};
 use jiff::Timestamp;
 use serde_json::Value;
 use std::alloc::Global;
-use std::fs::{OpenFile, OpenOptions};
-use std::io::{ErrorKind, Read, Seek, SeekFrom, Write};
+use std::io::{ErrorKind, Read, Seek, SeekFrom};
 use std::rt::Files;
 use std::time::Clock;
 use std::{fs, io};
 
 /// The size and the digest of the regular file at this path; null if there is none. The digest is null if the file has more
-/// than `limit` bytes. It is read only if its digest isn't known.
+/// than `limit` bytes, or is long and damaged. It is read only if its digest isn't known.
 fn file_value<R: Files>(
     alloc: Global,
     rt: &R,
@@ -32,6 +33,11 @@ fn file_value<R: Files>(
         Some(digest) if digest.bytes == size => return digest_value(alloc, size, Some(digest)),
         _ => {}
     }
+    let limit = if is_long_and_damaged(rt, path)? {
+        0
+    } else {
+        limit
+    };
     let read = read_regular(alloc, rt, path, limit)?;
     let digest = read.map(|bytes| FileDigest::of(bytes.as_slice()));
     digest_value(alloc, size, digest)
@@ -191,37 +197,41 @@ fn line_start<F: Read + Seek>(
     }
 }
 
-/// Adds the line of a restore or an undo, and brings it to the disk. If it is the last one already it is written anew: where
-/// an earlier sync of it failed, the system may have dropped it and sync nothing.
-pub fn append<R: Files + Clock>(
+/// How many bytes the journal at this path has; none if it is not there.
+fn journal_size<R: Files>(rt: &R, path: &str) -> io::Result<u64> {
+    match fs::symlink_metadata(rt, path) {
+        Ok(found) if found.is_file() => Ok(found.len()),
+        Ok(_) => Err(io::Error::from(ErrorKind::AlreadyExists)),
+        Err(e) if e.kind() == ErrorKind::NotFound => Ok(0),
+        Err(e) => Err(e),
+    }
+}
+
+/// What a restore or an undo adds to the journal. If its line is the last one already it is written anew: where an earlier sync
+/// of it failed, the system may have dropped it and sync nothing.
+pub fn entry_of<R: Files + Clock>(
     alloc: Global,
     rt: &R,
     store: &str,
     taken: &Taken,
     digests: &Digests,
-) -> io::Result<()> {
+) -> io::Result<Entry> {
     let line = line_of(alloc, rt, store, taken, digests)?;
     let path = format!(in alloc; "{store}/{JOURNAL}")?;
-    let size = match fs::symlink_metadata(rt, path.as_str()) {
-        Ok(found) if found.is_file() => found.len(),
-        Ok(_) => return Err(io::Error::from(ErrorKind::AlreadyExists)),
-        Err(e) if e.kind() == ErrorKind::NotFound => 0,
-        Err(e) => return Err(e),
-    };
-    let mut how = OpenOptions::new();
-    let mut file = how
-        .read(true)
-        .append(true)
-        .create(true)
-        .open(rt, path.as_str())?;
+    let size = journal_size(rt, path.as_str())?;
+    if size == 0 {
+        return Ok(Entry {
+            cut: None,
+            text: line,
+        });
+    }
+    let mut file = fs::open(rt, path.as_str())?;
     let start = line_start(alloc, &mut file, size, line.as_str())?;
-    if start < size {
-        file.set_len(start)?;
-    }
-    if ends_within_a_line(&mut file, start)? {
-        file.write_all(b"\n")?;
-    }
-    file.write_all(line.as_bytes())?;
-    file.sync_all()?;
-    sync_folder(rt, store)
+    let text = if ends_within_a_line(&mut file, start)? {
+        format!(in alloc; "\n{line}")?
+    } else {
+        line
+    };
+    let cut = if start < size { Some(start) } else { None };
+    Ok(Entry { cut, text })
 }

@@ -1,26 +1,13 @@
 //! Moving back what an undo can't copy.
 ghost use Rattle.std.specs.Prelude.{◌≡◌};
 
-use crate::files::remove_if_there;
 use crate::shelf::FolderShelf;
+use cs_file_system::{SystemFiles, move_back};
+use cs_folders::file_in;
 use cs_schema::FileName;
 use cs_shelf::Work;
-use std::io::ErrorKind;
+use std::io;
 use std::rt::Files;
-use std::{fs, io};
-
-/// Moves what stands at a path, whatever it is, in the place of what stands at another. Nothing changes if nothing stands
-/// there: a call that was stopped has moved it.
-fn move_over<R: Files>(rt: &R, from: &str, to: &str) -> io::Result<()> {
-    match fs::symlink_metadata(rt, from) {
-        // a folder takes no file's place
-        Ok(found) if found.is_dir() => remove_if_there(rt, to)?,
-        Ok(_) => {}
-        Err(e) if e.kind() == ErrorKind::NotFound => return Ok(()),
-        Err(e) => return Err(e),
-    }
-    fs::rename(rt, from, to)
-}
 
 impl<R: Files + Copy + Drop> FolderShelf<R> {
     /// Whether what an undo puts back under a name is moved there.
@@ -41,9 +28,17 @@ impl<R: Files + Copy + Drop> FolderShelf<R> {
         let Work::Undo(number) = taken.record.work else {
             return Ok(());
         };
-        let kept = format!(in self.alloc; "{}/replaced/{number}/{name}", self.path)?;
-        let file = self.file(name)?;
+        let folder = format!(in self.alloc; "{}/replaced/{}", self.path, taken.record.kept)?;
+        let kept = file_in(self.alloc, folder.as_str(), name)?;
+        let from = format!(in self.alloc; "{}/replaced/{number}/{name}", self.path)?;
+        let to = self.file(name)?;
         self.has_changed = true;
-        move_over(&self.rt, kept.as_str(), file.as_str())
+        move_back(
+            &mut SystemFiles(&self.rt),
+            from.as_str(),
+            to.as_str(),
+            kept.as_str(),
+            folder.as_str(),
+        )
     }
 }

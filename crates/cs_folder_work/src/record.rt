@@ -19,6 +19,8 @@ pub enum Change {
 #[derive(Drop)]
 pub struct Record {
     pub work: Work,
+    /// Whether the loss of a restore is accepted, whatever a diagnosis says.
+    pub accepts_loss: bool,
     /// The N of `replaced/N`, which keeps what is replaced, from 1.
     pub kept: u32,
     /// What becomes of each name that changes; none before the first does.
@@ -27,6 +29,9 @@ pub struct Record {
 
 /// The highest number of a site.
 const LAST_SITE: u8 = 16;
+
+/// The word behind the sites of a restore whose loss is accepted.
+const ACCEPTED: &str = " accept-loss";
 
 /// The word for what becomes of a name.
 pub fn change_word(change: Change) -> &'static str {
@@ -38,7 +43,8 @@ pub fn change_word(change: Change) -> &'static str {
 
 impl fmt::Display for Record {
     fn fmt<W: fmt::Write>(&self, f: &mut fmt::Formatter<W>) -> fmt::Result {
-        write!(f, "{} kept={}", self.work, self.kept)?;
+        let accepted = if self.accepts_loss { ACCEPTED } else { "" };
+        write!(f, "{}{accepted} kept={}", self.work, self.kept)?;
         let Some(changes) = &self.changes else {
             return writeln!(f);
         };
@@ -64,13 +70,17 @@ fn loss_of(text: &str) -> Option<Loss> {
     Some(loss)
 }
 
-/// What changes a store, as `lost=2,3` or `undo=1`.
-fn work_of(text: &str) -> Option<Work> {
-    if let Some(lost) = text.strip_prefix("lost=") {
-        return Some(Work::Restore(loss_of(lost)?));
-    }
-    let number = text.strip_prefix("undo=")?.parse::<u32>().ok()?;
-    Some(Work::Undo(number))
+/// What changes a store, as `lost=2,3`, `lost=2,3 accept-loss` or `undo=1`, and whether a loss is accepted.
+fn work_of(text: &str) -> Option<(Work, bool)> {
+    let Some(lost) = text.strip_prefix("lost=") else {
+        let number = text.strip_prefix("undo=")?.parse::<u32>().ok()?;
+        return Some((Work::Undo(number), false));
+    };
+    let (lost, accepts_loss) = match lost.strip_suffix(ACCEPTED) {
+        Some(lost) => (lost, true),
+        None => (lost, false),
+    };
+    Some((Work::Restore(loss_of(lost)?), accepts_loss))
 }
 
 /// What becomes of a name, as `new p0.s0.seg`.
@@ -108,13 +118,15 @@ fn changes_of(
 #[derive(Clone, Copy)]
 struct Head {
     work: Work,
+    accepts_loss: bool,
     kept: u32,
     changes: Option<usize>,
 }
 
 /// The first line that a text is, if it is one.
 fn head_of(line: &str) -> Option<Head> {
-    let (work, rest) = line.split_once(" ")?;
+    let (work, rest) = line.split_once(" kept=")?;
+    let (work, accepts_loss) = work_of(work)?;
     let (kept, changes) = match rest.split_once(" ") {
         Some((kept, changes)) => {
             let count = changes.strip_prefix("changes=")?.parse::<usize>().ok()?;
@@ -123,8 +135,9 @@ fn head_of(line: &str) -> Option<Head> {
         None => (rest, None),
     };
     Some(Head {
-        work: work_of(work)?,
-        kept: kept.strip_prefix("kept=")?.parse::<u32>().ok()?,
+        work,
+        accepts_loss,
+        kept: kept.parse::<u32>().ok()?,
         changes,
     })
 }
@@ -157,6 +170,7 @@ impl Record {
         }
         Ok(Some(Record {
             work: head.work,
+            accepts_loss: head.accepts_loss,
             kept: head.kept,
             changes,
         }))

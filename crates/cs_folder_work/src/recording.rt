@@ -4,23 +4,10 @@ use cs_folders::read_bounded;
 use cs_shelf::Untaken;
 use cs_store::StoreFault;
 use std::alloc::Global;
-use std::fs::OpenFile;
-use std::io;
-use std::io::{Read, Write};
+use std::io::Read;
 
 /// How many bytes a record has, at most: a line for each file of a store.
 pub const RECORD_LIMIT: u64 = 65_536;
-
-/// Writes the record beside its name, and brings it to the disk.
-pub fn write_record<F: Write + OpenFile>(
-    alloc: Global,
-    file: &mut F,
-    record: &Record,
-) -> io::Result<()> {
-    let text = record.text(alloc)?;
-    file.write_all(text.as_bytes())?;
-    file.sync_all()
-}
 
 /// The record that is read, if it is one.
 pub fn read_record<F: Read>(alloc: Global, file: &mut F) -> Result<Record, Untaken> {

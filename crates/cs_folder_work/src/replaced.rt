@@ -2,6 +2,7 @@
 use crate::files::read_regular;
 use crate::record::{Change, Record};
 use crate::recording::{RECORD_LIMIT, record_of};
+use crate::sealing::is_long_and_damaged;
 use crate::taking::failed;
 use cs_folders::FileLimits;
 use cs_schema::FileName;
@@ -97,7 +98,8 @@ pub struct Kept {
     pub moves: Vec<FileName>,
 }
 
-/// The bytes of the file that is kept at this path, if it is a regular one that can be read; an error if nothing is there.
+/// The bytes of the file that is kept at this path, if it is a regular one that can be read and is worth to be held; an error
+/// if nothing is there.
 fn read_kept<R: Files>(
     alloc: Global,
     rt: &R,
@@ -105,6 +107,9 @@ fn read_kept<R: Files>(
     limit: u64,
 ) -> io::Result<Option<Vec<u8>>> {
     fs::symlink_metadata(rt, path)?;
+    if let Ok(true) = is_long_and_damaged(rt, path) {
+        return Ok(None);
+    }
     match read_regular(alloc, rt, path, limit) {
         Err(e) if e.kind() != ErrorKind::OutOfMemory => Ok(None),
         read => read,

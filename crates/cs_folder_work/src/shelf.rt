@@ -3,18 +3,18 @@ ghost use Rattle.std.specs.Prelude.{◌≡◌, ◌≤◌, ⊤, IsErrOf};
 ghost use Rattle.cs_store.specs.Fault.{CountsFault};
 
 use crate::digests::Digests;
-use crate::files::{remove_if_there, sync_folder};
-use crate::owner::give_owner;
+use crate::sealing::is_long_and_damaged;
 use crate::taking::Taken;
+use cs_file_system::{FileSystem, SystemFiles, put_owned};
 use cs_folders::{FileLimits, StoreFolder};
 use cs_schema::FileName;
 use cs_shelf::Shelf;
 use cs_store::{Source, StoreFault};
 use std::alloc::{AllocError, Global};
-use std::fs::{File, OpenFile, OpenOptions};
-use std::io::{ErrorKind, Write};
+use std::fs::File;
+use std::io;
+use std::io::ErrorKind;
 use std::rt::Files;
-use std::{fs, io};
 
 /// A store in one folder, and the folder `replaced/N` in it that keeps what is replaced.
 #[derive(Drop)]
@@ -35,8 +35,15 @@ pub struct FolderShelf<R> {
 }
 
 impl<R: Files + Copy + Drop> FolderShelf<R> {
-    /// The store at this path, whose files have at most so many bytes. It is only looked at: nothing is read or made.
-    pub fn new(alloc: Global, rt: R, path: &str, limits: FileLimits) -> Result<Self, StoreFault> {
+    /// The store at this path, whose files have at most so many bytes, and of which those of some names, which ascend, may
+    /// change: of what is read of them the digests are kept for the journal. It is only looked at: nothing is read or made.
+    pub fn new(
+        alloc: Global,
+        rt: R,
+        path: &str,
+        limits: FileLimits,
+        names: Vec<FileName>,
+    ) -> Result<Self, StoreFault> {
         let source = StoreFolder::new(alloc, rt, path, limits).map_err(no_memory)?;
         let path = String::from_str(alloc, path).map_err(no_memory)?;
         Ok(Self {
@@ -47,20 +54,19 @@ impl<R: Files + Copy + Drop> FolderShelf<R> {
             source,
             has_kept: false,
             has_changed: false,
-            digests: Digests::new(alloc, Vec::new(alloc), limits),
+            digests: Digests::new(alloc, names, limits),
             faults: 0,
         })
     }
 
-    /// This store with its folder taken. Of these names, which ascend, the digests of what is read are kept for the journal.
-    pub fn taken_by(self, taken: Taken, noted: Vec<FileName>) -> Self {
+    /// This store with its folder taken.
+    pub fn taken_by(self, taken: Taken) -> Self {
         let has_kept = taken.record.keeps_any();
         let has_changed = taken.has_changed;
         Self {
             taken: Some(taken),
             has_kept,
             has_changed,
-            digests: Digests::new(self.alloc, noted, self.digests.limits),
             ..self
         }
     }
@@ -83,26 +89,36 @@ impl<R: Files + Copy + Drop> FolderShelf<R> {
         format!(in self.alloc; "{}/{name}", self.path)
     }
 
-    /// Writes the bytes beside the name, as the owner of what stands there, and brings them to the disk. What a stopped
-    /// call left there goes first.
-    fn write_beside(&self, file: &str, beside: &str, bytes: &[u8]) -> io::Result<()> {
-        remove_if_there(&self.rt, beside)?;
-        let mut how = OpenOptions::new();
-        let mut made = how.write(true).create_new(true).open(&self.rt, beside)?;
-        made.write_all(bytes)?;
-        give_owner(&self.rt, self.path.as_str(), file, beside)?;
-        made.sync_all()
-    }
-
     /// Puts the bytes under the name: what stood there stays until the rename, which is one step.
     fn replace_file(&mut self, name: FileName, bytes: &[u8]) -> io::Result<()>
         ensures { self.new.faults ≡ self.old.faults }
     {
         let file = self.file(name)?;
         let beside = format!(in self.alloc; "{}/{name}.restoring", self.path)?;
-        self.write_beside(file.as_str(), beside.as_str(), bytes)?;
         self.has_changed = true;
-        fs::rename(&self.rt, beside.as_str(), file.as_str())
+        put_owned(
+            &mut SystemFiles(&self.rt),
+            self.path.as_str(),
+            beside.as_str(),
+            file.as_str(),
+            bytes,
+        )
+    }
+
+    /// The file's bytes. One that may change is not held if it is long and damaged: that can't be read.
+    fn read_worthy(&mut self, name: FileName) -> Result<Option<Vec<u8>>, StoreFault>
+        ensures { self.new.faults ≡ self.old.faults }
+    {
+        if self.digests.has(name) {
+            let Ok(file) = self.file(name) else {
+                return Err(StoreFault::Memory);
+            };
+            match is_long_and_damaged(&self.rt, file.as_str()) {
+                Ok(false) => {}
+                Ok(true) | Err(_) => return Err(StoreFault::Device),
+            }
+        }
+        self.source.read(name)
     }
 
     /// Takes what stands under the name away, which is one step. It was kept before.
@@ -111,7 +127,7 @@ impl<R: Files + Copy + Drop> FolderShelf<R> {
     {
         let file = self.file(name)?;
         self.has_changed = true;
-        remove_if_there(&self.rt, file.as_str())
+        SystemFiles(&self.rt).remove(file.as_str())
     }
 
     /// Counts a fault of the device, or takes the answer.
@@ -138,7 +154,7 @@ impl<R: Files + Copy + Drop> Source for FolderShelf<R> {
     ghost fault_count = { λ s. s.faults };
 
     fn read(&mut self, name: FileName) -> Result<Option<Vec<u8>>, StoreFault> {
-        let read = self.source.read(name);
+        let read = self.read_worthy(name);
         match &read {
             Ok(Some(bytes)) => {
                 if self.digests.note(name, bytes.as_slice()).is_err() {
@@ -201,7 +217,7 @@ impl<R: Files<File = File> + Copy + Drop> Shelf for FolderShelf<R> {
     }
 
     fn sync(&mut self) -> Result<(), StoreFault> {
-        let synced = sync_folder(&self.rt, self.path.as_str());
+        let synced = SystemFiles(&self.rt).sync_folder(self.path.as_str());
         self.told(synced)
     }
 }

@@ -1,20 +1,17 @@
 //! Taking a store's folder for a restore or an undo, so that no second one begins beside it.
-use crate::files::{remove_if_there, sync_folder};
 use crate::record::{Change, Record};
-use crate::recording::{read_record, write_record};
+use crate::recording::read_record;
 use crate::replaced::last_number;
+use cs_file_system::{SystemFiles, TryLock, begin_record, rewrite_record, sweep};
 use cs_schema::FileName;
 use cs_shelf::{RESTORING, Untaken, Work, WorkKind};
 use std::alloc::{AllocError, Global};
 use std::collections::BTreeMap;
-use std::fs::{File, OpenFile, OpenOptions, TryLockError};
+use std::fs::{File, OpenFile};
 use std::io::ErrorKind;
 use std::os::unix::fs::MetadataExt;
 use std::rt::Files;
 use std::{fs, io};
-
-/// How many names beside the record are tried, at most: each is of one program that is about to take the folder.
-const BESIDE_LIMIT: u32 = 64;
 
 /// A folder that is taken: while this lives, nothing else can take it.
 #[derive(Drop)]
@@ -44,23 +41,24 @@ impl Taken {
     ) -> io::Result<()> {
         self.record.changes = Some(changes);
         let path = format!(in alloc; "{store}/{RESTORING}")?;
-        let (beside, mut file) = new_beside(alloc, rt, path.as_str())?;
-        write_record(alloc, &mut file, &self.record)?;
-        if let Err(TryLockError::Error(e)) = file.try_lock() {
-            return Err(e);
-        }
-        fs::rename(rt, beside.as_str(), path.as_str())?;
-        self.lock = file;
-        sync_folder(rt, store)
+        let text = self.record.text(alloc)?;
+        rewrite_record(
+            &mut SystemFiles(rt),
+            alloc,
+            store,
+            path.as_str(),
+            text.as_bytes(),
+            &mut self.lock,
+        )
     }
 }
 
-/// The failure of a call.
+/// The failure of a call. `WouldBlock` is a record that another program has locked.
 pub fn failed(error: io::Error) -> Untaken {
-    if error.kind() == ErrorKind::OutOfMemory {
-        Untaken::Memory
-    } else {
-        Untaken::Device
+    match error.kind() {
+        ErrorKind::OutOfMemory => Untaken::Memory,
+        ErrorKind::WouldBlock => Untaken::Busy,
+        _ => Untaken::Device,
     }
 }
 
@@ -93,21 +91,6 @@ fn is_unfinished<R: Files>(alloc: Global, rt: &R, store: &str) -> io::Result<boo
     }
 }
 
-/// A new file beside the record that is this program's own, with its path.
-fn new_beside<R: Files>(alloc: Global, rt: &R, record: &str) -> io::Result<(String, R::File)> {
-    for number in 1..=BESIDE_LIMIT {
-        let path = format!(in alloc; "{record}.{number}")?;
-        let mut how = OpenOptions::new();
-        let made = how.write(true).create_new(true).open(rt, path.as_str());
-        match made {
-            Ok(file) => return Ok((path, file)),
-            Err(e) if e.kind() == ErrorKind::AlreadyExists => {}
-            Err(e) => return Err(e),
-        }
-    }
-    Err(io::Error::from(ErrorKind::AlreadyExists))
-}
-
 /// The record at this path; `Busy` where it is gone meanwhile.
 fn record_at<R: Files>(alloc: Global, rt: &R, path: &str) -> Result<Record, Untaken> {
     match fs::open(rt, path) {
@@ -128,25 +111,18 @@ fn unfinished<R: Files>(alloc: Global, rt: &R, path: &str) -> Untaken {
     }
 }
 
-/// Removes what stopped programs left beside the record.
-fn sweep<R: Files>(alloc: Global, rt: &R, record: &str) -> io::Result<()> {
-    for number in 1..=BESIDE_LIMIT {
-        let path = format!(in alloc; "{record}.{number}")?;
-        remove_if_there(rt, path.as_str())?;
-    }
-    Ok(())
-}
-
 /// A record of new work, of which nothing is known yet but what it is.
 fn new_record<R: Files + Alloc + Clone + Drop>(
     alloc: Global,
     rt: &R,
     store: &str,
     work: Work,
+    accepts_loss: bool,
 ) -> io::Result<Record> {
     match last_number(alloc, rt, store)?.checked_add(1) {
         Some(kept) => Ok(Record {
             work,
+            accepts_loss,
             kept,
             changes: None,
         }),
@@ -154,13 +130,14 @@ fn new_record<R: Files + Alloc + Clone + Drop>(
     }
 }
 
-/// Takes the store in this folder for this work, unless other work is unfinished. The record is there whole or not at all,
-/// and locked as long as it is taken.
+/// Takes the store in this folder for this work, unless other work is unfinished, and writes down whether the loss of a restore
+/// is accepted. The record is there whole or not at all, and locked as long as it is taken.
 pub fn take<R: Files<File = File> + Alloc + Clone + Drop>(
     alloc: Global,
     rt: &R,
     store: &str,
     work: Work,
+    accepts_loss: bool,
 ) -> Result<Taken, Untaken> {
     let path = match format!(in alloc; "{store}/{RESTORING}") {
         Ok(path) => path,
@@ -169,66 +146,35 @@ pub fn take<R: Files<File = File> + Alloc + Clone + Drop>(
     if is_unfinished(alloc, rt, store).map_err(failed)? {
         return Err(unfinished(alloc, rt, path.as_str()));
     }
-    let record = new_record(alloc, rt, store, work).map_err(failed)?;
-    let (beside, mut file) = new_beside(alloc, rt, path.as_str()).map_err(failed)?;
-    let written = write_record(alloc, &mut file, &record).map_err(failed);
-    let linked = match written {
-        Ok(()) => link_locked(rt, store, &file, beside.as_str(), path.as_str()),
-        Err(untaken) => Err(untaken),
+    let record = new_record(alloc, rt, store, work, accepts_loss).map_err(failed)?;
+    let lock = match write_new(alloc, rt, store, path.as_str(), &record) {
+        Ok(Some(lock)) => lock,
+        Ok(None) => return Err(unfinished(alloc, rt, path.as_str())),
+        Err(e) => return Err(failed(e)),
     };
-    match linked {
-        Ok(true) => {
-            let _swept = sweep(alloc, rt, path.as_str()).is_ok();
-        }
-        Ok(false) => {
-            remove_if_there(rt, beside.as_str()).map_err(failed)?;
-            return Err(unfinished(alloc, rt, path.as_str()));
-        }
-        Err(untaken) => {
-            remove_if_there(rt, beside.as_str()).map_err(failed)?;
-            return Err(untaken);
-        }
-    }
     Ok(Taken {
         record,
         moves: Vec::new(alloc),
         has_changed: false,
-        lock: file,
+        lock,
     })
 }
 
-/// Locks the record that was written beside, and gives it its name. Not where another has taken the folder meanwhile, which
-/// may have swept the record away.
-fn link_locked<R: Files>(
+/// Writes the record of new work, locked; none if another program has taken the folder meanwhile.
+fn write_new<R: Files<File = File>>(
+    alloc: Global,
     rt: &R,
     store: &str,
-    file: &File,
-    beside: &str,
     path: &str,
-) -> Result<bool, Untaken> {
-    lock(file)?;
-    match fs::hard_link(rt, beside, path) {
-        Ok(()) => match sync_folder(rt, store) {
-            Ok(()) => Ok(true),
-            Err(e) => {
-                remove_if_there(rt, path).map_err(failed)?;
-                Err(failed(e))
-            }
-        },
-        Err(e) if e.kind() == ErrorKind::AlreadyExists || e.kind() == ErrorKind::NotFound => Ok(
-            false,
-        ),
-        Err(e) => Err(failed(e)),
+    record: &Record,
+) -> io::Result<Option<File>> {
+    let text = record.text(alloc)?;
+    let files = &mut SystemFiles(rt);
+    let begun = begin_record(files, alloc, store, path, text.as_bytes())?;
+    if begun.is_some() {
+        let _swept = sweep(files, alloc, path).is_ok();
     }
-}
-
-/// Locks a record, unless another program has.
-fn lock(file: &File) -> Result<(), Untaken> {
-    match file.try_lock() {
-        Ok(()) => Ok(()),
-        Err(TryLockError::WouldBlock) => Err(Untaken::Busy),
-        Err(TryLockError::Error(e)) => Err(failed(e)),
-    }
+    Ok(begun)
 }
 
 /// Takes the store in this folder to go on with its unfinished restore or undo.
@@ -242,13 +188,13 @@ pub fn resume<R: Files<File = File>>(alloc: Global, rt: &R, store: &str) -> Resu
         Err(e) if e.kind() == ErrorKind::NotFound => return Err(Untaken::Finished),
         Err(e) => return Err(failed(e)),
     };
-    lock(&file)?;
+    file.take_lock().map_err(failed)?;
     if !is_there(rt, &file, path.as_str()).map_err(failed)? {
         return Err(Untaken::Finished);
     }
     let record = read_record(alloc, &mut file)?;
     let has_changed = has_kept_folder(alloc, rt, store, record.kept).map_err(failed)?;
-    let _swept = sweep(alloc, rt, path.as_str()).is_ok();
+    let _swept = sweep(&mut SystemFiles(rt), alloc, path.as_str()).is_ok();
     Ok(Taken {
         record,
         moves: Vec::new(alloc),
@@ -271,11 +217,4 @@ fn is_there<R: Files>(rt: &R, file: &File, path: &str) -> io::Result<bool> {
         Err(e) if e.kind() == ErrorKind::NotFound => Ok(false),
         Err(e) => Err(e),
     }
-}
-
-/// Removes the record of the store in this folder: its work is finished, or changed nothing.
-pub fn remove_record<R: Files>(alloc: Global, rt: &R, store: &str) -> io::Result<()> {
-    let path = format!(in alloc; "{store}/{RESTORING}")?;
-    remove_if_there(rt, path.as_str())?;
-    sync_folder(rt, store)
 }

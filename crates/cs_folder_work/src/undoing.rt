@@ -1,6 +1,7 @@
 //! Taking a store's folder for an undo.
+use crate::finishing::remove_record;
 use crate::replaced::{Kept, last_finished, read_replaced};
-use crate::taking::{Taken, failed, remove_record, resume, take};
+use crate::taking::{Taken, failed, resume, take};
 use cs_folders::FileLimits;
 use cs_shelf::{UndoOf, Undoable, Untaken, Work};
 use std::alloc::Global;
@@ -73,7 +74,7 @@ pub fn take_undo<R: Files<File = File> + Alloc + Clone + Drop>(
         UndoOf::Number(number) => number,
         UndoOf::Last => last(alloc, rt, store)?,
     };
-    let taken = take(alloc, rt, store, Work::Undo(number))?;
+    let taken = take(alloc, rt, store, Work::Undo(number), false)?;
     match kept_by(alloc, rt, store, of, number, limits) {
         Ok(kept) => Ok(taken_with(taken, kept)),
         Err(untaken) => {

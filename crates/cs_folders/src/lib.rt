@@ -16,6 +16,6 @@ pub use limits::{CATALOG_LIMIT, FileLimits};
 pub use new_store::{NewStoreFolder, Way, partial_path, way_to};
 pub use output::OutputFolder;
 pub use paths::file_in;
-pub use reading::{read_bounded, read_catalog_file};
+pub use reading::{read_bounded, read_catalog_file, read_file};
 pub use store::StoreFolder;
 pub use texts::{open_text, write_whole};

@@ -1,4 +1,4 @@
-//! A store beside a manifest.
+//! Compares a store with a manifest.
 ghost use Rattle.std.specs.Prelude.{◌≡◌, ◌++◌, [], ◌∷◌, IfOk, OnOk};
 ghost use Rattle.std.specs.List.{filter_map};
 ghost use Rattle.std.specs.Option.{option_copied};
@@ -10,29 +10,29 @@ use crate::manifest::Manifest;
 use cs_schema::FileName;
 use std::alloc::{AllocError, Global};
 
-/// How a file differs from what a manifest says of it; the first that applies.
+/// How a file differs from its line in a manifest: the first of these that applies.
 #[derive(Clone, Copy, Debug, PartialEq, Eq)]
 pub enum Difference {
-    /// None is there.
+    /// The file is missing.
     Missing,
-    /// The device failed as it was read.
+    /// The device failed while the file was read.
     Unreadable,
-    /// The manifest doesn't name it.
+    /// The manifest does not name the file.
     NotNamed,
-    /// Its digest is another one.
+    /// The file has another digest.
     Changed,
 }
 
 /// How a store differs from a manifest.
 #[derive(Drop)]
 pub struct Comparison {
-    /// How its catalog does.
+    /// How the catalog differs, if it does.
     pub catalog: Option<Difference>,
-    /// The files that differ, in the order of their names.
+    /// The files that differ, ascending by name.
     pub files: Vec<(FileName, Difference)>,
 }
 
-/// How what a file came to differs from the digest that is wanted.
+/// How the outcome of reading a file differs from the expected digest.
 fn difference_of(wanted: Option<&[u8; 32]>, found: &Digested) -> Option<Difference>
     ensures { result ≡ how_differs (option_copied wanted.entry) found.now }
 {
@@ -50,8 +50,8 @@ fn difference_of(wanted: Option<&[u8; 32]>, found: &Digested) -> Option<Differen
     }
 }
 
-/// How a store differs from a manifest: its catalog, which has this digest, and its files, each with what it came to. What
-/// else the manifest names is passed over.
+/// How a store differs from a manifest, given the digest of its catalog and the outcome of reading each of its files. Other
+/// names in the manifest are ignored.
 pub fn compare(
     alloc: Global,
     manifest: &Manifest,

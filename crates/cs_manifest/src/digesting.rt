@@ -10,26 +10,26 @@ use cs_store::StoreFault;
 use sha2::{Digest, Sha256};
 use std::alloc::{AllocError, Global};
 
-/// What a look at one file came to.
+/// The outcome of reading a file.
 #[derive(Clone, Copy, Debug, PartialEq, Eq)]
 pub enum Digested {
-    /// It was read, and the SHA-256 digest of its bytes is this.
+    /// The file was read and has this SHA-256 digest.
     Found([u8; 32]),
-    /// None is there.
+    /// The file is missing.
     Missing,
-    /// The device failed as it was read.
+    /// The device failed while the file was read.
     Unreadable,
 }
 
-/// The SHA-256 digest of some bytes.
+/// The SHA-256 digest of these bytes.
 pub fn digest_of(bytes: &[u8]) -> [u8; 32]
     ensures { result ≡ digest bytes.now }
 {
     Sha256::digest(bytes)
 }
 
-/// Reads the files of a catalog one after the other, in the order of their names, and says what each came to. It goes on
-/// after reads that fail, and keeps no file.
+/// Reads the files of a catalog one after the other, ascending by name, and returns the outcome for each. It continues
+/// after a read that fails, and keeps no file in memory.
 pub fn digest_files<S: SharedSource>(
     alloc: Global,
     catalog: &Catalog,
@@ -58,7 +58,7 @@ fn digest_names<S: SharedSource>(
     Ok(files)
 }
 
-/// Reads the file of this name, and says what that came to.
+/// Reads the file of this name, and returns the outcome.
 fn digest_file<S: SharedSource>(source: &S, name: FileName) -> Result<Digested, AllocError>
     ensures { IfOk result (λ found. DigestsFile (standing S.answers) (standing S.fails) source.now name found source.now) }
 {

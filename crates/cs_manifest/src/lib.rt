@@ -1,7 +1,7 @@
 //! Manifests: the SHA-256 digests of a store's files, as `sha256sum` writes and reads them.
 //!
-//! A manifest has one line a file: its digest in hexadecimal, two spaces and its path. `catalog.toml` comes first, and then
-//! the files of the catalog in the order of their names.
+//! A manifest has a line for each file: its digest in hexadecimal, two spaces and its path. `catalog.toml` comes first, then
+//! the files of the catalog, ascending by name.
 #![tactic(auto)]
 
 mod comparing;

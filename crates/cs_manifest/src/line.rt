@@ -20,7 +20,7 @@ pub fn push_line(text: &mut Vec<u8>, path: &str, digest: &[u8; 32]) -> Result<()
     Ok(())
 }
 
-/// The path that a line says, whose digest is put into `digest`; none where it is no line of a manifest.
+/// The path in a line, whose digest is written into `digest`; `None` if it is not a line of a manifest.
 pub fn entry_of<'a>(line: &'a str, digest: &mut [u8; 32]) -> Option<&'a str>
     ensures { MatchOption result (entry_in line.now ≡ None)
         (λ path. entry_in line.now ≡ Some (path.now, digest.new)) }
@@ -37,7 +37,7 @@ pub fn entry_of<'a>(line: &'a str, digest: &mut [u8; 32]) -> Option<&'a str>
     }
 }
 
-/// The path after a mark, which is a space or a star; none where there is no mark or no path.
+/// The path after the mark of text or binary mode, a space or a star; `None` if either is missing.
 fn unmarked(rest: &str) -> Option<&str>
     ensures { MatchOption result (path_after rest.now ≡ None) (λ path. path_after rest.now ≡ Some path.now) }
 {

@@ -1,4 +1,4 @@
-//! The digests that a manifest says.
+//! The digests in a manifest.
 ghost use Rattle.std.specs.Prelude.{◌≡◌, ℕ, List, None, IfOk};
 ghost use Rattle.std.specs.Option.{option_copied};
 ghost use Rattle.cs_manifest.specs.Reading.{digest_in, Adds};
@@ -13,7 +13,7 @@ pub struct Manifest {
 }
 
 impl Manifest {
-    /// A manifest that says nothing.
+    /// An empty manifest.
     pub fn new(alloc: Global) -> Self
         ensures { (path : List ℕ) → digest_in result path ≡ None }
     {
@@ -22,14 +22,14 @@ impl Manifest {
         }
     }
 
-    /// The digest of the file with this path, if one is said.
+    /// The digest of the file at this path, if the manifest has one.
     pub fn digest(&self, path: &str) -> Option<&[u8; 32]>
         ensures { option_copied result ≡ digest_in self.now path.now }
     {
         self.digests.get(path)
     }
 
-    /// Adds a digest, and says whether the path had none.
+    /// Adds a digest, and returns whether the path had none yet.
     pub(crate) fn add(
         &mut self,
         alloc: Global,

@@ -1,4 +1,4 @@
-//! Manifests that are read.
+//! Reads manifests.
 ghost use Rattle.std.specs.Prelude.{◌≡◌, ◌+◌, ℕ, List, map, take, count_by, ◌==◌, IfOk, MatchResult};
 ghost use Rattle.std.specs.Str.Lines.{lines};
 ghost use Rattle.cs_manifest.specs.Reading.{IsReading, IsReadingOf};
@@ -9,8 +9,8 @@ use crate::manifest::Manifest;
 use std::alloc::{AllocError, Global};
 use std::str;
 
-/// Reads a manifest. Each line must be one, and no path may be named twice. Lines may end in a carriage return and a line
-/// feed. Paths may be of any files.
+/// Reads a manifest. Every line must have a digest and a path, and no path may occur twice. Lines may end in a carriage
+/// return and a line feed. Paths may name any files.
 pub fn read_manifest(alloc: Global, bytes: &[u8]) -> Result<Manifest, ManifestFault>
     ensures { IsReading bytes.now result }
 {
@@ -23,7 +23,7 @@ pub fn read_manifest(alloc: Global, bytes: &[u8]) -> Result<Manifest, ManifestFa
     }
 }
 
-/// The number of the line, from 1, in which a byte stands.
+/// The number of the line that contains the byte at an offset, from 1.
 fn line_at(bytes: &[u8], at: usize) -> usize
     ensures { result ≡ count_by (λ b. b == 10) (take at bytes.now) + 1 }
 {

@@ -1,4 +1,4 @@
-//! Manifests that are written.
+//! Writes manifests.
 ghost use Rattle.std.specs.Prelude.{◌≡◌, ◌++◌, IfOk, OnOk};
 ghost use Rattle.cs_manifest.specs.Lines.{manifest_text, file_line};
 
@@ -7,7 +7,7 @@ use crate::line::{CATALOG, push_line};
 use cs_schema::FileName;
 use std::alloc::{AllocError, Global};
 
-/// The manifest of a store: the line of its catalog, which has this digest, and those of the files that are there.
+/// The manifest of a store: a line for its catalog, which has this digest, and one for each file that exists.
 pub fn write_manifest(
     alloc: Global,
     catalog: &[u8; 32],
@@ -23,7 +23,7 @@ pub fn write_manifest(
     Ok(text)
 }
 
-/// Appends the line of a file, where it is there.
+/// Appends the line of a file, if it exists.
 fn push_file(text: &mut Vec<u8>, name: FileName, found: &Digested) -> Result<(), AllocError>
     ensures { OnOk result (text.new.items ≡ text.old.items ++ file_line (name, found.now)) }
 {

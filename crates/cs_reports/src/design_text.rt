@@ -25,6 +25,7 @@ impl DesignHead<'_> {
         let left = catalog.sites.saturating_sub(lost.count());
         let further = if lost.count() == 0 { "" } else { "further " };
         match self.design.k {
+            Some(0) => writeln!(f, "K=0 (no {further}site may fail)"),
             Some(k) => writeln!(f, "K={k} (any {k} of {left} {further}sites may fail)"),
             None => writeln!(f, "unsafe already: {lost} lost"),
         }

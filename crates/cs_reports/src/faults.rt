@@ -1,6 +1,8 @@
 //! Faults of a store in words: the file and its site, what is wrong, and what to do next.
 use crate::columns::LostColumns;
+use crate::filled::fill;
 use crate::placed::site_of;
+use crate::shell_word::ShellWord;
 use cs_schema::{Catalog, Loss, Safety};
 use cs_store::Fault;
 use std::fmt;
@@ -31,24 +33,12 @@ impl fmt::Display for Part<'_> {
     }
 }
 
-/// Writes a text with a part in place of its first `{}`.
-fn fill<W: fmt::Write, T: fmt::Display>(
-    f: &mut fmt::Formatter<W>,
-    text: &str,
-    part: &T,
-) -> fmt::Result {
-    match text.split_once("{}") {
-        Some((before, after)) => write!(f, "{before}{part}{after}"),
-        None => f.write_str(text),
-    }
-}
-
 /// Why a loss is not safe that takes some columns, or none.
 fn unsafe_text(safety: Safety, takes_columns: bool) -> &'static str {
     match (safety, takes_columns) {
-        (Safety::Whole, true) => ": no surviving projection has {}",
+        (Safety::Whole, true) => ": no surviving projection has {0}",
         (Safety::Whole, false) => ": no surviving projection reaches every column by joins",
-        (Safety::Rows, true) => ": some rows have {} on lost sites alone",
+        (Safety::Rows, true) => ": some rows have {0} on lost sites alone",
         (Safety::Rows, false) => {
             ": from some rows no surviving projection reaches every column by joins"
         }
@@ -58,20 +48,20 @@ fn unsafe_text(safety: Safety, takes_columns: bool) -> &'static str {
 /// What follows the words of a fault, if it is not that a loss is unsafe.
 fn fault_text(fault: &Fault) -> &'static str {
     match fault {
-        Fault::Site => ", which has {}",
-        Fault::Missing(_) | Fault::Damaged(_) | Fault::Read(_) => " ({})",
-        Fault::Twice => ": a key twice, two rows have one; the culprit may stand on any site",
+        Fault::Site => ", which has {0}",
+        Fault::Missing(_) | Fault::Damaged(_) | Fault::Read(_) => " ({0})",
+        Fault::Twice => ": two rows have one key; the bad file may be on any site",
         Fault::Astray { .. } => {
-            " ({}): a dangling entry, a join index leads from this row to no row; the culprit may stand elsewhere"
+            " ({0}): a join index leads from this row to no row; the bad file may be on another site"
         }
         Fault::Full { .. } => {
-            " ({}): a range too full for one segment; the culprit may stand elsewhere"
+            " ({0}): its range has too many rows for one segment; the bad file may be on another site"
         }
         Fault::Misplaced { .. } => {
-            " ({}): rows out of place, it has not the rows of its range in their order; the culprit may stand elsewhere"
+            " ({0}): its rows are not those of its range, in order; the bad file may be on another site"
         }
         Fault::Misled { .. } => {
-            " ({}): a join index that leads elsewhere; the culprit may stand elsewhere"
+            " ({0}): this join index leads to other rows; the bad file may be on another site"
         }
         _ => "",
     }
@@ -90,7 +80,7 @@ fn segment_of(fault: &Fault) -> Option<(u16, u16)> {
 }
 
 /// The site of the segment that a fault is about.
-fn fault_site(catalog: &Catalog, fault: &Fault) -> Option<u8> {
+pub fn fault_site(catalog: &Catalog, fault: &Fault) -> Option<u8> {
     let (p, s) = segment_of(fault)?;
     site_of(catalog, p, s)
 }
@@ -117,16 +107,8 @@ impl fmt::Display for FaultWords<'_> {
         let fault = self.fault;
         let (text, part) = self.end();
         write!(f, "{fault}")?;
-        fill(f, text, &part)
+        fill(f, text, &[part])
     }
-}
-
-/// What to do next after a fault of a store, of which some sites are lost. Its text is empty or one line.
-#[derive(Clone, Copy)]
-pub struct Next<'a> {
-    pub catalog: &'a Catalog,
-    pub lost: Loss,
-    pub fault: &'a Fault,
 }
 
 /// The sites of a loss, as words of a command line, each behind a blank.
@@ -152,26 +134,50 @@ pub fn with_site(loss: Loss, site: Option<u8>) -> Loss {
     }
 }
 
-/// What to do next after a fault, with the sites to recover in place of `{}`.
+/// What to do next after a fault of a store. Its text is one line: a command that can be pasted, or advice.
+#[derive(Clone, Copy)]
+pub struct Next<'a> {
+    /// The folder of the store.
+    pub store: &'a str,
+    /// The sites to restore, if files are bad.
+    pub sites: Loss,
+    pub fault: &'a Fault,
+}
+
+/// What a command names.
+#[derive(Clone, Copy)]
+enum Word<'a> {
+    Path(ShellWord<'a>),
+    Sites(SiteWords),
+}
+
+impl fmt::Display for Word<'_> {
+    fn fmt<W: fmt::Write>(&self, f: &mut fmt::Formatter<W>) -> fmt::Result {
+        match self {
+            Word::Path(path) => write!(f, "{path}"),
+            Word::Sites(sites) => write!(f, "{sites}"),
+        }
+    }
+}
+
+/// What to do next after a fault, with the store in place of `{0}` and the sites in place of `{1}`.
 fn next_text(fault: &Fault) -> &'static str {
     match fault {
         Fault::Memory => "run it with fewer workers, or with more memory",
-        Fault::Site | Fault::Unsafe(_) | Fault::BadK => {
-            "pinepolo design STORE prints the sites, and which must not be lost"
-        }
-        Fault::Missing(_) | Fault::Damaged(_) => "pinepolo recover STORE OUT{}",
+        Fault::Site | Fault::Unsafe(_) | Fault::BadK => "pinepolo design {0}",
+        Fault::Missing(_) | Fault::Damaged(_) => "pinepolo restore {0}{1}",
         Fault::Read(_) => {
-            "see that it is a regular file, that may be read, and no longer than its catalog allows"
+            "see that it is a regular file that may be read, and no longer than its catalog allows"
         }
-        Fault::Write(_) => "see that the disk has room, remove OUT, and run it again",
-        _ => "pinepolo diagnose STORE",
+        Fault::Write(_) => "see that the disk has room and may be written to, and run it again",
+        _ => "pinepolo diagnose {0}",
     }
 }
 
 impl fmt::Display for Next<'_> {
     fn fmt<W: fmt::Write>(&self, f: &mut fmt::Formatter<W>) -> fmt::Result {
-        let site = fault_site(self.catalog, self.fault);
-        let sites = SiteWords(with_site(self.lost, site));
-        fill(f, next_text(self.fault), &sites)
+        let path = Word::Path(ShellWord(self.store));
+        let sites = Word::Sites(SiteWords(self.sites));
+        fill(f, next_text(self.fault), &[path, sites])
     }
 }

@@ -1,4 +1,4 @@
-//! Objects of JSON, made member by member. A member that wants memory spoils the object, and `finish` says so.
+//! Objects of JSON, made member by member. If memory runs out for a member, `finish` says so.
 use cs_schema::Loss;
 use serde_json::{Map, Value};
 use std::alloc::{AllocError, Global};
@@ -49,7 +49,13 @@ impl Object {
         self.member(name, value)
     }
 
-    /// The object, or that memory was wanted.
+    /// The object with the sites of a loss, as a list of numbers.
+    pub fn sites(self, name: &str, loss: Loss) -> Self {
+        let value = sites(self.alloc, loss);
+        self.member(name, value)
+    }
+
+    /// The object, or that memory ran out.
     pub fn finish(self) -> Result<Value, AllocError> {
         let Object { alloc: _, members } = self;
         match members {
@@ -91,10 +97,18 @@ pub fn losses(alloc: Global, losses: &[Loss]) -> Result<Value, AllocError> {
     Ok(Value::Array(list))
 }
 
-/// A number, or null where there is none.
+/// A small number, or null if there is none.
 pub fn number_or_null(number: Option<u8>) -> Value {
     match number {
         Some(number) => Value::from(number),
+        None => Value::Null,
+    }
+}
+
+/// A count, or null if it is not known.
+pub fn count_or_null(count: Option<u64>) -> Value {
+    match count {
+        Some(count) => Value::from(count),
         None => Value::Null,
     }
 }

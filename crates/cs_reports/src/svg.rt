@@ -1,18 +1,23 @@
-//! A picture of a placement: projections as rows, their segments as boxes in the columns of their sites, join indexes as
-//! arrows. An XML document of SVG, 1,000 pixels wide.
+//! Pictures of a placement: projections as rows, their segments as boxes in the columns of their sites, join indexes as
+//! arrows. XML documents of SVG, 1,000 pixels wide.
 mod arrows;
 mod boxes;
 mod escaped;
 mod flow;
 mod frame;
+mod legends;
+mod looks;
 mod rows;
 mod sites;
 
 use crate::design::Design;
+use crate::placed::BadFile;
 use arrows::draw_arrows;
 use boxes::draw_row;
 use cs_schema::Catalog;
 use frame::{Frame, WIDTH};
+use legends::draw_legend;
+use looks::Paint;
 use rows::{Row, rows_of};
 use sites::draw_sites;
 use std::alloc::{AllocError, Global};
@@ -21,18 +26,49 @@ use std::fmt::Write;
 /// How high the legend is.
 const LEGEND: u64 = 60;
 
-/// The text of the picture.
+/// The picture of what a catalog says of losses.
 pub fn picture(alloc: Global, catalog: &Catalog, design: &Design) -> Result<String, AllocError> {
+    let paint = Paint {
+        by_state: false,
+        lost: design.lost,
+        bad: Vec::new(alloc),
+    };
+    draw(alloc, catalog, design, &paint)
+}
+
+/// The picture of a store with these bad files, of which no name comes twice: each segment in the colour of its state. The
+/// design is that beside the loss of their sites.
+pub fn store_picture(
+    alloc: Global,
+    catalog: &Catalog,
+    design: &Design,
+    bad: Vec<BadFile>,
+) -> Result<String, AllocError> {
+    let paint = Paint {
+        by_state: true,
+        lost: design.lost,
+        bad,
+    };
+    draw(alloc, catalog, design, &paint)
+}
+
+/// The text of a picture.
+fn draw(
+    alloc: Global,
+    catalog: &Catalog,
+    design: &Design,
+    paint: &Paint,
+) -> Result<String, AllocError> {
     let frame = Frame::of(catalog.sites);
     let rows = rows_of(alloc, catalog, &frame)?;
     let bottom = bottom_of(&frame, rows.as_slice());
     let mut text = head(alloc, &frame, bottom)?;
     for row in &rows {
-        draw_row(&mut text, &frame, design.lost, row)?;
+        draw_row(&mut text, &frame, paint, row)?;
     }
     draw_arrows(&mut text, &frame, rows.as_slice())?;
     draw_sites(&mut text, &frame, design, bottom)?;
-    draw_legend(&mut text, design, bottom)?;
+    draw_legend(&mut text, design, paint.by_state, bottom)?;
     text.push_str("</svg>\n")?;
     Ok(text)
 }
@@ -57,31 +93,4 @@ fn head(alloc: Global, frame: &Frame, bottom: u64) -> Result<String, AllocError>
 "##
     )?;
     Ok(text)
-}
-
-/// What outlines and strokes mean.
-fn draw_legend(text: &mut String, design: &Design, bottom: u64) -> Result<(), AllocError> {
-    let y = bottom.saturating_add(24);
-    let below = bottom.saturating_add(44);
-    let lost = design.lost;
-    match (design.k, design.fatal.first()) {
-        (Some(k), Some(fatal)) => write!(
-            text,
-            r##"<text x="10" y="{y}" font-size="13">K={k}. Outlined: the first set of sites that must not be lost, {fatal}.</text>
-"##
-        )?,
-        _ => write!(
-            text,
-            r##"<text x="10" y="{y}" font-size="13">Unsafe already.</text>
-"##
-        )?,
-    }
-    if lost.count() == 0 {
-        return Ok(());
-    }
-    write!(
-        text,
-        r##"<text x="10" y="{below}" font-size="13">Struck through: lost already, {lost}.</text>
-"##
-    )
 }

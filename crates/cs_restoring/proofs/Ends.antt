@@ -10,7 +10,7 @@ use Rattle.cs_store.specs.declared.readable.Readable.{Readable}
 use Rattle.cs_shelf.specs.Shelf.{IsNoMore, IsReadIn}
 use Rattle.cs_shelf.proofs.Steps.{from_more}
 use Rattle.cs_restore.specs.Restoring.{IsFinished}
-use Rattle.pinepolo_places.specs.declared.stop.Stop.{Stop}
+use Rattle.pinepolo_places.specs.declared.error.VerbError.{VerbError}
 use Rattle.cs_diagnosis.specs.declared.diagnosing.Diagnosis.{Diagnosis}
 use Rattle.pinepolo_text.specs.declared.doubted.Doubted.{Doubted}
 use Rattle.pinepolo_text.specs.declared.restoration.Restoration.{Restoration}
@@ -38,7 +38,7 @@ module _ {P K : Type 0} (gives_back : P → K → Bool → P → Type 0) (gives 
   ends_restored accepts resumes undoubted (restoration.Doubted doubted) ends = absurd ends
 
   pub ends_doubted : (accepts resumes : Bool) → accepts ≡ false → (stop : IsNoMore (may_leave store) (may_leave left)) (diagnosis : Diagnosis) → IsDoubtOf gives refuses C store L resumes diagnosis
-      → (doubted : Result Doubted Stop) → IfOk doubted (λ d. (d.lost ≡ L) × (d.diagnosed.diagnosis ≡ diagnosis)) → (answer : Restoration) → EndsDoubted gives_back s doubted left t answer
+      → (doubted : Result Doubted VerbError) → IfOk doubted (λ d. (d.lost ≡ L) × (d.diagnosed.diagnosis ≡ diagnosis)) → (answer : Restoration) → EndsDoubted gives_back s doubted left t answer
       → EndsRestore gives_back gives refuses holds may_leave accepts resumes s C L store t answer
   ends_doubted accepts resumes unaccepted stop diagnosis doubt doubted of (restoration.Done restored) ends = absurd ends
   ends_doubted accepts resumes unaccepted stop diagnosis doubt doubted of (restoration.Doubted answer) ends =

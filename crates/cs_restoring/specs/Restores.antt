@@ -1,5 +1,5 @@
 -- What the verb `restore` does, by what the places and a store that can be changed say of one call.
-use Rattle.std.specs.Prelude.{◌≡◌, ◌⊎◌, ℕ, Bool, true, false, List, [], Option, Some, None, Result, Ok}
+use Rattle.std.specs.Prelude.{◌≡◌, ◌⊎◌, ◌||◌, ℕ, Bool, true, false, List, [], Option, Some, None, Result, Ok}
 use Rattle.std.specs.Option.{unwrap_or}
 use Rattle.cs_schema.specs.CatalogData.{CatalogData}
 use Rattle.cs_schema.specs.Losses.{Sites}
@@ -12,7 +12,8 @@ use Rattle.cs_design.specs.Fatal.{IsGreatestK}
 use Rattle.cs_shelf.specs.Shelf.{Follows, IsNoMore, IsReadOf}
 use Rattle.cs_restore.specs.Restoring.{IsFinished, PlansFor, PlansRestore, ReadsBack}
 use Rattle.pinepolo_places.specs.Finding.{FindsStore}
-use Rattle.pinepolo_places.specs.declared.stop.Stop.{Stop}
+use Rattle.pinepolo_places.specs.declared.error.VerbError.{VerbError}
+use Rattle.pinepolo_places.specs.declared.shelves.RestoreOf.{RestoreOf}
 use Rattle.pinepolo_text.specs.declared.doubted.Doubted.{Doubted}
 use Rattle.pinepolo_text.specs.declared.restoration.Restoration.{Restoration}
 use Rattle.pinepolo_text.specs.declared.restored.Restored.{Restored}
@@ -74,7 +75,7 @@ module _ {P K : Type 0} where
   FinishesRestore gives_back holds may_leave s C L store t (restoration.Doubted _) = ⊥
 
   -- a doubt is the answer, whose store was given back
-  abbrev pub EndsDoubted : (P → K → Bool → P → Type 0) → P → Result Doubted Stop → K → P → Restoration → Type 0
+  abbrev pub EndsDoubted : (P → K → Bool → P → Type 0) → P → Result Doubted VerbError → K → P → Restoration → Type 0
   EndsDoubted gives_back s doubted store t (restoration.Done _) = ⊥
   EndsDoubted gives_back s doubted store t (restoration.Doubted answer) = (doubted ≡ Ok answer) × gives_back s store false t
 
@@ -93,15 +94,17 @@ module _ {P K : Type 0} where
   EndsRestore gives_back gives refuses holds may_leave accepts resumes s C L store t (restoration.Doubted doubted) =
       (accepts ≡ false) × (doubted.lost ≡ L) × IsDoubtOf gives refuses C store L resumes doubted.diagnosed.diagnosis × GivesBackUnchanged gives_back holds may_leave s store t
 
-module _ {P S K : Type 0} (reads : P → List ℕ → List ℕ → P → Type 0) (opens : P → List ℕ → CatalogData → S → Type 0) (takes_store : P → List ℕ → CatalogData → Sites → K → P → Type 0) (looks_at : P → List ℕ → CatalogData → K → Type 0) (gives_back : P → K → Bool → P → Type 0) (gives : K → FileName → Option (List ℕ) → K → Type 0) (refuses : K → FileName → StoreFault → K → Type 0) (holds may_leave : K → Files → Type 0) where
-  -- the store was taken, for the sites that were asked for unless an unfinished restore goes on, and restored as these ask
+module _ {P S K : Type 0} (reads : P → List ℕ → List ℕ → P → Type 0) (opens : P → List ℕ → CatalogData → S → Type 0) (takes_store : P → List ℕ → CatalogData → RestoreOf → K → P → Type 0) (looks_at : P → List ℕ → CatalogData → K → Type 0) (gives_back : P → K → Bool → P → Type 0) (gives : K → FileName → Option (List ℕ) → K → Type 0) (refuses : K → FileName → StoreFault → K → Type 0) (holds may_leave : K → Files → Type 0) where
+  -- The store was taken, for what was asked for unless an unfinished restore goes on, and restored as that asks. The loss is
+  -- accepted if it is now, or was when the restore began.
   pub record TakesAndEnds (accepts resumes : Bool) (asked : Sites) (s : P) (path : List ℕ) (C : CatalogData) (answer : Restoration) (t : P) : Type 0 where
-    pub lost : Sites
-    pub as_asked : resumes ≡ false → lost ≡ asked
+    pub of : RestoreOf
+    pub lost_as_asked : resumes ≡ false → of.lost ≡ asked
+    pub accepted_as_asked : resumes ≡ false → of.accepts_loss ≡ accepts
     pub store : K
     pub taken : P
-    pub takes : takes_store s path C lost store taken
-    pub ends : EndsRestore gives_back gives refuses holds may_leave accepts resumes taken C lost store t answer
+    pub takes : takes_store s path C of store taken
+    pub ends : EndsRestore gives_back gives refuses holds may_leave (accepts || of.accepts_loss) resumes taken C of.lost store t answer
 
   -- The store at this path was found. Of a dry run, and of none else, it was then looked at alone; else it was taken and restored.
   pub record DoesRestore (is_dry_run accepts resumes : Bool) (asked : Sites) (s : P) (path : List ℕ) (answer : Restoration) (t : P) : Type 0 where

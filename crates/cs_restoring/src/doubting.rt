@@ -13,7 +13,7 @@ use cs_rebuild::Run;
 use cs_safety::safe;
 use cs_schema::{Catalog, Loss};
 use cs_store::Readable;
-use pinepolo_places::Stop;
+use pinepolo_places::VerbError;
 use pinepolo_progress::{Progress, Stage};
 use std::alloc::AllocError;
 use std::marker::Sync;
@@ -75,7 +75,7 @@ pub fn find_doubt<R: Threads + Sync, G: Progress + Sync>(
     read: &Readable,
     loss: Loss,
     resumes: bool,
-) -> Result<Option<Doubt>, Stop>
+) -> Result<Option<Doubt>, VerbError>
     requires { AreAbsent (contents_of read.now.files) read.now.unreadable.items }
     ensures { IfOk result (λ found. MatchOption found (IsUndoubted catalog.now read.now loss resumes) (λ doubt. IsDoubtBy catalog.now read.now loss resumes doubt.diagnosis)) }
 {
@@ -86,10 +86,10 @@ pub fn find_doubt<R: Threads + Sync, G: Progress + Sync>(
     match is_each_bad(run, catalog, read, loss) {
         Ok(true) => return Ok(None),
         Ok(false) => {}
-        Err(_) => return Err(Stop::Memory),
+        Err(_) => return Err(VerbError::OutOfMemory),
     }
     let Ok(diagnosis) = diagnosis_of(run, catalog, read, loss.count()) else {
-        return Err(Stop::Memory);
+        return Err(VerbError::OutOfMemory);
     };
     if !is_doubtful(&diagnosis, loss, resumes) {
         return Ok(None);
@@ -99,7 +99,7 @@ pub fn find_doubt<R: Threads + Sync, G: Progress + Sync>(
             diagnosis,
             disputes,
         })),
-        Err(_) => Err(Stop::Memory),
+        Err(_) => Err(VerbError::OutOfMemory),
     }
 }
 

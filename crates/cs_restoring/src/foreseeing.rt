@@ -2,13 +2,13 @@
 ghost use Rattle.std.specs.Prelude.{◌≡◌, IfOk};
 ghost use Rattle.cs_restoring.specs.Restores.{Foresees};
 
-use crate::ending::{LostStore, stop_unseen};
+use crate::ending::LostStore;
 use crate::planning::{plan, restored_of};
 use crate::reading::{doubt_of, doubted, read_files};
 use cs_rebuild::Run;
 use cs_schema::Catalog;
 use pinepolo_args::RestoreArgs;
-use pinepolo_places::{Shelves, Stop, WorkKind};
+use pinepolo_places::{Failure, Shelves, VerbError, WorkKind};
 use pinepolo_progress::Progress;
 use pinepolo_text::Restoration;
 use std::marker::Sync;
@@ -20,25 +20,35 @@ pub fn look_ahead<R: Threads + Sync, G: Progress + Sync, P: Shelves>(
     places: &P,
     catalog: Catalog,
     request: &RestoreArgs<'_>,
-) -> Result<Restoration, Stop>
+) -> Result<Restoration, VerbError>
     ensures { IfOk result (Foresees P.looks_at P.Shelf.gives P.Shelf.refuses P.Shelf.holds request.now.accepts_loss request.now.resumes places.now request.now.store.now catalog request.now.lost) }
 {
     let lost = request.lost;
-    let mut shelf = match places.look(request.store, &catalog) {
+    let mut shelf = match places.look(request.store, &catalog, lost) {
         Ok(shelf) => shelf,
-        Err(fault) => return Err(stop_unseen(run.alloc, fault, request.store)),
+        Err(fault) => {
+            let failure = Failure::ReadStore;
+            return Err(VerbError::of_device(run.alloc, fault, failure, request.store));
+        }
     };
     let read = match read_files(run.alloc, &catalog, &mut shelf) {
         Ok(read) => read,
-        Err(stop) => return Err(stop),
+        Err(error) => return Err(error),
     };
-    match doubt_of(run, &catalog, &read, request, lost) {
+    match doubt_of(
+        run,
+        &catalog,
+        &read,
+        lost,
+        request.accepts_loss,
+        request.resumes,
+    ) {
         Ok(None) => {}
-        Ok(Some(doubt)) => return match doubted(run.alloc, catalog, doubt, lost) {
+        Ok(Some(doubt)) => return match doubted(run.alloc, catalog, doubt, lost, request.resumes) {
             Ok(doubted) => Ok(Restoration::Doubted(doubted)),
-            Err(stop) => Err(stop),
+            Err(error) => Err(error),
         },
-        Err(stop) => return Err(stop),
+        Err(error) => return Err(error),
     }
     let store = LostStore {
         catalog: &catalog,
@@ -48,6 +58,6 @@ pub fn look_ahead<R: Threads + Sync, G: Progress + Sync, P: Shelves>(
     };
     match plan(run, &store, &read) {
         Ok(steps) => Ok(Restoration::Done(restored_of(catalog, lost, None, steps, None))),
-        Err(stop) => Err(stop),
+        Err(error) => Err(error),
     }
 }

@@ -8,7 +8,7 @@ use cs_rebuild::Run;
 use cs_restore::{Step, plan_restore};
 use cs_schema::{Catalog, Loss};
 use cs_store::Readable;
-use pinepolo_places::{Stop, stop_of};
+use pinepolo_places::VerbError;
 use pinepolo_progress::Progress;
 use pinepolo_text::Restored;
 use std::marker::Sync;
@@ -19,12 +19,18 @@ pub fn plan<R: Threads + Sync, G: Progress + Sync>(
     run: &Run<'_, R, G>,
     store: &LostStore<'_>,
     read: &Readable,
-) -> Result<Vec<Step>, Stop>
+) -> Result<Vec<Step>, VerbError>
     ensures { IfOk result (λ steps. PlansFrom store.now.catalog.now store.now.lost read.now) }
 {
     match plan_restore(run, store.catalog, store.lost, read) {
         Ok(plan) => Ok(plan.steps),
-        Err(fault) => Err(stop_of(run.alloc, store.catalog, store.lost, &fault)),
+        Err(fault) => Err(VerbError::of_store(
+            run.alloc,
+            store.catalog,
+            store.path,
+            store.lost,
+            &fault,
+        )),
     }
 }
 

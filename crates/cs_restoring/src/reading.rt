@@ -13,8 +13,7 @@ use cs_rebuild::Run;
 use cs_schema::{Catalog, Loss};
 use cs_shelf::{Shelf, load_readable_held};
 use cs_store::Readable;
-use pinepolo_args::RestoreArgs;
-use pinepolo_places::Stop;
+use pinepolo_places::VerbError;
 use pinepolo_progress::Progress;
 use pinepolo_text::{Diagnosed, Doubted};
 use std::alloc::Global;
@@ -26,7 +25,7 @@ pub fn read_files<S: Shelf>(
     alloc: Global,
     catalog: &Catalog,
     shelf: &mut S,
-) -> Result<Readable, Stop>
+) -> Result<Readable, VerbError>
     ensures from { IfOk result (λ read. IsReadFrom S.gives S.refuses catalog.now shelf.old read shelf.new) }
     ensures found { IfOk result (λ read. IsReadIn (S.holds shelf.new) (surviving catalog.now []) read.files read.unreadable.items) }
     ensures absent { IfOk result (λ read. AreAbsent (contents_of read.files) read.unreadable.items) }
@@ -36,7 +35,7 @@ pub fn read_files<S: Shelf>(
 {
     match load_readable_held(alloc, catalog, shelf) {
         Ok(read) => Ok(read),
-        Err(_) => Err(Stop::Memory),
+        Err(_) => Err(VerbError::OutOfMemory),
     }
 }
 
@@ -45,22 +44,29 @@ pub fn doubt_of<R: Threads + Sync, G: Progress + Sync>(
     run: &Run<'_, R, G>,
     catalog: &Catalog,
     read: &Readable,
-    request: &RestoreArgs<'_>,
     lost: Loss,
-) -> Result<Option<Doubt>, Stop>
+    accepts_loss: bool,
+    resumes: bool,
+) -> Result<Option<Doubt>, VerbError>
     requires { AreAbsent (contents_of read.now.files) read.now.unreadable.items }
-    ensures undoubted { IfOk result (λ found. found ≡ None → request.now.accepts_loss ≡ false → IsUndoubted catalog.now read.now lost request.now.resumes) }
-    ensures unaccepted { IfOk result (λ found. (doubt : DoubtData) → found ≡ Some doubt → request.now.accepts_loss ≡ false) }
-    ensures doubt { IfOk result (λ found. (doubt : DoubtData) → found ≡ Some doubt → IsDoubtBy catalog.now read.now lost request.now.resumes doubt.diagnosis) }
+    ensures undoubted { IfOk result (λ found. found ≡ None → accepts_loss ≡ false → IsUndoubted catalog.now read.now lost resumes) }
+    ensures unaccepted { IfOk result (λ found. (doubt : DoubtData) → found ≡ Some doubt → accepts_loss ≡ false) }
+    ensures doubt { IfOk result (λ found. (doubt : DoubtData) → found ≡ Some doubt → IsDoubtBy catalog.now read.now lost resumes doubt.diagnosis) }
 {
-    if request.accepts_loss {
+    if accepts_loss {
         return Ok(None);
     }
-    find_doubt(run, catalog, read, lost, request.resumes)
+    find_doubt(run, catalog, read, lost, resumes)
 }
 
 /// The answer of a restore that is doubtful.
-pub fn doubted(alloc: Global, catalog: Catalog, doubt: Doubt, lost: Loss) -> Result<Doubted, Stop>
+pub fn doubted(
+    alloc: Global,
+    catalog: Catalog,
+    doubt: Doubt,
+    lost: Loss,
+    resumes: bool,
+) -> Result<Doubted, VerbError>
     ensures { IfOk result (λ doubted. (doubted.lost ≡ lost) × (doubted.diagnosed.diagnosis ≡ doubt.diagnosis)) }
 {
     let Doubt {
@@ -68,7 +74,11 @@ pub fn doubted(alloc: Global, catalog: Catalog, doubt: Doubt, lost: Loss) -> Res
         disputes,
     } = doubt;
     match Diagnosed::new(alloc, catalog, diagnosis, disputes, Vec::new(alloc), None) {
-        Ok(diagnosed) => Ok(Doubted { diagnosed, lost }),
-        Err(_) => Err(Stop::Memory),
+        Ok(diagnosed) => Ok(Doubted {
+            diagnosed,
+            lost,
+            resumes,
+        }),
+        Err(_) => Err(VerbError::OutOfMemory),
     }
 }

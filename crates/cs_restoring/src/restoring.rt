@@ -1,10 +1,10 @@
 //! The verb `restore`.
-ghost use Rattle.std.specs.Prelude.{◌≡◌, [], IfOk, false};
+ghost use Rattle.std.specs.Prelude.{◌≡◌, ◌||◌, [], IfOk, false};
 ghost use Rattle.cs_schema.specs.FileNames.{surviving};
 ghost use Rattle.cs_shelf.specs.Shelf.{IsReadIn};
 ghost use Rattle.cs_restoring.specs.Restores.{DoesRestore, EndsDoubted, EndsRestore, FinishesRestore};
 
-use crate::ending::{LostStore, stop_unended, stop_untaken};
+use crate::ending::{LostStore, finish_error, lock_error};
 use crate::foreseeing::look_ahead;
 use crate::planning::restored_of;
 use crate::reading::{doubt_of, doubted, read_files};
@@ -13,42 +13,60 @@ use cs_rebuild::Run;
 use cs_schema::{Catalog, Loss};
 use cs_store::Readable;
 use pinepolo_args::RestoreArgs;
-use pinepolo_places::{Shelves, Stop, WorkKind, find_store};
+use pinepolo_places::{RestoreOf, Shelves, VerbError, WorkKind, find_store};
 use pinepolo_progress::Progress;
 use pinepolo_text::{Doubted, Restoration};
 use std::alloc::Global;
 use std::marker::Sync;
 use std::thread::Threads;
 
-/// Takes a store for a restore, or to go on with one, and says which sites are lost.
+/// What a request asks to restore.
+fn asked_of(request: &RestoreArgs<'_>) -> RestoreOf
+    ensures { result ≡ record { lost = request.now.lost; accepts_loss = request.now.accepts_loss } }
+{
+    RestoreOf {
+        lost: request.lost,
+        accepts_loss: request.accepts_loss,
+    }
+}
+
+/// Whether a loss is accepted: now, or when the restore began.
+fn is_accepted(request: &RestoreArgs<'_>, of: RestoreOf) -> bool
+    ensures { result ≡ (request.now.accepts_loss || of.accepts_loss) }
+{
+    request.accepts_loss || of.accepts_loss
+}
+
+/// Takes a store for a restore, or to go on with one, and says what that restores.
 fn take<P: Shelves>(
     alloc: Global,
     places: &mut P,
     catalog: &Catalog,
     request: &RestoreArgs<'_>,
-) -> Result<(P::Shelf, Loss), Stop>
+) -> Result<(P::Shelf, RestoreOf), VerbError>
     ensures taken { IfOk result (λ taken. P.takes_store places.old request.now.store.now catalog.now taken.1 taken.0 places.new) }
-    ensures lost { IfOk result (λ taken. request.now.resumes ≡ false → taken.1 ≡ request.now.lost) }
+    ensures lost { IfOk result (λ taken. request.now.resumes ≡ false → taken.1.lost ≡ request.now.lost) }
+    ensures accepts { IfOk result (λ taken. request.now.resumes ≡ false → taken.1.accepts_loss ≡ request.now.accepts_loss) }
 {
     let path = request.store;
     let taken = if request.resumes {
         places.resume(path, catalog)
     } else {
-        match places.take(path, catalog, request.lost) {
-            Ok(shelf) => Ok((shelf, request.lost)),
+        match places.take(path, catalog, asked_of(request)) {
+            Ok(shelf) => Ok((shelf, asked_of(request))),
             Err(untaken) => Err(untaken),
         }
     };
     match taken {
         Ok(taken) => Ok(taken),
-        Err(untaken) => Err(stop_untaken(alloc, &untaken, path, WorkKind::Restore)),
+        Err(untaken) => Err(lock_error(alloc, &untaken, path, WorkKind::Restore)),
     }
 }
 
 /// Gives a store back that was not changed, for which a verb ends early.
-fn give_up<P: Shelves>(places: &mut P, shelf: P::Shelf, stop: Stop) -> Stop {
+fn give_up<P: Shelves>(places: &mut P, shelf: P::Shelf, error: VerbError) -> VerbError {
     let _left = places.give_back(shelf, false).is_ok();
-    stop
+    error
 }
 
 /// Gives a store back of which it is doubtful what was lost.
@@ -56,18 +74,18 @@ fn give_back_doubted<P: Shelves>(
     alloc: Global,
     places: &mut P,
     shelf: P::Shelf,
-    doubted: Result<Doubted, Stop>,
+    doubted: Result<Doubted, VerbError>,
     path: &str,
-) -> Result<Restoration, Stop>
+) -> Result<Restoration, VerbError>
     ensures { IfOk result (EndsDoubted P.gives_back places.old doubted shelf places.new) }
 {
     let doubted = match doubted {
         Ok(doubted) => doubted,
-        Err(stop) => return Err(give_up(places, shelf, stop)),
+        Err(error) => return Err(give_up(places, shelf, error)),
     };
     match places.give_back(shelf, false) {
         Ok(_) => Ok(Restoration::Doubted(doubted)),
-        Err(fault) => Err(stop_unended(alloc, fault, path, WorkKind::Restore)),
+        Err(fault) => Err(finish_error(alloc, fault, path, WorkKind::Restore)),
     }
 }
 
@@ -79,7 +97,7 @@ fn restore_read<R: Threads + Sync, G: Progress + Sync, P: Shelves>(
     catalog: Catalog,
     read: Readable,
     path: &str,
-) -> Result<Restoration, Stop>
+) -> Result<Restoration, VerbError>
     requires { IsReadIn (P.Shelf.holds taken.0) (surviving catalog []) read.files read.unreadable.items }
     ensures { IfOk result (FinishesRestore P.gives_back P.Shelf.holds P.Shelf.may_leave places.old catalog taken.1 taken.0 places.new) }
 {
@@ -96,33 +114,36 @@ fn restore_read<R: Threads + Sync, G: Progress + Sync, P: Shelves>(
             let restored = restored_of(catalog, lost, rows, restored.steps, given.kept);
             Ok(Restoration::Done(restored))
         }
-        Err(stop) => Err(stop),
+        Err(error) => Err(error),
     }
 }
 
-/// Restores a store that was taken, unless it is doubtful what it lost, and gives it back.
+/// Restores a store that was taken, unless it is doubtful what it lost, and gives it back. The loss may have been accepted
+/// when the restore began.
 fn restore_taken<R: Threads + Sync, G: Progress + Sync, P: Shelves>(
     run: &Run<'_, R, G>,
     places: &mut P,
-    taken: (P::Shelf, Loss),
+    taken: (P::Shelf, RestoreOf),
     catalog: Catalog,
     request: &RestoreArgs<'_>,
-) -> Result<Restoration, Stop>
-    ensures { IfOk result (EndsRestore P.gives_back P.Shelf.gives P.Shelf.refuses P.Shelf.holds P.Shelf.may_leave request.now.accepts_loss request.now.resumes places.old catalog taken.1 taken.0 places.new) }
+) -> Result<Restoration, VerbError>
+    ensures { IfOk result (EndsRestore P.gives_back P.Shelf.gives P.Shelf.refuses P.Shelf.holds P.Shelf.may_leave (request.now.accepts_loss || taken.1.accepts_loss) request.now.resumes places.old catalog taken.1.lost taken.0 places.new) }
 {
-    let (shelf, lost) = taken;
+    let (shelf, of) = taken;
+    let lost = of.lost;
+    let accepts_loss = is_accepted(request, of);
     let mut shelf = shelf;
     let read = match read_files(run.alloc, &catalog, &mut shelf) {
         Ok(read) => read,
-        Err(stop) => return Err(give_up(places, shelf, stop)),
+        Err(error) => return Err(give_up(places, shelf, error)),
     };
-    match doubt_of(run, &catalog, &read, request, lost) {
+    match doubt_of(run, &catalog, &read, lost, accepts_loss, request.resumes) {
         Ok(None) => restore_read(run, places, (shelf, lost), catalog, read, request.store),
         Ok(Some(doubt)) => {
-            let doubted = doubted(run.alloc, catalog, doubt, lost);
+            let doubted = doubted(run.alloc, catalog, doubt, lost, request.resumes);
             give_back_doubted(run.alloc, places, shelf, doubted, request.store)
         }
-        Err(stop) => Err(give_up(places, shelf, stop)),
+        Err(error) => Err(give_up(places, shelf, error)),
     }
 }
 
@@ -133,19 +154,19 @@ pub fn restore<R: Threads + Sync, G: Progress + Sync, P: Shelves>(
     run: &Run<'_, R, G>,
     places: &mut P,
     request: &RestoreArgs<'_>,
-) -> Result<Restoration, Stop>
+) -> Result<Restoration, VerbError>
     ensures { IfOk result (λ restoration. DoesRestore P.reads P.opens P.takes_store P.looks_at P.gives_back P.Shelf.gives P.Shelf.refuses P.Shelf.holds P.Shelf.may_leave
         request.now.is_dry_run request.now.accepts_loss request.now.resumes request.now.lost places.old request.now.store.now restoration places.new) }
 {
     let (catalog, _source) = match find_store(run.alloc, places, request.store) {
         Ok(found) => found,
-        Err(stop) => return Err(stop),
+        Err(error) => return Err(error),
     };
     if request.is_dry_run {
         return look_ahead(run, places, catalog, request);
     }
     match take(run.alloc, places, &catalog, request) {
         Ok(taken) => restore_taken(run, places, taken, catalog, request),
-        Err(stop) => Err(stop),
+        Err(error) => Err(error),
     }
 }

@@ -2,12 +2,12 @@
 ghost use Rattle.std.specs.Prelude.{◌≡◌, IfOk};
 ghost use Rattle.cs_restoring.specs.Undoes.{DoesUndo, EndsUndo, undo_asked};
 
-use crate::ending::{LostStore, stop_unended, stop_untaken};
-use crate::working::leave;
+use crate::ending::{LostStore, lock_error};
+use crate::working::{finish, leave};
 use cs_restore::put_back;
 use cs_schema::{Catalog, Loss};
 use pinepolo_args::UndoArgs;
-use pinepolo_places::{Shelves, Stop, UndoOf, Undoable, WorkKind, find_store};
+use pinepolo_places::{Shelves, UndoOf, Undoable, VerbError, WorkKind, find_store};
 use pinepolo_text::Undone;
 use std::alloc::Global;
 
@@ -29,7 +29,7 @@ fn undo_taken<P: Shelves>(
     taken: (P::Shelf, Undoable),
     catalog: Catalog,
     path: &str,
-) -> Result<Undone, Stop>
+) -> Result<Undone, VerbError>
     ensures { IfOk result (EndsUndo P.gives_back P.Shelf.holds P.Shelf.may_leave
         places.old catalog taken.1.back taken.1.names.items taken.0 places.new) }
 {
@@ -44,13 +44,13 @@ fn undo_taken<P: Shelves>(
         };
         return Err(leave(alloc, places, shelf, &store, &fault));
     }
-    match places.give_back(shelf, true) {
+    match finish(alloc, places, shelf, path, WorkKind::Undo) {
         Ok(given) => Ok(Undone {
             catalog,
             undoable,
             kept: given.kept,
         }),
-        Err(failure) => Err(stop_unended(alloc, failure, path, WorkKind::Undo)),
+        Err(error) => Err(error),
     }
 }
 
@@ -62,17 +62,17 @@ pub fn undo<P: Shelves>(
     alloc: Global,
     places: &mut P,
     request: &UndoArgs<'_>,
-) -> Result<Undone, Stop>
+) -> Result<Undone, VerbError>
     ensures { IfOk result (DoesUndo P.reads P.opens P.takes_undo P.gives_back P.Shelf.holds P.Shelf.may_leave
         places.old request.now.store.now (undo_asked request.now.resumes request.now.kept) places.new) }
 {
     let path = request.store;
     let (catalog, _source) = match find_store(alloc, places, path) {
         Ok(found) => found,
-        Err(stop) => return Err(stop),
+        Err(error) => return Err(error),
     };
     match places.take_undo(path, &catalog, undo_of(request)) {
         Ok(taken) => undo_taken(alloc, places, taken, catalog, path),
-        Err(untaken) => Err(stop_untaken(alloc, &untaken, path, WorkKind::Undo)),
+        Err(untaken) => Err(lock_error(alloc, &untaken, path, WorkKind::Undo)),
     }
 }

@@ -1,14 +1,14 @@
 //! Restoring a store that was taken.
-ghost use Rattle.std.specs.Prelude.{[], IfOk};
+ghost use Rattle.std.specs.Prelude.{[], true, IfOk, OnOk};
 ghost use Rattle.cs_schema.specs.FileNames.{surviving};
 ghost use Rattle.cs_shelf.specs.Shelf.{IsReadIn};
 ghost use Rattle.cs_restoring.specs.Restores.{WorksOnStore};
 
-use crate::ending::{LostStore, stop_by, stop_unended};
+use crate::ending::{LostStore, finish_error, restore_error, sync_error};
 use cs_rebuild::Run;
 use cs_restore::{Restored, restore};
 use cs_store::{Fault, Readable};
-use pinepolo_places::{GivenBack, Shelves, Stop};
+use pinepolo_places::{GivenBack, Shelves, VerbError, WorkKind};
 use pinepolo_progress::Progress;
 use std::alloc::Global;
 use std::marker::Sync;
@@ -21,10 +21,27 @@ pub fn leave<P: Shelves>(
     shelf: P::Shelf,
     store: &LostStore<'_>,
     fault: &Fault,
-) -> Stop {
+) -> VerbError {
     match places.give_back(shelf, false) {
-        Ok(given) => stop_by(alloc, store, fault, given),
-        Err(failure) => stop_unended(alloc, failure, store.path, store.verb),
+        Ok(given) => restore_error(alloc, store, fault, given),
+        Err(failure) => finish_error(alloc, failure, store.path, store.verb),
+    }
+}
+
+/// Gives a store back whose restore or undo is finished.
+pub fn finish<P: Shelves>(
+    alloc: Global,
+    places: &mut P,
+    shelf: P::Shelf,
+    path: &str,
+    verb: WorkKind,
+) -> Result<GivenBack, VerbError>
+    ensures { OnOk result (P.gives_back places.old shelf true places.new) }
+{
+    match places.give_back(shelf, true) {
+        Ok(given) if given.is_synced => Ok(given),
+        Ok(_) => Err(sync_error(alloc, path)),
+        Err(failure) => Err(finish_error(alloc, failure, path, verb)),
     }
 }
 
@@ -35,7 +52,7 @@ pub fn work<R: Threads + Sync, G: Progress + Sync, P: Shelves>(
     shelf: P::Shelf,
     store: &LostStore<'_>,
     read: Readable,
-) -> Result<(Restored, GivenBack), Stop>
+) -> Result<(Restored, GivenBack), VerbError>
     requires { IsReadIn (P.Shelf.holds shelf) (surviving store.now.catalog.now []) read.files read.unreadable.items }
     ensures { IfOk result (λ worked. WorksOnStore P.gives_back P.Shelf.holds P.Shelf.may_leave
         places.old store.now.catalog.now store.now.lost shelf worked.0.rows places.new) }
@@ -45,8 +62,8 @@ pub fn work<R: Threads + Sync, G: Progress + Sync, P: Shelves>(
         Ok(restored) => restored,
         Err(fault) => return Err(leave(run.alloc, places, shelf, store, &fault)),
     };
-    match places.give_back(shelf, true) {
+    match finish(run.alloc, places, shelf, store.path, store.verb) {
         Ok(given) => Ok((restored, given)),
-        Err(failure) => Err(stop_unended(run.alloc, failure, store.path, store.verb)),
+        Err(error) => Err(error),
     }
 }

@@ -6,7 +6,7 @@ ghost use Rattle.cs_verifying.specs.Promises.{DigestsStore};
 
 use cs_manifest::{Digested, digest_files, digest_of};
 use cs_schema::{Catalog, FileName};
-use pinepolo_places::{Places, Stop, find_store_text};
+use pinepolo_places::{Places, VerbError, find_store_text};
 use std::alloc::Global;
 
 /// The digests of a store.
@@ -25,13 +25,13 @@ pub fn digest_store<P: Places>(
     alloc: Global,
     places: &mut P,
     path: &str,
-) -> Result<StoreDigests, Stop>
+) -> Result<StoreDigests, VerbError>
     ensures { IfOk result (λ found. (bytes : List ℕ) × (found.digest ≡ digest bytes) × DigestsStore P.reads P.opens (standing P.Store.answers) (standing P.Store.fails)
         places.old path.now found.catalog bytes found.files.items places.new) }
 {
     let (catalog, bytes, source) = match find_store_text(alloc, places, path) {
         Ok(found) => found,
-        Err(stop) => return Err(stop),
+        Err(error) => return Err(error),
     };
     match digest_files(alloc, &catalog, &source) {
         Ok(files) => Ok(StoreDigests {
@@ -39,6 +39,6 @@ pub fn digest_store<P: Places>(
             digest: digest_of(bytes.as_slice()),
             files,
         }),
-        Err(_) => Err(Stop::Memory),
+        Err(_) => Err(VerbError::OutOfMemory),
     }
 }

@@ -2,7 +2,6 @@
 #![tactic(auto)]
 
 mod digests;
-mod file_line;
 mod listed;
 mod listing;
 mod objects;
@@ -11,7 +10,6 @@ mod trusting;
 mod verified;
 mod verifying;
 
-pub use file_line::FileLine;
 pub use listed::Listed;
 pub use listing::list;
 pub use objects::{listed_object, verified_object};

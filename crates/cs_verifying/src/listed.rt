@@ -3,8 +3,8 @@ ghost use Rattle.std.specs.Prelude.{◌≡◌};
 ghost use Rattle.std.specs.List.{list_any};
 ghost use Rattle.cs_verifying.specs.Statuses.{listed_status, is_missing, is_unread};
 
-use crate::file_line::FileLine;
 use cs_manifest::Digested;
+use cs_reports::{BadFile, FileProblem};
 use cs_schema::{Catalog, FileName};
 use pinepolo_places::{DEVICE, DONE, REFUSED};
 use std::fmt;
@@ -72,17 +72,13 @@ impl fmt::Display for Listed {
     fn fmt<W: fmt::Write>(&self, f: &mut fmt::Formatter<W>) -> fmt::Result {
         let catalog = &self.catalog;
         for (name, found) in &self.files {
-            let what = match found {
+            let problem = match found {
                 Digested::Found(_) => continue,
-                Digested::Missing => "missing",
-                Digested::Unreadable => "unreadable",
+                Digested::Missing => FileProblem::Missing,
+                Digested::Unreadable => FileProblem::Unreadable,
             };
-            let line = FileLine {
-                catalog,
-                name: *name,
-                what,
-            };
-            write!(f, "{line}")?;
+            let file = BadFile::new(catalog, *name, problem);
+            write!(f, "{file}")?;
         }
         Ok(())
     }

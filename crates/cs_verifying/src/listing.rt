@@ -6,17 +6,17 @@ ghost use Rattle.cs_verifying.specs.Promises.{ListsStore};
 use crate::digests::digest_store;
 use crate::listed::Listed;
 use cs_manifest::write_manifest;
-use pinepolo_places::{Places, Stop};
+use pinepolo_places::{Places, VerbError};
 use std::alloc::Global;
 
 /// The manifest of a store: its files that are there, with their digests; and those that are not.
-pub fn list<P: Places>(alloc: Global, places: &mut P, path: &str) -> Result<Listed, Stop>
+pub fn list<P: Places>(alloc: Global, places: &mut P, path: &str) -> Result<Listed, VerbError>
     ensures { IfOk result (λ listed. ListsStore P.reads P.opens (standing P.Store.answers) (standing P.Store.fails)
         places.old path.now listed places.new) }
 {
     let found = match digest_store(alloc, places, path) {
         Ok(found) => found,
-        Err(stop) => return Err(stop),
+        Err(error) => return Err(error),
     };
     match write_manifest(alloc, &found.digest, found.files.as_slice()) {
         Ok(text) => Ok(Listed {
@@ -24,6 +24,6 @@ pub fn list<P: Places>(alloc: Global, places: &mut P, path: &str) -> Result<List
             files: found.files,
             text,
         }),
-        Err(_) => Err(Stop::Memory),
+        Err(_) => Err(VerbError::OutOfMemory),
     }
 }

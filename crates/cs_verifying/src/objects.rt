@@ -1,10 +1,9 @@
 //! Answers on manifests as JSON.
 use crate::listed::Listed;
-use crate::verified::{Verified, difference_word};
+use crate::verified::{Verified, problem_of};
 use cs_manifest::{CATALOG, Difference};
-use cs_reports::object::{Object, number_or_null};
-use cs_reports::site_of;
-use cs_schema::FileName;
+use cs_reports::BadFile;
+use cs_reports::object::Object;
 use pinepolo_places::DONE;
 use serde_json::Value;
 use std::alloc::{AllocError, Global};
@@ -27,36 +26,21 @@ pub fn verified_object(alloc: Global, verified: &Verified) -> Result<Value, Allo
 /// The files that differ.
 fn difference_objects(alloc: Global, verified: &Verified) -> Result<Value, AllocError> {
     let mut list = Vec::new(alloc);
-    if let Some(how) = &verified.comparison.catalog {
+    if let Some(how) = verified.comparison.catalog {
         list.push(catalog_object(alloc, how)?)?;
     }
     for (name, how) in &verified.comparison.files {
-        list.push(difference_object(alloc, verified, *name, how)?)?;
+        let file = BadFile::new(&verified.catalog, *name, problem_of(*how));
+        list.push(file.object(alloc)?)?;
     }
     Ok(Value::Array(list))
 }
 
 /// The catalog, which differs.
-fn catalog_object(alloc: Global, how: &Difference) -> Result<Value, AllocError> {
+fn catalog_object(alloc: Global, how: Difference) -> Result<Value, AllocError> {
     Object::new(alloc)
         .text("path", CATALOG)
         .member("site", Ok(Value::Null))
-        .text("fault", difference_word(how))
-        .finish()
-}
-
-/// A file that differs.
-fn difference_object(
-    alloc: Global,
-    verified: &Verified,
-    name: FileName,
-    how: &Difference,
-) -> Result<Value, AllocError> {
-    let site = site_of(&verified.catalog, name.projection(), name.segment());
-    let path = name.path();
-    Object::new(alloc)
-        .text("path", path.as_str())
-        .member("site", Ok(number_or_null(site)))
-        .text("fault", difference_word(how))
+        .text("fault", problem_of(how).word())
         .finish()
 }

@@ -4,7 +4,7 @@ ghost use Rattle.cs_verifying.specs.Promises.{AreAllOf, ReadsManifest};
 
 use cs_manifest::{Manifest, ManifestFault, read_manifest};
 use cs_store::StoreFault;
-use pinepolo_places::{Stop, Tables, refused};
+use pinepolo_places::{Failure, Refusal, Tables, VerbError};
 use std::alloc::Global;
 use std::io;
 use std::io::Read;
@@ -35,30 +35,12 @@ fn all_bytes<I: Read + Drop>(alloc: Global, input: I) -> Result<Vec<u8>, StoreFa
     }
 }
 
-/// How a manifest ends a verb that could not be opened or read.
-fn unread(alloc: Global, path: &str) -> Stop {
-    let text = format!(in alloc;
-        "fault: read {path}\nnext: see that {path} is a file of less than 16 MiB that may be read\n"
-    );
-    match text {
-        Ok(text) => Stop::Device(text),
-        Err(_) => Stop::Memory,
-    }
-}
-
-/// How a text ends a verb that is no manifest.
-fn no_manifest(alloc: Global, path: &str, fault: ManifestFault) -> Stop {
-    if let ManifestFault::Memory = fault {
-        return Stop::Memory;
-    }
-    let text = format!(in alloc;
-        "fault: {path}: {fault}\nnext: give a manifest, as pinepolo manifest prints it\n"
-    );
-    refused(text.ok())
-}
-
 /// The manifest at this path.
-pub fn manifest_at<P: Tables>(alloc: Global, places: &mut P, path: &str) -> Result<Manifest, Stop>
+pub fn manifest_at<P: Tables>(
+    alloc: Global,
+    places: &mut P,
+    path: &str,
+) -> Result<Manifest, VerbError>
     ensures { IfOk result (λ manifest. ReadsManifest P.opens_table P.Input.remaining places.old path.now manifest places.new) }
 {
     let bytes = match places.table(path) {
@@ -67,11 +49,13 @@ pub fn manifest_at<P: Tables>(alloc: Global, places: &mut P, path: &str) -> Resu
     };
     let bytes = match bytes {
         Ok(bytes) => bytes,
-        Err(StoreFault::Memory) => return Err(Stop::Memory),
-        Err(StoreFault::Device) => return Err(unread(alloc, path)),
+        Err(fault) => {
+            return Err(VerbError::of_device(alloc, fault, Failure::ReadManifest, path));
+        }
     };
     match read_manifest(alloc, bytes.as_slice()) {
         Ok(manifest) => Ok(manifest),
-        Err(fault) => Err(no_manifest(alloc, path, fault)),
+        Err(ManifestFault::Memory) => Err(VerbError::OutOfMemory),
+        Err(fault) => Err(VerbError::refused_by(alloc, Refusal::NotManifest, path, &fault)),
     }
 }

@@ -9,7 +9,7 @@ use cs_manifest::{Manifest, digest_of};
 use cs_parallel_io::SharedSource;
 use cs_schema::FileName;
 use cs_store::StoreFault;
-use pinepolo_places::{Stop, Tables};
+use pinepolo_places::{Tables, VerbError};
 use std::alloc::Global;
 
 /// Whether a manifest says another digest than that of these bytes; of a path that it lacks it says none.
@@ -60,7 +60,7 @@ pub fn manifest_if<P: Tables>(
     alloc: Global,
     places: &mut P,
     path: Option<&str>,
-) -> Result<Manifest, Stop>
+) -> Result<Manifest, VerbError>
     ensures ok { IfOk result (λ manifest. MayReadManifest P.opens_table P.Input.remaining places.old (option_map (λ p. p.now) path.entry) manifest places.new) }
     ensures err { OnErr result (IsSome path.entry) }
 {

@@ -3,8 +3,8 @@ ghost use Rattle.std.specs.Prelude.{◌≡◌};
 ghost use Rattle.std.specs.List.{list_any};
 ghost use Rattle.cs_verifying.specs.Statuses.{verified_status, differing_status, is_unreadable};
 
-use crate::file_line::FileLine;
 use cs_manifest::{CATALOG, Comparison, Difference};
+use cs_reports::{BadFile, FileProblem};
 use cs_schema::{Catalog, FileName};
 use pinepolo_places::{DEVICE, DONE, REFUSED};
 use std::fmt;
@@ -27,13 +27,13 @@ fn is_unreadable(how: &Difference) -> bool
     matches!(how, Difference::Unreadable)
 }
 
-/// What a file is called that differs.
-pub fn difference_word(how: &Difference) -> &'static str {
+/// What is wrong with a file that differs.
+pub fn problem_of(how: Difference) -> FileProblem {
     match how {
-        Difference::Missing => "missing",
-        Difference::Unreadable => "unreadable",
-        Difference::NotNamed => "not named",
-        Difference::Changed => "changed",
+        Difference::Missing => FileProblem::Missing,
+        Difference::Unreadable => FileProblem::Unreadable,
+        Difference::NotNamed => FileProblem::NotNamed,
+        Difference::Changed => FileProblem::Changed,
     }
 }
 
@@ -69,17 +69,13 @@ impl Verified {
 impl fmt::Display for Verified {
     fn fmt<W: fmt::Write>(&self, f: &mut fmt::Formatter<W>) -> fmt::Result {
         let (catalog, comparison) = (&self.catalog, &self.comparison);
-        if let Some(how) = &comparison.catalog {
-            let what = difference_word(how);
-            writeln!(f, "{what}  {CATALOG}")?;
+        if let Some(how) = comparison.catalog {
+            let word = problem_of(how).word();
+            writeln!(f, "{word}  {CATALOG}")?;
         }
         for (name, how) in &comparison.files {
-            let line = FileLine {
-                catalog,
-                name: *name,
-                what: difference_word(how),
-            };
-            write!(f, "{line}")?;
+            let file = BadFile::new(catalog, *name, problem_of(*how));
+            write!(f, "{file}")?;
         }
         if self.status() == DONE {
             let files = self.files;

@@ -7,7 +7,7 @@ use crate::digests::digest_store;
 use crate::reading::manifest_at;
 use crate::verified::Verified;
 use cs_manifest::compare;
-use pinepolo_places::{Places, Stop, Tables};
+use pinepolo_places::{Places, Tables, VerbError};
 use std::alloc::Global;
 
 /// Which files of a store are not those of a manifest.
@@ -16,17 +16,17 @@ pub fn verify<P: Places + Tables>(
     places: &mut P,
     path: &str,
     manifest_path: &str,
-) -> Result<Verified, Stop>
+) -> Result<Verified, VerbError>
     ensures { IfOk result (λ verified. VerifiesStore P.reads P.opens (standing P.Store.answers) (standing P.Store.fails) P.opens_table P.Input.remaining
         places.old path.now manifest_path.now verified places.new) }
 {
     let manifest = match manifest_at(alloc, places, manifest_path) {
         Ok(manifest) => manifest,
-        Err(stop) => return Err(stop),
+        Err(error) => return Err(error),
     };
     let found = match digest_store(alloc, places, path) {
         Ok(found) => found,
-        Err(stop) => return Err(stop),
+        Err(error) => return Err(error),
     };
     match compare(alloc, &manifest, &found.digest, found.files.as_slice()) {
         Ok(comparison) => Ok(Verified {
@@ -34,6 +34,6 @@ pub fn verify<P: Places + Tables>(
             files: found.files.len() + 1,
             comparison,
         }),
-        Err(_) => Err(Stop::Memory),
+        Err(_) => Err(VerbError::OutOfMemory),
     }
 }

@@ -9,17 +9,27 @@ mod verbs;
 
 use anyhow::Result;
 use changes::changed;
+use pinepolo_args::parse;
 use pinepolo_folders::Folders;
-use verbs::answered;
+use verbs::{Asked, answer, refuse};
+
+/// How many processors there are.
+const PROCESSORS: u32 = 2;
 
 fn main(rt: HostRuntime) -> Result<()> {
-    let mut places = Folders::new(rt.alloc(), rt);
-    for line in rt.lines(rt.alloc()) {
+    let alloc = rt.alloc();
+    let mut places = Folders::new(alloc, rt);
+    for line in rt.lines(alloc) {
         let line = line?;
-        let words: Vec<&str> = line.split_whitespace().collect(rt.alloc())?;
+        let words: Vec<&str> = line.split_whitespace().collect(alloc)?;
         println!(rt; "$ {line}")?;
-        if !changed(&rt, words.as_slice())? {
-            answered(&rt, &mut places, words.as_slice())?;
+        if changed(&rt, words.as_slice())? {
+            continue;
+        }
+        let asked = Asked::new(alloc, words.as_slice())?;
+        match places.find_sites_of(parse(alloc, asked.words.as_slice(), PROCESSORS)) {
+            Ok(sited) => answer(&rt, &mut places, &sited, asked.is_full)?,
+            Err(error) => refuse(&rt, &error)?,
         }
     }
     Ok(())

@@ -1,15 +1,36 @@
 //! Verbs, with what they print.
 use anyhow::Result;
-use pinepolo_args::parse;
+use pinepolo_folders::{SitedRequest, SitesError, report_sites};
 use pinepolo_progress::OpenGate;
 use pinepolo_run::{Host, World, run};
+use std::alloc::Global;
 use std::io;
 use std::io::Write;
 use std::marker::Sync;
 use std::thread::Threads;
 
-/// How many processors there are.
-const PROCESSORS: u32 = 2;
+/// The words of a verb.
+#[derive(Drop)]
+pub struct Asked {
+    /// Whether its standard output takes nothing.
+    pub is_full: bool,
+    pub words: Vec<String>,
+}
+
+impl Asked {
+    /// The verb of a line. If the line begins with `full`, the verb's standard output takes nothing.
+    pub fn new(alloc: Global, line: &[&str]) -> Result<Self> {
+        let (is_full, verb) = match line {
+            ["full", verb @ ..] => (true, verb),
+            verb => (false, verb),
+        };
+        let mut words = Vec::new(alloc);
+        for word in verb {
+            words.push(String::from_str(alloc, word)?)?;
+        }
+        Ok(Self { is_full, words })
+    }
+}
 
 /// A stream that takes nothing.
 #[derive(Drop)]
@@ -25,52 +46,43 @@ impl Write for Full {
     }
 }
 
-/// Runs a verb over the places, and gives its status.
-fn run_over<R, P, W, E>(
-    rt: &R,
-    places: &mut P,
-    words: &[&str],
-    out: &mut W,
-    err: &mut E,
-) -> Result<u8>
-where
-    R: Threads + Sync + AllocGlobal,
-    P: World,
-    W: Write,
-    E: Write,
-{
-    let alloc = rt.alloc();
-    let mut owned = Vec::new(alloc);
-    for word in words {
-        owned.push(String::from_str(alloc, word)?)?;
-    }
-    let host = Host {
-        rt,
-        alloc,
-        gate: &OpenGate,
-    };
-    let parsed = parse(alloc, owned.as_slice(), PROCESSORS);
-    Ok(run(&host, &parsed, places, out, err))
-}
-
-/// Runs a verb over the places, and prints its lines and its status. Words that begin with `full` are those of a verb
-/// whose standard output takes nothing.
-pub fn answered<R: Threads + Sync + AllocGlobal + Print, P: World>(
-    rt: &R,
-    places: &mut P,
-    words: &[&str],
-) -> Result<()> {
-    let alloc = rt.alloc();
-    let mut out = Vec::new(alloc);
-    let mut err = Vec::new(alloc);
-    let status = match words {
-        ["full", verb @ ..] => run_over(rt, places, verb, &mut Full, &mut err)?,
-        verb => run_over(rt, places, verb, &mut out, &mut err)?,
-    };
-    let out = String::from_utf8_lossy(alloc, out.as_slice())?;
-    let err = String::from_utf8_lossy(alloc, err.as_slice())?;
+/// Prints what a verb printed, and its status.
+fn print_answer<R: AllocGlobal + Print>(rt: &R, out: &[u8], err: &[u8], status: u8) -> Result<()> {
+    let out = String::from_utf8_lossy(rt.alloc(), out)?;
+    let err = String::from_utf8_lossy(rt.alloc(), err)?;
     let (out, err) = (out.as_str(), err.as_str());
     print!(rt; "{out}{err}")?;
     println!(rt; "status {status}")?;
     Ok(())
+}
+
+/// Runs a verb over the places, and prints its lines and its status.
+pub fn answer<R: Threads + Sync + AllocGlobal + Print, P: World>(
+    rt: &R,
+    places: &mut P,
+    sited: &SitedRequest<'_>,
+    is_full: bool,
+) -> Result<()> {
+    let alloc = rt.alloc();
+    let host = Host {
+        rt,
+        alloc,
+        gate: &OpenGate,
+        sites: sited.sites(),
+    };
+    let mut out = Vec::new(alloc);
+    let mut err = Vec::new(alloc);
+    let status = if is_full {
+        run(&host, sited.parsed(), places, &mut Full, &mut err)
+    } else {
+        run(&host, sited.parsed(), places, &mut out, &mut err)
+    };
+    print_answer(rt, out.as_slice(), err.as_slice(), status)
+}
+
+/// Prints why the folders of a store's sites are refused, and the status.
+pub fn refuse<R: AllocGlobal + Print>(rt: &R, error: &SitesError) -> Result<()> {
+    let mut err = Vec::new(rt.alloc());
+    let status = report_sites(error, &mut err);
+    print_answer(rt, &[], err.as_slice(), status)
 }

@@ -4,9 +4,9 @@
 #![tactic(auto)]
 
 use pinepolo_args::parse;
-use pinepolo_folders::Folders;
+use pinepolo_folders::{Folders, report_sites};
 use pinepolo_progress::ProgressLine;
-use pinepolo_run::{CUT, Host, Stop, report, run};
+use pinepolo_run::{CUT, Host, VerbError, report, run};
 use std::io::IsTerminal;
 use std::process::ExitCode;
 use std::{env, io, thread};
@@ -23,22 +23,30 @@ fn main(rt: HostRuntime) -> ExitCode {
     let mut out = rt.stdout();
     let mut err = rt.stderr();
     let gate = ProgressLine::new(rt, err, err.is_terminal(), u64::from(CUT));
-    let host = Host {
-        rt: &rt,
-        alloc,
-        gate: &gate,
-    };
     let mut places = Folders::new(alloc, rt);
     let status = match env::args(&rt) {
         Ok(args) => match args.skip(1).collect::<Vec<String>>(alloc) {
             Ok(words) => {
-                let parsed = parse(alloc, words.as_slice(), processors);
-                run(&host, &parsed, &mut places, &mut out, &mut err)
+                match places.find_sites_of(parse(alloc, words.as_slice(), processors)) {
+                    Ok(sited) => {
+                        let host = Host {
+                            rt: &rt,
+                            alloc,
+                            gate: &gate,
+                            sites: sited.sites(),
+                        };
+                        run(&host, sited.parsed(), &mut places, &mut out, &mut err)
+                    }
+                    Err(error) => report_sites(&error, &mut err),
+                }
             }
-            Err(_) => report(&Stop::Memory, &mut err),
+            Err(_) => report(&VerbError::OutOfMemory, &mut err),
         },
-        Err(e) if e.kind() == io::ErrorKind::OutOfMemory => report(&Stop::Memory, &mut err),
-        Err(_) => report(&Stop::Words, &mut err),
+        Err(e) if e.kind() == io::ErrorKind::OutOfMemory => report(
+            &VerbError::OutOfMemory,
+            &mut err,
+        ),
+        Err(_) => report(&VerbError::NotUtf8, &mut err),
     };
     ExitCode::from(status)
 }

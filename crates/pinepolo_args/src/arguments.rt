@@ -1,92 +1,5 @@
 //! The arguments of the verbs.
-use clap::{Arg, ArgAction, value_parser};
-use std::alloc::{AllocError, Global};
-
-/// What a value is.
-#[derive(Clone, Copy)]
-pub enum Value {
-    /// A text.
-    Text,
-    /// A number from the first to the second.
-    Number(i64, i64),
-    /// Sites from 1 to 16, with commas between them.
-    Sites,
-}
-
-/// How an argument is given.
-#[derive(Clone, Copy)]
-pub enum Form {
-    /// `--ID`.
-    Flag,
-    /// `--ID VALUE`: what the help calls the value, and what it is.
-    Named(&'static str, Value),
-    /// A word by its place, or several if they are sites: what the help calls it, and what it is.
-    Positional(&'static str, Value),
-}
-
-/// Whether an argument must be given.
-#[derive(Clone, Copy)]
-pub enum Presence {
-    /// It must be given.
-    Required,
-    /// It must be given unless the argument with this id is.
-    RequiredUnless(&'static str),
-    /// It may be left out.
-    Optional,
-    /// It may be left out, and must not be given together with the arguments with these ids.
-    Excludes(&'static [&'static str]),
-}
-
-/// An argument of some verbs.
-#[derive(Clone, Copy)]
-pub struct Argument {
-    /// Identifies its value; also the name of a flag or an option.
-    pub id: &'static str,
-    pub form: Form,
-    pub presence: Presence,
-    pub help: &'static str,
-    /// The verbs that take it.
-    pub verbs: &'static [&'static str],
-}
-
-fn with_value<'a>(arg: Arg<'a>, value: Value) -> Arg<'a> {
-    match value {
-        Value::Text => arg,
-        Value::Number(least, most) => arg.value_parser(value_parser!(u32).range(least..=most)),
-        Value::Sites => arg
-            .action(ArgAction::Append)
-            .value_parser(value_parser!(u8).range(1..=16))
-            .value_delimiter(','),
-    }
-}
-
-fn with_form<'a>(arg: Arg<'a>, id: &'static str, form: Form) -> Arg<'a> {
-    match form {
-        Form::Flag => arg.long(id).action(ArgAction::SetTrue),
-        Form::Named(name, value) => with_value(arg.long(id).value_name(name), value),
-        Form::Positional(name, Value::Sites) => {
-            with_value(arg.value_name(name).num_args(1..), Value::Sites)
-        }
-        Form::Positional(name, value) => with_value(arg.value_name(name), value),
-    }
-}
-
-fn with_presence<'a>(arg: Arg<'a>, presence: Presence) -> Result<Arg<'a>, AllocError> {
-    match presence {
-        Presence::Required => Ok(arg.required(true)),
-        Presence::RequiredUnless(id) => arg.required_unless_present(id),
-        Presence::Optional => Ok(arg),
-        Presence::Excludes(ids) => arg.conflicts_with_all(ids),
-    }
-}
-
-impl Argument {
-    /// The argument as clap knows it.
-    pub fn to_arg<'a>(&self, alloc: Global) -> Result<Arg<'a>, AllocError> {
-        let arg = Arg::new(alloc, self.id).help(self.help);
-        with_presence(with_form(arg, self.id, self.form), self.presence)
-    }
-}
+use crate::argument::{Argument, Form, Presence, Value};
 
 /// The greatest number of 32 bits.
 const U32_MAX: i64 = 4_294_967_295;
@@ -111,14 +24,14 @@ pub const ARGUMENTS: &[Argument] = &[
         id: "resume",
         form: Form::Flag,
         presence: Presence::Excludes(&["lost", "dry-run"]),
-        help: "Go on with the restore that was not finished",
+        help: "Resume the unfinished restore",
         verbs: &["restore"],
     },
     Argument {
         id: "resume",
         form: Form::Flag,
         presence: Presence::Excludes(&["kept"]),
-        help: "Go on with the undo that was not finished",
+        help: "Resume the unfinished undo",
         verbs: &["undo"],
     },
     Argument {
@@ -143,6 +56,13 @@ pub const ARGUMENTS: &[Argument] = &[
         verbs: &["diagnose"],
     },
     Argument {
+        id: "lose",
+        form: Form::Named("N", Value::Number(1, 16)),
+        presence: Presence::Optional,
+        help: "Try losses of at most N sites, 1 to 16 [default: as many as the catalog allows]",
+        verbs: &["drill"],
+    },
+    Argument {
         id: "disputes",
         form: Form::Named("N", Value::Number(0, U32_MAX)),
         presence: Presence::Optional,
@@ -164,21 +84,31 @@ pub const ARGUMENTS: &[Argument] = &[
         verbs: &["verify"],
     },
     Argument {
+        id: "sites",
+        form: Form::Named("FILE", Value::Text),
+        presence: Presence::Optional,
+        help: "The sites of the store stand in the folders that this file names",
+        verbs: &[
+            "check", "show", "diagnose", "drill", "recover", "manifest", "verify", "design", "dump",
+        ],
+    },
+    Argument {
         id: "workers",
         form: Form::Named("N", Value::Number(1, 64)),
         presence: Presence::Optional,
         help: "Workers, 1 to 64 [default: the number of processors, at most 64]",
         verbs: &[
-            "check", "diagnose", "recover", "restore", "load", "dump", "relayout",
+            "check", "diagnose", "drill", "recover", "restore", "load", "dump", "relayout",
         ],
     },
     Argument {
         id: "quiet",
         form: Form::Flag,
         presence: Presence::Optional,
-        help: "Show no line on a terminal that tells how far it has come",
+        help: "Show no progress",
         verbs: &[
-            "check", "show", "diagnose", "recover", "restore", "undo", "load", "dump", "relayout",
+            "check", "show", "diagnose", "drill", "recover", "restore", "undo", "load", "dump",
+            "relayout",
         ],
     },
     Argument {
@@ -187,23 +117,30 @@ pub const ARGUMENTS: &[Argument] = &[
         presence: Presence::Optional,
         help: "Answer with one object of JSON",
         verbs: &[
-            "check", "show", "diagnose", "recover", "restore", "undo", "verify", "design", "load",
-            "relayout",
+            "check", "show", "diagnose", "drill", "recover", "restore", "undo", "verify", "design",
+            "load", "relayout",
         ],
     },
     Argument {
         id: "replace-partial",
         form: Form::Flag,
         presence: Presence::Optional,
-        help: "Replace what an earlier run began there and did not end",
+        help: "Replace what an unfinished run left there",
         verbs: &["load", "relayout"],
     },
     Argument {
         id: "svg",
-        form: Form::Named("FILE", Value::Text),
+        form: Form::Named("SVG", Value::Text),
         presence: Presence::Optional,
         help: "Write a picture of the placement to this file",
         verbs: &["design"],
+    },
+    Argument {
+        id: "svg",
+        form: Form::Named("SVG", Value::Text),
+        presence: Presence::Excludes(&["file"]),
+        help: "Write a picture of the store to this file: the placement, each segment in the colour of its state",
+        verbs: &["show"],
     },
     Argument {
         id: "store",
@@ -211,8 +148,8 @@ pub const ARGUMENTS: &[Argument] = &[
         presence: Presence::Required,
         help: "The folder of the store",
         verbs: &[
-            "check", "show", "diagnose", "recover", "restore", "undo", "manifest", "verify",
-            "dump", "relayout",
+            "check", "show", "diagnose", "drill", "recover", "restore", "undo", "manifest",
+            "verify", "dump", "relayout",
         ],
     },
     Argument {
@@ -247,7 +184,7 @@ pub const ARGUMENTS: &[Argument] = &[
         id: "file",
         form: Form::Positional("FILE", Value::Text),
         presence: Presence::Optional,
-        help: "The name of one of its files, as p0.s1.seg",
+        help: "The name of one of its files, such as p0.s1.seg",
         verbs: &["show"],
     },
     Argument {
@@ -281,8 +218,8 @@ pub const ARGUMENTS: &[Argument] = &[
     Argument {
         id: "lost",
         form: Form::Positional("SITE", Value::Sites),
-        presence: Presence::RequiredUnless("resume"),
-        help: "The sites that are lost, each 1 to 16",
+        presence: Presence::Optional,
+        help: "The sites that are lost, each 1 to 16 [default: those that a diagnosis finds]",
         verbs: &["restore"],
     },
 ];

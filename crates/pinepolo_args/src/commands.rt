@@ -1,5 +1,6 @@
 //! The program and its verbs as clap knows them.
-use crate::arguments::{ARGUMENTS, Argument};
+use crate::argument::Argument;
+use crate::arguments::ARGUMENTS;
 use crate::help;
 use clap::{Command, Error};
 use std::alloc::Global;
@@ -9,6 +10,7 @@ const VERBS: &[(&str, &str)] = &[
     ("check", help::CHECK),
     ("show", help::SHOW),
     ("diagnose", help::DIAGNOSE),
+    ("drill", help::DRILL),
     ("recover", help::RECOVER),
     ("restore", help::RESTORE),
     ("undo", help::UNDO),

@@ -4,6 +4,7 @@
 //! a usage error with the usage of the verb.
 #![tactic(auto)]
 
+mod argument;
 mod arguments;
 mod commands;
 mod help;
@@ -15,6 +16,6 @@ mod verbs;
 
 pub use parsing::{ParseExit, parse};
 pub use request::{
-    CheckArgs, DesignArgs, DiagnoseArgs, DumpArgs, LoadArgs, ManifestArgs, RecoverArgs,
+    CheckArgs, DesignArgs, DiagnoseArgs, DrillArgs, DumpArgs, LoadArgs, ManifestArgs, RecoverArgs,
     RelayoutArgs, Request, RestoreArgs, ShowArgs, UndoArgs, Verb, VerifyArgs,
 };

@@ -34,6 +34,7 @@ pub struct Options<'a> {
     pub quiet: bool,
     pub replaces: bool,
     pub resumes: bool,
+    pub sites: Option<&'a str>,
     pub store: Option<&'a str>,
     pub svg: Option<&'a str>,
     pub table: Option<&'a str>,
@@ -53,11 +54,14 @@ fn workers_of(found: &ArgMatches<'_>, processors: u32) -> u32
         .max(1)
 }
 
-/// The greatest number of sites of a loss that is tried, within the limit.
+/// The greatest number of sites of a loss that is tried, which `diagnose` and `drill` call by these names, within the limit.
 fn at_most_of(found: &ArgMatches<'_>) -> Option<u8>
     ensures { IfSome result (λ n. n ≤ 16) }
 {
-    match found.get_one::<u8>("at-most") {
+    match found
+        .get_one::<u8>("at-most")
+        .or(found.get_one::<u8>("lose"))
+    {
         Some(sites) => Some(sites.min(SITE_LIMIT)),
         None => None,
     }
@@ -85,6 +89,7 @@ impl<'a> Options<'a> {
             quiet: found.get_flag("quiet"),
             replaces: found.get_flag("replace-partial"),
             resumes: found.get_flag("resume"),
+            sites: found.get_str("sites"),
             store: found.get_str("store"),
             svg: found.get_str("svg"),
             table: found.get_str("table"),

@@ -47,7 +47,10 @@ fn parse_found<'a>(
     ensures { IfErr result (λ exit. IsHelp exit → IsErrAnd found.entry (λ error. AsksForHelp (kind_of error))) }
 {
     match found {
-        Ok(matches) => request_of(alloc, &matches, processors),
+        Ok(matches) => match request_of(alloc, &matches, processors) {
+            Ok(request) => Ok(request),
+            Err(exit) => Err(with_usage(alloc, words, exit)),
+        },
         Err(error) => Err(with_usage(alloc, words, exit_of(alloc, &error))),
     }
 }
@@ -62,7 +65,7 @@ fn request_of<'a>(
 {
     match requested(matches, processors) {
         Some(request) => Ok(request),
-        None => Err(nothing_asked(alloc)),
+        None => Err(nothing_asked(alloc, matches)),
     }
 }
 
@@ -80,6 +83,7 @@ fn requested<'a>(matches: &ArgMatches<'a>, processors: u32) -> Option<Request<'a
         workers: options.workers,
         json: options.json,
         quiet: options.quiet,
+        sites: options.sites,
     })
 }
 
@@ -103,10 +107,19 @@ fn exit_of(alloc: Global, error: &Error) -> ParseExit
 }
 
 /// The error for words that clap accepts, but that are no verb with its arguments.
-fn nothing_asked(alloc: Global) -> ParseExit
+fn nothing_asked(alloc: Global, matches: &ArgMatches<'_>) -> ParseExit
     ensures { ¬ IsHelp result }
 {
-    match String::from_str(alloc, "error: these words ask for nothing\n") {
+    let accepts_loss = match matches.subcommand() {
+        Some((_name, found)) => found.get_flag("accept-loss"),
+        None => false,
+    };
+    let text = if accepts_loss {
+        "error: --accept-loss needs each SITE that is known to be gone\n"
+    } else {
+        "error: no command given\n"
+    };
+    match String::from_str(alloc, text) {
         Ok(text) => ParseExit::Usage(text),
         Err(_) => ParseExit::OutOfMemory,
     }

@@ -1,7 +1,7 @@
 //! A verb with the arguments that were found.
 use crate::options::Options;
 use crate::request::{
-    CheckArgs, DesignArgs, DiagnoseArgs, DumpArgs, LoadArgs, ManifestArgs, RecoverArgs,
+    CheckArgs, DesignArgs, DiagnoseArgs, DrillArgs, DumpArgs, LoadArgs, ManifestArgs, RecoverArgs,
     RelayoutArgs, RestoreArgs, ShowArgs, UndoArgs, Verb, VerifyArgs,
 };
 
@@ -44,9 +44,14 @@ fn verb_on_store<'a>(name: &str, options: &Options<'a>) -> Option<Verb<'a>> {
             k: options.k,
             store,
         })),
+        "drill" => Some(Verb::Drill(DrillArgs {
+            at_most: options.at_most,
+            store,
+        })),
         "show" => Some(Verb::Show(ShowArgs {
             store,
             file: options.file,
+            svg: options.svg,
         })),
         "diagnose" => Some(Verb::Diagnose(DiagnoseArgs {
             at_most: options.at_most,
@@ -71,6 +76,8 @@ fn verb_on_store<'a>(name: &str, options: &Options<'a>) -> Option<Verb<'a>> {
 /// The verb of this name that changes a store in place.
 fn verb_in_place<'a>(name: &str, options: &Options<'a>, store: &'a str) -> Option<Verb<'a>> {
     match name {
+        // a loss is accepted site by site
+        "restore" if options.accepts_loss && !options.resumes && options.lost.count() == 0 => None,
         "restore" => Some(Verb::Restore(RestoreArgs {
             is_dry_run: options.is_dry_run,
             accepts_loss: options.accepts_loss,

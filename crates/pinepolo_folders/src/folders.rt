@@ -2,17 +2,16 @@
 ghost use Rattle.std.specs.Prelude.{◌≡◌, ◌≤◌, ⊤, IsErrOf};
 ghost use Rattle.cs_store.specs.Fault.{CountsFault};
 
-use crate::listing::names_in;
+use crate::listing::names_in_all;
 use crate::rebuilt::rebuilt_names;
+use crate::sites::SiteFolders;
 use cs_folder_work::{FolderShelf, Taken, resume, take, take_undo, unfinished_kind};
-use cs_folders::{
-    FileLimits, NewStoreFolder, OutputFolder, StoreFolder, open_text, read_catalog_file, way_to,
-    write_whole,
-};
+use cs_folders::{FileLimits, OutputFolder, StoreFolder, read_catalog_file, write_whole};
 use cs_schema::{Catalog, Loss};
+use cs_sites::SitedSource;
 use cs_store::StoreFault;
 use pinepolo_places::{
-    GivenBack, Listings, Places, Shelves, Tables, UndoOf, Undoable, Untaken, Way, Work, WorkKind,
+    GivenBack, Listings, Places, RestoreOf, Shelves, UndoOf, Undoable, Untaken, Work, WorkKind,
 };
 use pinepolo_run::World;
 use std::alloc::{AllocError, Global};
@@ -24,9 +23,11 @@ use std::time::Clock;
 /// The folders of the system, with the number of faults that were met in finding and making what stands in them.
 #[derive(Drop)]
 pub struct Folders<R> {
-    alloc: Global,
-    rt: R,
+    pub(crate) alloc: Global,
+    pub(crate) rt: R,
     faults: u64,
+    /// The folders of the sites of the store that is read, if they have folders of their own.
+    pub(crate) sites: Option<SiteFolders>,
 }
 
 impl<R> Folders<R> {
@@ -36,6 +37,7 @@ impl<R> Folders<R> {
             alloc,
             rt,
             faults: 0,
+            sites: None,
         }
     }
 }
@@ -57,7 +59,7 @@ impl<R: Files + Copy> Folders<R> {
     }
 
     /// Counts a fault of the device in what was answered.
-    fn told<T>(&mut self, answer: Result<T, StoreFault>) -> Result<T, StoreFault>
+    pub(crate) fn told<T>(&mut self, answer: Result<T, StoreFault>) -> Result<T, StoreFault>
         ensures device { IsErrOf result StoreFault.Device → CountsFault self.old.faults self.new.faults }
         ensures counted { self.old.faults ≤ self.new.faults }
     {
@@ -72,7 +74,7 @@ impl<R: Files + Copy> Folders<R> {
 }
 
 impl<R: Files + Copy + Sync> Places for Folders<R> {
-    type Store = StoreFolder<R>;
+    type Store = SitedSource<StoreFolder<R>>;
 
     type Output = OutputFolder<R>;
 
@@ -91,20 +93,38 @@ impl<R: Files + Copy + Sync> Places for Folders<R> {
     ghost fault_count = { λ s. s.faults };
 
     fn catalog(&mut self, path: &str) -> Result<Vec<u8>, StoreFault> {
-        let read = match StoreFolder::new(self.alloc, self.rt, path, FileLimits::Fixed) {
-            Ok(mut folder) => folder.catalog(),
-            Err(_) => Err(StoreFault::Memory),
+        let read = match self.kept_catalog() {
+            Some(Ok(bytes)) => Ok(Some(bytes)),
+            Some(Err(fault)) => Err(fault),
+            None => match StoreFolder::new(self.alloc, self.rt, path, FileLimits::Fixed) {
+                Ok(mut folder) => folder.catalog(),
+                Err(_) => Err(StoreFault::Memory),
+            },
         };
         self.found(read)
     }
 
     fn catalog_or_file(&mut self, path: &str) -> Result<Vec<u8>, StoreFault> {
-        let read = read_catalog_file(self.alloc, &self.rt, path);
+        let read = match self.kept_catalog() {
+            Some(Ok(bytes)) => Ok(Some(bytes)),
+            Some(Err(fault)) => Err(fault),
+            None => read_catalog_file(self.alloc, &self.rt, path),
+        };
         self.found(read)
     }
 
-    fn files(&self, path: &str, catalog: &Catalog) -> Result<StoreFolder<R>, AllocError> {
-        StoreFolder::new(self.alloc, self.rt, path, FileLimits::of(catalog))
+    fn files(
+        &self,
+        path: &str,
+        catalog: &Catalog,
+    ) -> Result<SitedSource<StoreFolder<R>>, AllocError> {
+        let limits = FileLimits::of(catalog);
+        let mut sources = Vec::new(self.alloc);
+        for site in 0..catalog.sites {
+            let source = self.source_at(path, site + 1, limits)?;
+            sources.push(source)?;
+        }
+        SitedSource::new(self.alloc, catalog, sources)
     }
 
     fn output(&mut self, path: &str) -> Result<OutputFolder<R>, StoreFault> {
@@ -128,7 +148,7 @@ impl<R: Files + Alloc + Copy + Drop + Sync> Listings for Folders<R> {
     ghost leaves = { λ s path kind. ⊤ };
 
     fn names(&mut self, path: &str) -> Result<Vec<String>, StoreFault> {
-        let names = names_in(self.alloc, &self.rt, path);
+        let names = names_in_all(self.alloc, &self.rt, path, &self.sites);
         self.told(names)
     }
 
@@ -137,48 +157,34 @@ impl<R: Files + Alloc + Copy + Drop + Sync> Listings for Folders<R> {
     }
 }
 
-impl<R: Files + Copy> Tables for Folders<R> {
-    type Input = R::File;
-
-    type NewStore = NewStoreFolder<R>;
-
-    ghost opens_table = { λ s path input t. ⊤ };
-
-    ghost begins = { λ s path catalog store t. ⊤ };
-
-    ghost writes_table = { λ s path text t. ⊤ };
-
-    fn way(&self, path: &str) -> Result<Way, StoreFault> {
-        way_to(self.alloc, &self.rt, path)
-    }
-
-    fn table(&mut self, path: &str) -> Result<R::File, StoreFault> {
-        let opened = open_text(&self.rt, path);
-        self.told(opened)
-    }
-
-    fn new_store(&mut self, path: &str, catalog: &[u8]) -> Result<NewStoreFolder<R>, StoreFault> {
-        let made = NewStoreFolder::make(self.alloc, self.rt, path, catalog);
-        self.told(made)
-    }
-
-    fn write_table(&mut self, path: &str, text: &[u8]) -> Result<(), StoreFault> {
-        let written = write_whole(self.alloc, &self.rt, path, text);
-        self.told(written)
-    }
-}
-
 impl<R: Files + Copy + Drop> Folders<R> {
-    /// The store at this path, to be looked at alone.
-    fn shelf(&self, path: &str, catalog: &Catalog) -> Result<FolderShelf<R>, StoreFault> {
-        FolderShelf::new(self.alloc, self.rt, path, FileLimits::of(catalog))
+    /// The store at this path, to be looked at alone, of which files of these sites may change.
+    fn shelf(
+        &self,
+        path: &str,
+        catalog: &Catalog,
+        lost: Loss,
+    ) -> Result<FolderShelf<R>, StoreFault> {
+        match rebuilt_names(self.alloc, catalog, lost) {
+            Ok(names) => FolderShelf::new(
+                self.alloc,
+                self.rt,
+                path,
+                FileLimits::of(catalog),
+                names,
+            ),
+            Err(_) => Err(StoreFault::Memory),
+        }
     }
 }
 
-/// The sites whose loss a store was taken to restore, if it was.
-fn lost_of(taken: &Taken) -> Option<Loss> {
+/// What a store was taken to restore, if it was.
+fn restore_of(taken: &Taken) -> Option<RestoreOf> {
     match taken.record.work {
-        Work::Restore(lost) => Some(lost),
+        Work::Restore(lost) => Some(RestoreOf {
+            lost,
+            accepts_loss: taken.record.accepts_loss,
+        }),
         Work::Undo(_) => None,
     }
 }
@@ -186,7 +192,7 @@ fn lost_of(taken: &Taken) -> Option<Loss> {
 impl<R: Files<File = File> + Alloc + Clock + Copy + Drop + Sync> Shelves for Folders<R> {
     type Shelf = FolderShelf<R>;
 
-    ghost takes_store = { λ s path catalog lost store t. ⊤ };
+    ghost takes_store = { λ s path catalog of store t. ⊤ };
 
     ghost takes_undo = { λ s path catalog asked back names store t. ⊤ };
 
@@ -198,34 +204,33 @@ impl<R: Files<File = File> + Alloc + Clock + Copy + Drop + Sync> Shelves for Fol
         &mut self,
         path: &str,
         catalog: &Catalog,
-        lost: Loss,
+        of: RestoreOf,
     ) -> Result<FolderShelf<R>, Untaken> {
-        let shelf = match self.shelf(path, catalog) {
+        let shelf = match self.shelf(path, catalog, of.lost) {
             Ok(shelf) => shelf,
             Err(_) => return Err(Untaken::Memory),
         };
-        let Ok(names) = rebuilt_names(self.alloc, catalog, lost) else {
-            return Err(Untaken::Memory);
-        };
-        match take(self.alloc, &self.rt, path, Work::Restore(lost)) {
-            Ok(taken) => Ok(shelf.taken_by(taken, names)),
+        let work = Work::Restore(of.lost);
+        match take(self.alloc, &self.rt, path, work, of.accepts_loss) {
+            Ok(taken) => Ok(shelf.taken_by(taken)),
             Err(untaken) => Err(untaken),
         }
     }
 
-    fn resume(&mut self, path: &str, catalog: &Catalog) -> Result<(FolderShelf<R>, Loss), Untaken> {
+    fn resume(
+        &mut self,
+        path: &str,
+        catalog: &Catalog,
+    ) -> Result<(FolderShelf<R>, RestoreOf), Untaken> {
         let taken = match resume(self.alloc, &self.rt, path) {
             Ok(taken) => taken,
             Err(untaken) => return Err(untaken),
         };
-        let Some(lost) = lost_of(&taken) else {
+        let Some(of) = restore_of(&taken) else {
             return Err(Untaken::UnfinishedUndo);
         };
-        let Ok(names) = rebuilt_names(self.alloc, catalog, lost) else {
-            return Err(Untaken::Memory);
-        };
-        match self.shelf(path, catalog) {
-            Ok(shelf) => Ok((shelf.taken_by(taken, names), lost)),
+        match self.shelf(path, catalog, of.lost) {
+            Ok(shelf) => Ok((shelf.taken_by(taken), of)),
             Err(_) => Err(Untaken::Memory),
         }
     }
@@ -236,18 +241,23 @@ impl<R: Files<File = File> + Alloc + Clock + Copy + Drop + Sync> Shelves for Fol
         catalog: &Catalog,
         asked: UndoOf,
     ) -> Result<(FolderShelf<R>, Undoable), Untaken> {
-        let shelf = match self.shelf(path, catalog) {
+        let shelf = match self.shelf(path, catalog, Loss::none()) {
             Ok(shelf) => shelf,
             Err(_) => return Err(Untaken::Memory),
         };
         match take_undo(self.alloc, &self.rt, path, asked, FileLimits::of(catalog)) {
-            Ok((taken, undoable)) => Ok((shelf.taken_by(taken, Vec::new(self.alloc)), undoable)),
+            Ok((taken, undoable)) => Ok((shelf.taken_by(taken), undoable)),
             Err(untaken) => Err(untaken),
         }
     }
 
-    fn look(&self, path: &str, catalog: &Catalog) -> Result<FolderShelf<R>, StoreFault> {
-        self.shelf(path, catalog)
+    fn look(
+        &self,
+        path: &str,
+        catalog: &Catalog,
+        lost: Loss,
+    ) -> Result<FolderShelf<R>, StoreFault> {
+        self.shelf(path, catalog, lost)
     }
 
     fn give_back(
@@ -257,9 +267,10 @@ impl<R: Files<File = File> + Alloc + Clock + Copy + Drop + Sync> Shelves for Fol
     ) -> Result<GivenBack, StoreFault> {
         let is_unfinished = store.has_changed() && !is_finished;
         match store.give_back(is_finished) {
-            Ok(kept) => Ok(GivenBack {
-                kept,
+            Ok(ended) => Ok(GivenBack {
+                kept: ended.kept,
                 is_unfinished,
+                is_synced: ended.is_synced,
             }),
             Err(fault) => Err(fault),
         }

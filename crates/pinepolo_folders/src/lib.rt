@@ -2,8 +2,16 @@
 //! taken or written proves none of them anew.
 #![tactic(auto)]
 
+mod copies;
 mod folders;
 mod listing;
+mod meter;
 mod rebuilt;
+mod sites;
+mod sites_error;
+mod siting;
+mod tables;
 
 pub use folders::Folders;
+pub use sites_error::{CatalogCopy, SitesError, report_sites};
+pub use siting::SitedRequest;

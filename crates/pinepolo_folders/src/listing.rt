@@ -1,4 +1,5 @@
-//! The names in a folder of the system.
+//! The names in folders of the system.
+use crate::sites::SiteFolders;
 use cs_store::StoreFault;
 use std::alloc::Global;
 use std::rt::Files;
@@ -52,4 +53,50 @@ pub fn names_in<R: Files + Alloc + Clone + Drop>(
     }
     names.sort_unstable();
     Ok(names)
+}
+
+/// Adds the names of what stands in a folder.
+fn add_names<R: Files + Alloc + Clone + Drop>(
+    alloc: Global,
+    rt: &R,
+    path: &str,
+    all: &mut Vec<String>,
+) -> Result<(), StoreFault> {
+    let names = match names_in(alloc, rt, path) {
+        Ok(names) => names,
+        Err(fault) => return Err(fault),
+    };
+    for name in names {
+        if all.push(name).is_err() {
+            return Err(StoreFault::Memory);
+        }
+    }
+    Ok(())
+}
+
+/// The names of what stands in the folder of a store, and in those of its sites that are not away, ascending and each once.
+/// If sites have folders of their own, the store needs none.
+pub fn names_in_all<R: Files + Alloc + Clone + Drop>(
+    alloc: Global,
+    rt: &R,
+    path: &str,
+    sites: &Option<SiteFolders>,
+) -> Result<Vec<String>, StoreFault> {
+    let Some(sites) = sites else {
+        return names_in(alloc, rt, path);
+    };
+    let mut all = Vec::new(alloc);
+    if let Err(StoreFault::Memory) = add_names(alloc, rt, path, &mut all) {
+        return Err(StoreFault::Memory);
+    }
+    for site in 1..17u8 {
+        if let Some(folder) = sites.folder(site) {
+            if let Err(fault) = add_names(alloc, rt, folder, &mut all) {
+                return Err(fault);
+            }
+        }
+    }
+    all.sort_unstable();
+    all.dedup();
+    Ok(all)
 }

@@ -1,9 +1,9 @@
 //! A diagnosis as JSON.
 use crate::disputed_json::dispute_objects;
-use crate::json::bad_object;
 use cs_diagnosis::{Diagnosis, Explanation};
-use cs_reports::object::{Object, number_or_null, sites};
-use pinepolo_text::{Diagnosed, fault_word, number_of, rows_of, verdict_word};
+use cs_reports::file_objects;
+use cs_reports::object::{Object, number_or_null};
+use pinepolo_text::{Diagnosed, files_of, number_of, rows_of, verdict_word};
 use serde_json::Value;
 use std::alloc::{AllocError, Global};
 
@@ -11,27 +11,18 @@ use std::alloc::{AllocError, Global};
 pub fn diagnosed_object(alloc: Global, diagnosed: &Diagnosed) -> Result<Value, AllocError> {
     let diagnosis = &diagnosed.diagnosis;
     let reach = &diagnosis.reach;
+    let (bad, changed) = (diagnosis.bad.as_slice(), diagnosed.changed.as_slice());
+    let bad = files_of(alloc, &diagnosed.catalog, bad, changed)?;
     Object::of_verb(alloc, "diagnose")
         .number("at_most", u64::from(reach.at_most))
         .member("certain", Ok(number_or_null(reach.certain)))
-        .member("files", bad_objects(alloc, diagnosed))
-        .member("forced", sites(alloc, diagnosis.forced))
+        .member("files", file_objects(alloc, bad.as_slice()))
+        .sites("forced", diagnosis.forced)
         .member("explanations", explanation_objects(alloc, diagnosis))
         .text("verdict", verdict_word(diagnosis.verdict))
         .member("disputes", dispute_objects(alloc, diagnosed))
         .truth("restoring", diagnosed.unfinished.is_some())
         .finish()
-}
-
-/// The bad files.
-fn bad_objects(alloc: Global, diagnosed: &Diagnosed) -> Result<Value, AllocError> {
-    let changed = diagnosed.changed.as_slice();
-    let mut list = Vec::new(alloc);
-    for (name, badness) in &diagnosed.diagnosis.bad {
-        let word = fault_word(changed, *name, badness);
-        list.push(bad_object(alloc, &diagnosed.catalog, *name, word)?)?;
-    }
-    Ok(Value::Array(list))
 }
 
 /// The explanations.
@@ -50,7 +41,7 @@ fn explanation_object(
     explanation: &Explanation,
 ) -> Result<Value, AllocError> {
     Object::new(alloc)
-        .member("lost", sites(alloc, explanation.loss))
+        .sites("lost", explanation.loss)
         .number("rows", rows_of(diagnosis, explanation.table))
         .number("table", number_of(explanation.table))
         .finish()

@@ -1,6 +1,7 @@
 //! What the verbs of pinepolo print: an answer as text or as JSON, and a refusal as JSON.
 #![tactic(auto)]
 
+mod away_json;
 mod diagnosed_json;
 mod disputed_json;
 mod json;

@@ -3,10 +3,11 @@ ghost use Rattle.std.specs.Prelude.{◌≡◌, ◌≤◌, ◌⊎◌};
 ghost use Rattle.pinepolo_text.specs.Statuses.{answer_status};
 ghost use Rattle.cs_verifying.specs.Statuses.{listed_status};
 
-use crate::json::{answer_object, refusal_object};
+use crate::away_json::with_away;
+use crate::json::answer_object;
 use cs_verifying::Listed;
-use pinepolo_places::{DEVICE, DONE, MEMORY, REFUSED, WorkKind};
-use pinepolo_text::{Answer, Dumped, Unfinished};
+use pinepolo_places::{DEVICE, DONE, MEMORY, REFUSED, VerbError, WorkKind, error_object};
+use pinepolo_text::{Answer, AnswerText, Dumped, Unfinished};
 use serde_json::Value;
 use std::alloc::{AllocError, Global};
 use std::io::Write;
@@ -17,8 +18,10 @@ fn status(answer: &Answer) -> u8
 {
     match answer {
         Answer::Checked(checked) => checked.status(),
+        Answer::Drilled(drilled) => drilled.status(),
         Answer::Diagnosed(diagnosed) => diagnosed.status(),
         Answer::Restored(restoration) => restoration.status(),
+        Answer::RestoredFound(found) => found.status(),
         Answer::Listed(listed) => listed.status(),
         Answer::Verified(verified) => verified.status(),
         _ => DONE,
@@ -35,12 +38,13 @@ fn object_text(alloc: Global, object: Result<Value, AllocError>) -> Option<Strin
     }
 }
 
-/// An answer's text.
-fn text_of(alloc: Global, answer: &Answer, json: bool) -> Option<String> {
+/// An answer's text, as JSON or as lines.
+fn text_of(alloc: Global, text: &AnswerText<'_>, json: bool) -> Option<String> {
     if json {
-        object_text(alloc, answer_object(alloc, answer))
+        let object = answer_object(alloc, text.answer);
+        object_text(alloc, with_away(alloc, text, object))
     } else {
-        format!(in alloc; "{answer}").ok()
+        format!(in alloc; "{text}").ok()
     }
 }
 
@@ -58,19 +62,21 @@ fn print<W: Write>(text: Option<String>, status: u8, out: &mut W) -> u8
     }
 }
 
-/// Prints an answer, and gives its status: that of a device where it can't be written. What stands beside the text of a table
+/// Prints an answer, and gives its status: that of a device where it can't be written. What is said beside the text of a table
 /// goes to `err`.
 pub fn say<W: Write, E: Write>(
     alloc: Global,
-    answer: &Answer,
+    text: &AnswerText<'_>,
     json: bool,
     out: &mut W,
     err: &mut E,
 ) -> u8
-    ensures { (result ≡ answer_status answer.now) ⊎ ((result ≡ MEMORY) ⊎ (result ≡ DEVICE)) }
+    ensures { (result ≡ answer_status text.now.answer.now) ⊎ ((result ≡ MEMORY) ⊎ (result ≡ DEVICE)) }
 {
+    let answer = text.answer;
     if let Some(kind) = unfinished(answer) {
-        if warn(kind, err) != DONE {
+        let store = text.store;
+        if warn(Unfinished { kind, store }, err) != DONE {
             return DEVICE;
         }
     }
@@ -82,7 +88,7 @@ pub fn say<W: Write, E: Write>(
             },
         ) => print_bytes(text.as_slice(), DONE, out),
         Answer::Listed(listed) => print_listed(listed, out, err),
-        _ => print(text_of(alloc, answer, json), status(answer), out),
+        _ => print(text_of(alloc, text, json), status(answer), out),
     }
 }
 
@@ -95,11 +101,7 @@ fn unfinished(answer: &Answer) -> Option<WorkKind> {
 }
 
 /// Says that work was left unfinished, and gives the status.
-fn warn<E: Write>(kind: WorkKind, err: &mut E) -> u8 {
-    let unfinished = Unfinished {
-        kind,
-        store: "STORE",
-    };
+fn warn<E: Write>(unfinished: Unfinished<'_>, err: &mut E) -> u8 {
     match write!(err, "{unfinished}") {
         Ok(()) => DONE,
         Err(_) => DEVICE,
@@ -127,13 +129,10 @@ fn print_listed<W: Write, E: Write>(listed: &Listed, out: &mut W, err: &mut E) -
     }
 }
 
-/// Prints that a verb was refused as JSON.
-pub fn say_refusal<W: Write>(alloc: Global, verb: &str, lines: &str, out: &mut W) -> u8
+/// Prints as JSON why a verb was refused.
+pub fn say_refusal<W: Write>(alloc: Global, verb: &str, error: &VerbError, out: &mut W) -> u8
     ensures { (result ≡ REFUSED) ⊎ ((result ≡ MEMORY) ⊎ (result ≡ DEVICE)) }
 {
-    print(
-        object_text(alloc, refusal_object(alloc, verb, lines)),
-        REFUSED,
-        out,
-    )
+    let text = object_text(alloc, error_object(alloc, verb, error));
+    print(text, REFUSED, out)
 }

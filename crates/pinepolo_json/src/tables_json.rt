@@ -1,5 +1,5 @@
 //! What came of a whole table, as JSON.
-use cs_reports::object::{Object, sites};
+use cs_reports::object::Object;
 use pinepolo_text::{Dumped, NewStore};
 use serde_json::Value;
 use std::alloc::{AllocError, Global};
@@ -11,7 +11,7 @@ pub fn new_store_object(alloc: Global, verb: &str, store: &NewStore) -> Result<V
         .number("rows", store.rows as u64)
         .number("files", store.files.len() as u64)
         .number("k", u64::from(store.k))
-        .member("fatal", sites(alloc, store.fatal))
+        .sites("fatal", store.fatal)
         .member("fault", Ok(Value::Null))
         .finish()
 }

@@ -1,7 +1,6 @@
 //! What an undo came to, as JSON.
-use crate::json::file_object;
-use crate::restored_json::known;
-use cs_reports::object::Object;
+use crate::json::placed_object;
+use cs_reports::object::{Object, count_or_null};
 use pinepolo_text::{Undone, undone_word};
 use serde_json::Value;
 use std::alloc::{AllocError, Global};
@@ -12,7 +11,7 @@ pub fn undone_object(alloc: Global, undone: &Undone) -> Result<Value, AllocError
         .truth("ok", true)
         .number("of", u64::from(undone.undoable.number))
         .member("files", name_objects(alloc, undone))
-        .member("kept", Ok(known(undone.kept.map(u64::from))))
+        .member("kept", Ok(count_or_null(undone.kept.map(u64::from))))
         .member("fault", Ok(Value::Null))
         .finish()
 }
@@ -23,9 +22,9 @@ fn name_objects(alloc: Global, undone: &Undone) -> Result<Value, AllocError> {
     for name in &undone.undoable.names {
         let back = undone.undoable.back.get(*name);
         let size = back.map(|bytes| bytes.len() as u64);
-        let object = file_object(alloc, &undone.catalog, *name)
+        let object = placed_object(alloc, &undone.catalog, *name)
             .text("what", undone_word(back))
-            .member("bytes", Ok(known(size)));
+            .member("bytes", Ok(count_or_null(size)));
         list.push(object.finish()?)?;
     }
     Ok(Value::Array(list))

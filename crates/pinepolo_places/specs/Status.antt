@@ -2,21 +2,21 @@
 use Rattle.std.specs.Prelude.{ℕ}
 use Rattle.cs_store.specs.declared.fault.Fault.{Fault}
 use Rattle.cs_store.specs.declared.fault.Fault.TheVariants as fault
-use Rattle.pinepolo_places.specs.declared.stop.Stop.{Stop}
-use Rattle.pinepolo_places.specs.declared.stop.Stop.TheVariants as stop
+use Rattle.pinepolo_places.specs.declared.error.VerbError.{VerbError}
+use Rattle.pinepolo_places.specs.declared.error.VerbError.TheVariants as error
 
--- 1 where a catalog or a store was refused, 2 for wrong words, 3 for want of memory, 4 where a device failed
-abbrev pub status_of : Stop → ℕ
-status_of (stop.Usage _) = 2
-status_of stop.Words = 2
-status_of stop.Memory = 3
-status_of (stop.Catalog _) = 1
-status_of (stop.Refused _) = 1
-status_of (stop.Device _) = 4
-
--- the status that tells a fault of a store
+-- the status that tells a fault of a store: 3 if memory ran out, 4 if a file could not be read or written, else 1
 abbrev pub fault_status : Fault → ℕ
 fault_status fault.Memory = 3
 fault_status (fault.Read _) = 4
 fault_status (fault.Write _) = 4
 fault_status _ = 1
+
+-- 1 if a catalog or a store was refused, 2 for a usage error, 3 if memory ran out, 4 if a device failed
+abbrev pub status_of : VerbError → ℕ
+status_of error.NotUtf8 = 2
+status_of error.OutOfMemory = 3
+status_of (error.Catalog fault subject) = 1
+status_of (error.Device failure subject) = 4
+status_of (error.Refused refusal subject) = 1
+status_of (error.Store e) = fault_status e.fault

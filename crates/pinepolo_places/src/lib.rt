@@ -4,18 +4,25 @@
 //! verb's contract can say what was done.
 #![tactic(auto)]
 
+mod causes;
+mod error;
+mod error_json;
+mod error_text;
 mod finding;
 mod listings;
 mod places;
 mod shelves;
-mod stop;
 mod tables;
 
+pub use causes::{CsvPlace, Failure, Refusal};
 pub use cs_folders::Way;
 pub use cs_shelf::{JOURNAL, RESTORING, UndoOf, Undoable, Untaken, Work, WorkKind};
+pub use error::{
+    DEVICE, DONE, MEMORY, REFUSED, Step, StoreError, Subject, USAGE, VerbError, report,
+};
+pub use error_json::error_object;
 pub use finding::{find_store, find_store_text, look_up, look_up_text};
 pub use listings::Listings;
 pub use places::Places;
-pub use shelves::{GivenBack, Shelves};
-pub use stop::{DEVICE, DONE, MEMORY, REFUSED, Stop, USAGE, refused, report, stop_of};
+pub use shelves::{GivenBack, RestoreOf, Shelves};
 pub use tables::Tables;

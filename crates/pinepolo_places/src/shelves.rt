@@ -1,15 +1,24 @@
 //! Stores that can be changed, by path.
 ghost use Rattle.std.specs.Prelude.{ℕ, List, Bool, IfOk, OnOk};
 ghost use Rattle.cs_schema.specs.CatalogData.{CatalogData};
-ghost use Rattle.cs_schema.specs.Losses.{Sites};
 ghost use Rattle.cs_schema.specs.declared.file_name.FileName.{FileName};
 ghost use Rattle.cs_store.specs.FileSet.{Files};
 ghost use Rattle.cs_shelf.specs.declared.work.UndoOf.{UndoOf};
+ghost use Rattle.pinepolo_places.specs.declared.shelves.RestoreOf.{RestoreOf};
 
 use crate::places::Places;
 use cs_schema::{Catalog, Loss};
 use cs_shelf::{Shelf, UndoOf, Undoable, Untaken};
 use cs_store::StoreFault;
+
+/// What is restored.
+#[derive(Clone, Copy, Debug)]
+pub struct RestoreOf {
+    /// The sites that are lost.
+    pub lost: Loss,
+    /// Whether they are known to be gone, whatever a diagnosis says.
+    pub accepts_loss: bool,
+}
 
 /// What is left of a restore or an undo, once its store was given back.
 #[derive(Clone, Copy, Debug)]
@@ -18,6 +27,8 @@ pub struct GivenBack {
     pub kept: Option<u32>,
     /// Whether it is still to be finished.
     pub is_unfinished: bool,
+    /// Whether it is on the disk that it is finished.
+    pub is_synced: bool,
 }
 
 /// Places with stores that can be changed. Those in memory can say by their ghost members what they found; those over
@@ -26,8 +37,8 @@ pub trait Shelves: Places {
     /// A store that can be changed.
     type Shelf: Shelf + Drop;
 
-    /// A store that was taken: the state before, the path, the catalog, the lost sites, the store, and the state after.
-    ghost takes_store: { Self → List ℕ → CatalogData → Sites → Self.Shelf → Self → Type 0 };
+    /// A store that was taken: the state before, the path, the catalog, what is restored, the store, and the state after.
+    ghost takes_store: { Self → List ℕ → CatalogData → RestoreOf → Self.Shelf → Self → Type 0 };
 
     /// A store that was taken for an undo: the state before, the path, the catalog, what is undone, the files that are put
     /// back, the names that change, the store, and the state after.
@@ -39,13 +50,13 @@ pub trait Shelves: Places {
     /// A store that was given back: the state before, the store, whether its work is finished, and the state after.
     ghost gives_back: { Self → Self.Shelf → Bool → Self → Type 0 };
 
-    /// Takes the store at this path, which has this catalog, to restore what these sites lost. While it is taken, and until
+    /// Takes the store at this path, which has this catalog, for this restore. While it is taken, and until
     /// its restore is finished, it is not taken again.
-    fn take(&mut self, path: &str, catalog: &Catalog, lost: Loss) -> Result<Self::Shelf, Untaken>
-        ensures { IfOk result (λ store. takes_store self.old path.now catalog.now lost store self.new) };
+    fn take(&mut self, path: &str, catalog: &Catalog, of: RestoreOf) -> Result<Self::Shelf, Untaken>
+        ensures { IfOk result (λ store. takes_store self.old path.now catalog.now of store self.new) };
 
-    /// Takes the store at this path to go on with its unfinished restore, and says which sites are lost.
-    fn resume(&mut self, path: &str, catalog: &Catalog) -> Result<(Self::Shelf, Loss), Untaken>
+    /// Takes the store at this path to go on with its unfinished restore, and says what that restores.
+    fn resume(&mut self, path: &str, catalog: &Catalog) -> Result<(Self::Shelf, RestoreOf), Untaken>
         ensures { IfOk result (λ found. takes_store self.old path.now catalog.now found.1 found.0 self.new) };
 
     /// Takes the store at this path for an undo, and says what that puts back: the files that stood under the names that
@@ -59,8 +70,8 @@ pub trait Shelves: Places {
         ensures { IfOk result (λ taken. takes_undo self.old path.now catalog.now asked
             taken.1.back taken.1.names.items taken.0 self.new) };
 
-    /// The store at this path, to be looked at alone.
-    fn look(&self, path: &str, catalog: &Catalog) -> Result<Self::Shelf, StoreFault>
+    /// The store at this path, to be looked at alone, of which these sites are lost.
+    fn look(&self, path: &str, catalog: &Catalog, lost: Loss) -> Result<Self::Shelf, StoreFault>
         ensures { IfOk result (λ store. looks_at self.now path.now catalog.now store) };
 
     /// Gives a store back whose restore or undo is finished, or ended early.

@@ -1,1 +1,2 @@
+mod LowStatuses
 mod NoneFailed

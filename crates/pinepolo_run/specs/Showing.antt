@@ -15,6 +15,7 @@ use Rattle.pinepolo_text.specs.declared.answer.Answer.TheVariants.{Shown, ShownF
 use Rattle.pinepolo_text.specs.declared.store_view.StoreView.{StoreView}
 use Rattle.pinepolo_text.specs.declared.file_view.FileView.{FileView}
 use Rattle.pinepolo_places.specs.Finding.{FindsStore}
+use Rattle.pinepolo_run.specs.Promises.{IsDrawn}
 use Rattle.cs_shelf.specs.declared.work.WorkKind.{WorkKind}
 
 -- each file of the store was read, and these are the bad ones
@@ -25,14 +26,16 @@ pub record LooksOver {S : Type 0} (gives : S → FileName → Option (List ℕ) 
   pub inspected : AreBadFiles C (contents_of files) unreadable bad
 
 module _ {P S : Type 0} (reads : P → List ℕ → List ℕ → P → Type 0) (opens : P → List ℕ → CatalogData → S → Type 0) (gives : S → FileName → Option (List ℕ) → S → Type 0) where
-  -- The store at this path was found and its folder listed, and each of its files was read; these are the bad ones, and this is what its catalog says of losses.
-  pub record ShowsStore (refuses : S → FileName → StoreFault → S → Type 0) (lists : P → List ℕ → List (List ℕ) → P → Type 0) (leaves : P → List ℕ → Option WorkKind → Type 0) (s : P) (path : List ℕ) (view : StoreView) (t : P) : Type 0 where
+  -- The store at this path was found and its folder listed, and each of its files was read; these are the bad ones, and this is what its catalog says of losses. Its picture was written, if one was asked for.
+  pub record ShowsStore (refuses : S → FileName → StoreFault → S → Type 0) (lists : P → List ℕ → List (List ℕ) → P → Type 0) (draws : P → List ℕ → List ℕ → P → Type 0) (leaves : P → List ℕ → Option WorkKind → Type 0) (s : P) (path : List ℕ) (svg : Option (List ℕ)) (view : StoreView) (t : P) : Type 0 where
     pub reached : P
+    pub looked : P
     pub store : S
     pub left : S
     pub names : List (List ℕ)
     pub finds : FindsStore reads opens s path view.catalog store reached
-    pub listed : lists reached path names t
+    pub listed : lists reached path names looked
+    pub drawn : IsDrawn draws looked svg t
     pub looks : LooksOver gives refuses view.catalog store view.bad.items left
     pub design : IsDesign view.catalog [] view.design
     pub unfinished : leaves t path view.unfinished
@@ -49,7 +52,7 @@ module _ {P S : Type 0} (reads : P → List ℕ → List ℕ → P → Type 0) (
     pub report : IsReportOf view.catalog view.name bytes view.report
 
   -- the answer is the store as a whole, or the file of it that was asked for
-  abbrev pub Shows : (S → FileName → StoreFault → S → Type 0) → (P → List ℕ → List (List ℕ) → P → Type 0) → (P → List ℕ → Option WorkKind → Type 0) → P → List ℕ → Option (List ℕ) → Answer → P → Type 0
-  Shows refuses lists leaves s path None (Shown view) t = ShowsStore refuses lists leaves s path view t
-  Shows refuses lists leaves s path (Some file) (ShownFile view) t = ShowsFile s path file view t
-  Shows refuses lists leaves s path _ _ t = ⊥
+  abbrev pub Shows : (S → FileName → StoreFault → S → Type 0) → (P → List ℕ → List (List ℕ) → P → Type 0) → (P → List ℕ → List ℕ → P → Type 0) → (P → List ℕ → Option WorkKind → Type 0) → P → List ℕ → Option (List ℕ) → Option (List ℕ) → Answer → P → Type 0
+  Shows refuses lists draws leaves s path None svg (Shown view) t = ShowsStore refuses lists draws leaves s path svg view t
+  Shows refuses lists draws leaves s path (Some file) svg (ShownFile view) t = ShowsFile s path file view t
+  Shows refuses lists draws leaves s path _ _ _ t = ⊥

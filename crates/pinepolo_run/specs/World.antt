@@ -1,12 +1,12 @@
 -- What stands around the verbs.
 use Rattle.std.specs.Prelude.{ℕ, Bool, List, Option}
 use Rattle.cs_schema.specs.CatalogData.{CatalogData}
-use Rattle.cs_schema.specs.Losses.{Sites}
 use Rattle.cs_schema.specs.declared.file_name.FileName.{FileName}
 use Rattle.cs_store.specs.FileSet.{Files}
 use Rattle.cs_store.specs.declared.fault.StoreFault.{StoreFault}
 use Rattle.cs_shelf.specs.declared.work.UndoOf.{UndoOf}
 use Rattle.cs_shelf.specs.declared.work.WorkKind.{WorkKind}
+use Rattle.pinepolo_places.specs.declared.shelves.RestoreOf.{RestoreOf}
 
 -- What places, stores, outputs, texts, new stores and stores that can be changed say of one call, each by the members of its
 -- trait.
@@ -29,7 +29,7 @@ pub record WorldSays (P Store Output Input New Shelf : Type 0) : Type 1 where
   pub begins : P → List ℕ → List ℕ → New → P → Type 0
   pub takes_new : New → FileName → List ℕ → New → Type 0
   pub marks_new : New → ℕ → New → Type 0
-  pub takes_store : P → List ℕ → CatalogData → Sites → Shelf → P → Type 0
+  pub takes_store : P → List ℕ → CatalogData → RestoreOf → Shelf → P → Type 0
   pub takes_undo : P → List ℕ → CatalogData → UndoOf → Files → List FileName → Shelf → P → Type 0
   pub looks_at : P → List ℕ → CatalogData → Shelf → Type 0
   pub gives_back : P → Shelf → Bool → P → Type 0

@@ -1,74 +1,44 @@
 //! The verb `design`.
-ghost use Rattle.std.specs.Prelude.{IfOk, OnOk};
+ghost use Rattle.std.specs.Prelude.{IfOk};
 ghost use Rattle.std.specs.Option.{option_map};
-ghost use Rattle.pinepolo_run.specs.Promises.{DesignsCatalog, IsDrawn};
+ghost use Rattle.pinepolo_run.specs.Promises.{DesignsCatalog};
 
-use cs_reports::{Design, design_of, picture};
+use crate::drawing::draw;
+use cs_reports::{design_of, picture};
 use cs_schema::Catalog;
-use cs_store::{Fault, StoreFault};
+use cs_store::Fault;
 use pinepolo_args::DesignArgs;
-use pinepolo_places::{Places, Stop, look_up, stop_of};
+use pinepolo_places::{Places, Tables, VerbError, look_up};
 use pinepolo_text::Designed;
 use std::alloc::Global;
 
 /// What a catalog says of losses beside those that came already; its picture, where one is asked for.
-pub fn design<P: Places>(
+pub fn design<P: Places + Tables>(
     alloc: Global,
     places: &mut P,
     request: &DesignArgs<'_>,
-) -> Result<Designed, Stop>
+) -> Result<Designed, VerbError>
     ensures { IfOk result (λ designed. DesignsCatalog P.reads P.draws
         places.old request.now.catalog.now request.now.lost (option_map (λ path. path.now) request.now.svg) designed.design places.new) }
 {
     let lost = request.lost;
     let catalog = match look_up(alloc, places, request.catalog) {
         Ok(catalog) => catalog,
-        Err(stop) => return Err(stop),
+        Err(error) => return Err(error),
     };
     if !catalog.has_sites(lost) {
-        return Err(stop_of(alloc, &catalog, lost, &Fault::Site));
+        let fault = &Fault::Site;
+        return Err(VerbError::of_store(alloc, &catalog, request.catalog, lost, fault));
     }
     let Ok(design) = design_of(alloc, &catalog, lost) else {
-        return Err(Stop::Memory);
+        return Err(VerbError::OutOfMemory);
     };
-    match draw(alloc, places, &catalog, &design, request.svg) {
-        Ok(()) => Ok(Designed { catalog, design }),
-        Err(stop) => Err(stop),
+    if let Some(svg) = request.svg {
+        let text = picture(alloc, &catalog, &design);
+        match draw(alloc, places, svg, text) {
+            Ok(()) => {}
+            Err(error) => return Err(error),
+        }
     }
-}
-
-/// Writes the picture of a design, if a path is given for it.
-fn draw<P: Places>(
-    alloc: Global,
-    places: &mut P,
-    catalog: &Catalog,
-    design: &Design,
-    path: Option<&str>,
-) -> Result<(), Stop>
-    ensures { OnOk result (IsDrawn P.draws places.old (option_map (λ p. p.now) path.entry) places.new) }
-{
-    let Some(path) = path else {
-        return Ok(());
-    };
-    let Ok(text) = picture(alloc, catalog, design) else {
-        return Err(Stop::Memory);
-    };
-    match places.picture(path, text.as_bytes()) {
-        Ok(()) => Ok(()),
-        Err(fault) => Err(undrawn(alloc, fault, path)),
-    }
-}
-
-/// How a picture ends the verb that could not be written.
-fn undrawn(alloc: Global, fault: StoreFault, path: &str) -> Stop {
-    if let StoreFault::Memory = fault {
-        return Stop::Memory;
-    }
-    let text = format!(in alloc;
-        "fault: write {path}\nnext: see that its folder is there and may be written to\n"
-    );
-    match text {
-        Ok(text) => Stop::Device(text),
-        Err(_) => Stop::Memory,
-    }
+    Ok(Designed { catalog, design })
 }

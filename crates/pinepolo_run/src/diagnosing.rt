@@ -10,7 +10,7 @@ use cs_diagnosis::{diagnose as diagnose_files, disputed_rows};
 use cs_rebuild::Run;
 use cs_verifying::manifest_if;
 use pinepolo_args::DiagnoseArgs;
-use pinepolo_places::{Listings, Stop, Tables};
+use pinepolo_places::{Listings, Tables, VerbError};
 use pinepolo_progress::{Progress, Stage};
 use pinepolo_text::Diagnosed;
 use std::marker::Sync;
@@ -23,7 +23,7 @@ pub fn diagnose<R: Threads + Sync, G: Progress + Sync, P: Listings + Tables>(
     run: &Run<'_, R, G>,
     places: &mut P,
     request: &DiagnoseArgs<'_>,
-) -> Result<Diagnosed, Stop>
+) -> Result<Diagnosed, VerbError>
     ensures ok { IfOk result (λ diagnosed. DiagnosesStore P.reads P.opens (standing P.Store.answers) (standing P.Store.fails) P.opens_table P.Input.remaining P.leaves
         places.old request.now.store.now (option_map (λ path. path.now) request.now.manifest) request.now.at_most request.now.disputes diagnosed places.new) }
     ensures err { request.now.manifest ≡ None → OnErr result (LooksUp P.reads P.misses places.old request.now.store.now places.new) }
@@ -31,32 +31,32 @@ pub fn diagnose<R: Threads + Sync, G: Progress + Sync, P: Listings + Tables>(
     let alloc = run.alloc;
     let manifest = match manifest_if(alloc, places, request.manifest) {
         Ok(manifest) => manifest,
-        Err(stop) => return Err(stop),
+        Err(error) => return Err(error),
     };
     let (catalog, source) = match find_trusted(alloc, places, request.store, &manifest) {
         Ok(found) => found,
-        Err(stop) => return Err(stop),
+        Err(error) => return Err(error),
     };
     let Ok(found) = read_trusted(run, &catalog, &source, &manifest) else {
-        return Err(Stop::Memory);
+        return Err(VerbError::OutOfMemory);
     };
     let unreadable = found.unreadable.as_slice();
     let Ok(changed) = changed_files(run, &catalog, &source, &manifest, unreadable) else {
-        return Err(Stop::Memory);
+        return Err(VerbError::OutOfMemory);
     };
     run.gate.reached(Stage::Inspecting);
     let Ok(diagnosis) = diagnose_files(run, &catalog, &found.files, unreadable, request.at_most)
     else {
-        return Err(Stop::Memory);
+        return Err(VerbError::OutOfMemory);
     };
     let Ok(disputes) = disputed_rows(alloc, &catalog, &diagnosis, request.disputes as usize) else {
-        return Err(Stop::Memory);
+        return Err(VerbError::OutOfMemory);
     };
     let Ok(unfinished) = places.unfinished(request.store) else {
-        return Err(Stop::Memory);
+        return Err(VerbError::OutOfMemory);
     };
     match Diagnosed::new(alloc, catalog, diagnosis, disputes, changed, unfinished) {
         Ok(diagnosed) => Ok(diagnosed),
-        Err(_) => Err(Stop::Memory),
+        Err(_) => Err(VerbError::OutOfMemory),
     }
 }

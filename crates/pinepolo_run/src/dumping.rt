@@ -6,12 +6,12 @@ ghost use Rattle.pinepolo_run.specs.TablePromises.{DumpsStore, GivesText, ReadsT
 
 use crate::host::World;
 use crate::surviving::{Surviving, read_survivors, refuse};
-use crate::ways::{see_way, unmade};
+use crate::ways::require_free;
 use cs_parallel_io::SharedSource;
 use cs_rebuild::Run;
 use cs_tables::DumpFault;
 use pinepolo_args::DumpArgs;
-use pinepolo_places::{Stop, Tables, WorkKind, find_store};
+use pinepolo_places::{Failure, Tables, VerbError, WorkKind, find_store};
 use pinepolo_progress::{Progress, Stage};
 use pinepolo_text::Dumped;
 use std::alloc::Global;
@@ -30,20 +30,20 @@ pub fn dump<R: Threads + Sync, G: Progress + Sync, P: World>(
     run: &Run<'_, R, G>,
     places: &mut P,
     request: &DumpArgs<'_>,
-) -> Result<Dumped, Stop>
+) -> Result<Dumped, VerbError>
     ensures { IfOk result (λ dumped. DumpsStore P.reads P.opens (standing P.Store.answers) P.leaves P.writes_table
         places.old request.now.store.now request.now.lost (option_map (λ path. path.now) request.now.table) dumped places.new) }
 {
     let alloc = run.alloc;
     if let Some(path) = request.table {
-        match see_way(alloc, places, path, true) {
+        match require_free(alloc, places, path, true) {
             Ok(()) => {}
-            Err(stop) => return Err(stop),
+            Err(error) => return Err(error),
         }
     }
     let text = match read_text(run, places, request) {
         Ok(text) => text,
-        Err(stop) => return Err(stop),
+        Err(error) => return Err(error),
     };
     run.gate.reached(Stage::Writing);
     write_text(alloc, places, request.table, text)
@@ -54,16 +54,16 @@ fn read_text<R: Threads + Sync, G: Progress + Sync, P: World>(
     run: &Run<'_, R, G>,
     places: &mut P,
     request: &DumpArgs<'_>,
-) -> Result<TableText, Stop>
+) -> Result<TableText, VerbError>
     ensures { IfOk result (λ found. ReadsText P.reads P.opens (standing P.Store.answers) P.leaves
         places.old request.now.store.now request.now.lost found.text.items found.unfinished places.new) }
 {
     let (catalog, source) = match find_store(run.alloc, places, request.store) {
         Ok(found) => found,
-        Err(stop) => return Err(stop),
+        Err(error) => return Err(error),
     };
     let Ok(unfinished) = places.unfinished(request.store) else {
-        return Err(Stop::Memory);
+        return Err(VerbError::OutOfMemory);
     };
     let store = Surviving {
         catalog: &catalog,
@@ -73,7 +73,7 @@ fn read_text<R: Threads + Sync, G: Progress + Sync, P: World>(
     };
     match text_of(run, &store, &source) {
         Ok(text) => Ok(TableText { text, unfinished }),
-        Err(stop) => Err(stop),
+        Err(error) => Err(error),
     }
 }
 
@@ -82,17 +82,17 @@ fn text_of<R: Threads + Sync, G: Progress + Sync, S: SharedSource>(
     run: &Run<'_, R, G>,
     store: &Surviving<'_>,
     source: &S,
-) -> Result<Vec<u8>, Stop>
+) -> Result<Vec<u8>, VerbError>
     ensures { IfOk result (λ text. GivesText (standing S.answers) store.now.catalog.now store.now.lost source.now text.items source.now) }
 {
     let files = match read_survivors(run, store, source) {
         Ok(files) => files,
-        Err(stop) => return Err(stop),
+        Err(error) => return Err(error),
     };
     match cs_tables::dump(run, store.catalog, &files, store.lost, Vec::new(run.alloc)) {
         Ok(text) => Ok(text),
         Err(DumpFault::Store(fault)) => Err(refuse(run, store, &files, &[], &fault)),
-        Err(DumpFault::Text(_)) => Err(Stop::Memory),
+        Err(DumpFault::Text(_)) => Err(VerbError::OutOfMemory),
     }
 }
 
@@ -102,7 +102,7 @@ fn write_text<P: Tables>(
     places: &mut P,
     path: Option<&str>,
     found: TableText,
-) -> Result<Dumped, Stop>
+) -> Result<Dumped, VerbError>
     ensures { IfOk result (λ dumped. WritesText P.writes_table places.old found.text.items (option_map (λ p. p.now) path.entry) dumped places.new
         × (dumped.unfinished ≡ found.unfinished)) }
 {
@@ -121,6 +121,6 @@ fn write_text<P: Tables>(
             bytes,
             unfinished,
         }),
-        Err(fault) => Err(unmade(alloc, fault, path)),
+        Err(fault) => Err(VerbError::of_device(alloc, fault, Failure::MakeNew, path)),
     }
 }

@@ -2,7 +2,9 @@
 ghost use Rattle.std.specs.Prelude.{◌≤◌};
 
 use cs_rebuild::Run;
+use pinepolo_drill::Meter;
 use pinepolo_places::{Listings, Places, Shelves, Tables};
+use pinepolo_text::Sited;
 use std::alloc::Global;
 
 /// How many rows a piece of work has.
@@ -15,6 +17,8 @@ pub struct Host<'a, R, G> {
     pub alloc: Global,
     /// What is told how far a verb has come.
     pub gate: &'a G,
+    /// Where the sites of the store stand, if each has a folder of its own.
+    pub sites: Option<Sited<'a>>,
 }
 
 impl<'a, R, G> Host<'a, R, G> {
@@ -33,4 +37,4 @@ impl<'a, R, G> Host<'a, R, G> {
 }
 
 /// All that the verbs of a program find and make by path.
-pub trait World: Places + Tables + Listings + Shelves {}
+pub trait World: Places + Tables + Listings + Shelves + Meter {}

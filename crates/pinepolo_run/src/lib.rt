@@ -7,6 +7,7 @@
 
 mod designing;
 mod diagnosing;
+mod drawing;
 mod dumping;
 mod host;
 mod loading;
@@ -14,6 +15,7 @@ mod making;
 mod program;
 mod recovering;
 mod relaying;
+mod restoring;
 mod showing;
 mod surviving;
 mod trusted;
@@ -27,12 +29,14 @@ pub use diagnosing::diagnose;
 pub use dumping::dump;
 pub use host::{CUT, Host, World};
 pub use loading::load;
-pub use pinepolo_places::{Listings, Places, Shelves, Stop, report};
+pub use pinepolo_drill::{Drilled, Meter, drill};
+pub use pinepolo_places::{Listings, Places, Shelves, VerbError, report};
 pub use pinepolo_text::{
-    Answer, Checked, Designed, Diagnosed, Dumped, FileView, NewStore, Recovered, Restoration,
-    StoreView, Undone, Verdict,
+    Answer, AwaySite, Checked, Designed, Diagnosed, Dumped, FileView, NewStore, Recovered,
+    Restoration, Sited, StoreView, Undone, Verdict,
 };
 pub use program::run;
 pub use recovering::recover;
 pub use relaying::relayout;
+pub use restoring::restore_found;
 pub use showing::show;

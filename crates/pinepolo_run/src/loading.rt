@@ -4,14 +4,14 @@ ghost use Rattle.pinepolo_run.specs.TablePromises.{LoadsStore, ReadsTable};
 
 use crate::host::World;
 use crate::making::{make_store, unsafe_already};
-use crate::ways::see_way;
+use crate::ways::require_free;
 use cs_csv::CsvFault;
 use cs_rebuild::Run;
 use cs_schema::Catalog;
 use cs_store::StoreFault;
 use cs_tables::{LoadFault, LoadWords, Loaded};
 use pinepolo_args::LoadArgs;
-use pinepolo_places::{Stop, look_up_text, refused};
+use pinepolo_places::{CsvPlace, Failure, Refusal, VerbError, look_up_text};
 use pinepolo_progress::{LinesRead, Progress, Stage};
 use pinepolo_text::NewStore;
 use std::alloc::Global;
@@ -23,50 +23,68 @@ pub fn load<R: Threads + Sync, G: Progress + Sync, P: World>(
     run: &Run<'_, R, G>,
     places: &mut P,
     request: &LoadArgs<'_>,
-) -> Result<NewStore, Stop>
+) -> Result<NewStore, VerbError>
     ensures { IfOk result (λ store. LoadsStore P.reads P.opens_table P.Input.remaining P.begins P.NewStore.takes P.NewStore.marks
         places.old request.now.catalog.now request.now.table.now request.now.store.now store places.new) }
 {
     let alloc = run.alloc;
     let found = match look_up_text(alloc, places, request.catalog) {
         Ok(found) => found,
-        Err(stop) => return Err(stop),
+        Err(error) => return Err(error),
     };
-    match see_way(alloc, places, request.store, request.replaces) {
+    match require_free(alloc, places, request.store, request.replaces) {
         Ok(()) => {}
-        Err(stop) => return Err(stop),
+        Err(error) => return Err(error),
     }
     let Loaded { files, rows } = match read_table(run, places, &found.0, request) {
         Ok(loaded) => loaded,
-        Err(stop) => return Err(stop),
+        Err(error) => return Err(error),
     };
     run.gate.reached(Stage::Writing);
     make_store(alloc, places, found, files, rows, request.store)
 }
 
-/// How a table ends a load that could not be opened or read.
-fn unread(alloc: Global, path: &str) -> Stop {
-    let text = format!(in alloc;
-        "fault: read {path}\nnext: see that {path} is a file that may be read\n"
-    );
-    match text {
-        Ok(text) => Stop::Device(text),
-        Err(_) => Stop::Memory,
+/// The number of the record that is to blame for a fault, from 1 after the header, and of the column, from 0.
+fn place_of(fault: &LoadFault) -> (Option<u64>, Option<usize>) {
+    match fault {
+        LoadFault::Twice(repeat) => (Some((repeat.again as u64).saturating_add(1)), None),
+        LoadFault::Text(fault) => match fault {
+            CsvFault::Width { record, .. } => (Some(record.saturating_add(1)), None),
+            CsvFault::NotInt { record, column, .. }
+            | CsvFault::NotText { record, column }
+            | CsvFault::TooLong { record, column, .. } => {
+                (Some(record.saturating_add(1)), Some(*column))
+            }
+            CsvFault::Missing { column } | CsvFault::Twice { column } => (None, Some(*column)),
+            _ => (None, None),
+        },
+        _ => (None, None),
     }
 }
 
-/// How a fault of a text ends a load.
-fn stop_by(alloc: Global, catalog: &Catalog, path: &str, fault: &LoadFault) -> Stop {
+/// The error for a text that makes no store of this catalog.
+fn table_error(
+    alloc: Global,
+    catalog: &Catalog,
+    request: &LoadArgs<'_>,
+    fault: &LoadFault,
+) -> VerbError {
     match fault {
-        LoadFault::Memory => Stop::Memory,
-        LoadFault::Text(CsvFault::Device) => unread(alloc, path),
-        LoadFault::Unsafe => unsafe_already(alloc, catalog),
+        LoadFault::Memory => VerbError::OutOfMemory,
+        LoadFault::Text(CsvFault::Device) => {
+            let failure = Failure::ReadTable;
+            VerbError::of_device(alloc, StoreFault::Device, failure, request.table)
+        }
+        LoadFault::Unsafe => unsafe_already(alloc, catalog, request.catalog),
         _ => {
+            let (record, column) = place_of(fault);
+            let column = match catalog.columns.get(column.unwrap_or(usize::MAX)) {
+                Some(column) => Some(column.name),
+                None => None,
+            };
             let words = LoadWords { catalog, fault };
-            let text = format!(in alloc;
-                "fault: {words}\nnext: change {path}, or the catalog, and load it again\n"
-            );
-            refused(text.ok())
+            let refusal = Refusal::Table(CsvPlace { record, column });
+            VerbError::refused_by(alloc, refusal, request.table, &words)
         }
     }
 }
@@ -77,19 +95,20 @@ fn read_table<R: Threads + Sync, G: Progress + Sync, P: World>(
     places: &mut P,
     catalog: &Catalog,
     request: &LoadArgs<'_>,
-) -> Result<Loaded, Stop>
+) -> Result<Loaded, VerbError>
     ensures { IfOk result (ReadsTable P.opens_table P.Input.remaining places.old catalog.now request.now.table.now places.new) }
 {
     let alloc = run.alloc;
     let input = match places.table(request.table) {
         Ok(input) => input,
-        Err(StoreFault::Memory) => return Err(Stop::Memory),
-        Err(StoreFault::Device) => return Err(unread(alloc, request.table)),
+        Err(fault) => {
+            return Err(VerbError::of_device(alloc, fault, Failure::ReadTable, request.table));
+        }
     };
     run.gate.reached(Stage::Table);
     let lines = LinesRead::new(input, run.gate);
     match cs_tables::load(run, catalog, lines) {
         Ok(loaded) => Ok(loaded),
-        Err(fault) => Err(stop_by(alloc, catalog, request.table, &fault)),
+        Err(fault) => Err(table_error(alloc, catalog, request, &fault)),
     }
 }

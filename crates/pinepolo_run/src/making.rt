@@ -2,11 +2,10 @@
 ghost use Rattle.std.specs.Prelude.{◌≡◌, IfOk, OnOk};
 ghost use Rattle.pinepolo_run.specs.TablePromises.{MakesStore, WritesStore};
 
-use crate::ways::unmade;
 use cs_design::{fatal_losses, greatest_k};
 use cs_schema::{Catalog, Loss};
-use cs_store::{Fault, FileSet, save};
-use pinepolo_places::{Stop, Tables, stop_of};
+use cs_store::{Fault, FileSet, StoreFault, save};
+use pinepolo_places::{Failure, Tables, VerbError};
 use pinepolo_text::NewStore;
 use std::alloc::Global;
 
@@ -18,50 +17,65 @@ pub fn make_store<P: Tables>(
     files: FileSet,
     rows: usize,
     path: &str,
-) -> Result<NewStore, Stop>
+) -> Result<NewStore, VerbError>
     ensures { IfOk result (λ store. MakesStore P.begins P.NewStore.takes P.NewStore.marks
         places.old path.now found.0 found.1.items files rows store places.new) }
 {
     let (catalog, bytes) = found;
-    match write_store(alloc, places, &catalog, bytes.as_slice(), &files, path) {
+    match write_store(alloc, places, bytes.as_slice(), &files, path) {
         Ok(()) => finish(alloc, catalog, files, rows),
-        Err(stop) => Err(stop),
+        Err(error) => Err(error),
     }
 }
 
-/// How a catalog ends the making of a store that is unsafe without any loss.
-pub fn unsafe_already(alloc: Global, catalog: &Catalog) -> Stop {
-    stop_of(alloc, catalog, Loss::none(), &Fault::Unsafe(Loss::none()))
+/// The error for the catalog at a path that is unsafe without any loss.
+pub fn unsafe_already(alloc: Global, catalog: &Catalog, path: &str) -> VerbError {
+    let none = Loss::none();
+    VerbError::of_store(alloc, catalog, path, none, &Fault::Unsafe(none))
+}
+
+/// The error for a file of a new store that could not be written.
+fn write_error(alloc: Global, fault: &Fault, path: &str) -> VerbError {
+    let failure = match fault {
+        Fault::Write(Some(name)) => Failure::WriteNew(*name),
+        Fault::Write(None) => Failure::MakeNew,
+        _ => return VerbError::OutOfMemory,
+    };
+    VerbError::of_device(alloc, StoreFault::Device, failure, path)
 }
 
 /// Begins the store, puts the files there and gives it its name.
 fn write_store<P: Tables>(
     alloc: Global,
     places: &mut P,
-    catalog: &Catalog,
     bytes: &[u8],
     files: &FileSet,
     path: &str,
-) -> Result<(), Stop>
+) -> Result<(), VerbError>
     ensures { OnOk result (WritesStore P.begins P.NewStore.takes P.NewStore.marks places.old path.now bytes.now files.now places.new) }
 {
     let mut sink = match places.new_store(path, bytes) {
         Ok(sink) => sink,
-        Err(fault) => return Err(unmade(alloc, fault, path)),
+        Err(fault) => return Err(VerbError::of_device(alloc, fault, Failure::MakeNew, path)),
     };
     match save(files, &mut sink) {
         Ok(()) => Ok(()),
-        Err(fault) => Err(stop_of(alloc, catalog, Loss::none(), &fault)),
+        Err(fault) => Err(write_error(alloc, &fault, path)),
     }
 }
 
 /// What is answered once the store is there.
-fn finish(alloc: Global, catalog: Catalog, files: FileSet, rows: usize) -> Result<NewStore, Stop>
+fn finish(
+    alloc: Global,
+    catalog: Catalog,
+    files: FileSet,
+    rows: usize,
+) -> Result<NewStore, VerbError>
     ensures { IfOk result (λ store. (store.catalog ≡ catalog) × (store.files ≡ files) × (store.rows ≡ rows)) }
 {
     let k = greatest_k(&catalog, Loss::none()).unwrap_or(0);
     let Ok(fatal) = fatal_losses(alloc, &catalog, Loss::none()) else {
-        return Err(Stop::Memory);
+        return Err(VerbError::OutOfMemory);
     };
     let fatal = match fatal.first() {
         Some(loss) => *loss,

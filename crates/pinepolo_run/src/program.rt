@@ -11,16 +11,18 @@ use crate::host::{Host, World};
 use crate::loading::load;
 use crate::recovering::recover;
 use crate::relaying::relayout;
+use crate::restoring::{knows_loss, restore_found};
 use crate::showing::show;
 use cs_checking::check;
 use cs_rebuild::Run;
 use cs_restoring::{restore, undo};
 use cs_verifying::{list, verify};
 use pinepolo_args::{ParseExit, Request, Verb};
+use pinepolo_drill::drill;
 use pinepolo_json::{print_bytes, say, say_refusal};
-use pinepolo_places::{DONE, Stop, USAGE, report};
+use pinepolo_places::{DONE, USAGE, VerbError, report};
 use pinepolo_progress::Progress;
-use pinepolo_text::Answer;
+use pinepolo_text::{Answer, AnswerText};
 use std::alloc::Global;
 use std::io::Write;
 use std::marker::Sync;
@@ -76,8 +78,16 @@ pub fn run<R: Threads + Sync, G: Progress + Sync, P: World, W: Write, E: Write>(
     let done = perform(&run, places, &request.verb);
     host.gate.erase();
     match done {
-        Ok(answer) => say(host.alloc, &answer, request.json, out, err),
-        Err(stop) => say_stop(host.alloc, &stop, request, out, err),
+        Ok(answer) => {
+            let store = request.verb.path();
+            let text = AnswerText {
+                answer: &answer,
+                store,
+                sites: host.sites,
+            };
+            say(host.alloc, &text, request.json, out, err)
+        }
+        Err(error) => say_error(host.alloc, &error, request, out, err),
     }
 }
 
@@ -86,27 +96,26 @@ fn say_exit<W: Write, E: Write>(exit: &ParseExit, out: &mut W, err: &mut E) -> u
     ensures { IsSaid (exit_status exit.now) result }
 {
     match exit {
-        ParseExit::OutOfMemory => report(&Stop::Memory, err),
+        ParseExit::OutOfMemory => report(&VerbError::OutOfMemory, err),
         ParseExit::Help(text) => print_bytes(text.as_bytes(), DONE, out),
         ParseExit::Usage(text) => print_bytes(text.as_bytes(), USAGE, err),
     }
 }
 
 /// Prints why a verb stopped early, and gives the status: a refused store as JSON if that is wanted, all else as text.
-fn say_stop<W: Write, E: Write>(
+fn say_error<W: Write, E: Write>(
     alloc: Global,
-    stop: &Stop,
+    error: &VerbError,
     request: &Request<'_>,
     out: &mut W,
     err: &mut E,
 ) -> u8
-    ensures { IsSaid (status_of stop.now) result }
+    ensures { IsSaid (status_of error.now) result }
 {
-    match stop {
-        Stop::Refused(lines) if request.json => {
-            say_refusal(alloc, request.verb.name(), lines.as_str(), out)
-        }
-        _ => report(stop, err),
+    if request.json && error.is_refusal() {
+        say_refusal(alloc, request.verb.name(), error, out)
+    } else {
+        report(error, err)
     }
 }
 
@@ -115,7 +124,7 @@ fn perform<R: Threads + Sync, G: Progress + Sync, P: World>(
     run: &Run<'_, R, G>,
     places: &mut P,
     verb: &Verb<'_>,
-) -> Result<Answer, Stop>
+) -> Result<Answer, VerbError>
     ensures { Does (record {
       reads = P.reads;
       misses = P.misses;
@@ -150,7 +159,11 @@ fn perform<R: Threads + Sync, G: Progress + Sync, P: World>(
         Verb::Show(args) => show(run, places, args),
         Verb::Diagnose(args) => diagnose(run, places, args).map(Answer::Diagnosed),
         Verb::Recover(args) => recover(run, places, args).map(Answer::Recovered),
-        Verb::Restore(args) => restore(run, places, args).map(Answer::Restored),
+        Verb::Drill(args) => drill(run, places, args).map(Answer::Drilled),
+        Verb::Restore(args) if knows_loss(args) => {
+            restore(run, places, args).map(Answer::Restored)
+        }
+        Verb::Restore(args) => restore_found(run, places, args).map(Answer::RestoredFound),
         Verb::Undo(args) => undo(run.alloc, places, args).map(Answer::Undone),
         Verb::Manifest(args) => list(run.alloc, places, args.store).map(Answer::Listed),
         Verb::Verify(args) => {

@@ -6,10 +6,10 @@ ghost use Rattle.pinepolo_run.specs.Promises.{RecoversStore, StopsRecovery, Rebu
 
 use cs_parallel_io::{load_side_by_side, save_batch};
 use cs_rebuild::{Run, rebuild_owned};
-use cs_schema::{Catalog, Loss};
-use cs_store::{FileSet, StoreFault};
+use cs_schema::Catalog;
+use cs_store::{Fault, FileSet, StoreFault};
 use pinepolo_args::RecoverArgs;
-use pinepolo_places::{Places, Stop, find_store, stop_of};
+use pinepolo_places::{Failure, Places, VerbError, find_store};
 use pinepolo_progress::{Progress, Stage};
 use pinepolo_text::Recovered;
 use std::alloc::Global;
@@ -21,7 +21,7 @@ pub fn recover<R: Threads + Sync, G: Progress + Sync, P: Places>(
     run: &Run<'_, R, G>,
     places: &mut P,
     request: &RecoverArgs<'_>,
-) -> Result<Recovered, Stop>
+) -> Result<Recovered, VerbError>
     ensures ok { IfOk result (λ recovered. RecoversStore P.reads P.opens (standing P.Store.answers) P.makes P.Output.takes P.Output.marks
         places.old request.now.store.now request.now.lost request.now.output.now recovered.files places.new) }
     ensures err { OnErr result (StopsRecovery P.reads P.opens (standing P.Store.answers) P.makes P.misses P.denies
@@ -29,16 +29,16 @@ pub fn recover<R: Threads + Sync, G: Progress + Sync, P: Places>(
 {
     let (catalog, rebuilt) = match rebuild_store(run, places, request) {
         Ok(found) => found,
-        Err(stop) => return Err(stop),
+        Err(error) => return Err(error),
     };
     run.gate.reached(Stage::Writing);
-    match write_output(run, places, &catalog, &rebuilt, request.output) {
+    match write_output(run, places, &rebuilt, request.output) {
         Ok(()) => Ok(Recovered {
             catalog,
             lost: request.lost,
             files: rebuilt,
         }),
-        Err(stop) => Err(stop),
+        Err(error) => Err(error),
     }
 }
 
@@ -47,7 +47,7 @@ fn rebuild_store<R: Threads + Sync, G: Progress + Sync, P: Places>(
     run: &Run<'_, R, G>,
     places: &mut P,
     request: &RecoverArgs<'_>,
-) -> Result<(Catalog, FileSet), Stop>
+) -> Result<(Catalog, FileSet), VerbError>
     ensures ok { IfOk result (λ found. RebuildsStore P.reads P.opens (standing P.Store.answers)
         places.old request.now.store.now request.now.lost found.1 places.new) }
     ensures err { OnErr result (LooksUp P.reads P.misses places.old request.now.store.now places.new) }
@@ -55,15 +55,17 @@ fn rebuild_store<R: Threads + Sync, G: Progress + Sync, P: Places>(
     let (alloc, lost) = (run.alloc, request.lost);
     let (catalog, source) = match find_store(alloc, places, request.store) {
         Ok(found) => found,
-        Err(stop) => return Err(stop),
+        Err(error) => return Err(error),
     };
     let files = match load_side_by_side(run.rt, alloc, &catalog, lost, &source) {
         Ok(files) => files,
-        Err(fault) => return Err(stop_of(alloc, &catalog, lost, &fault)),
+        Err(fault) => {
+            return Err(VerbError::of_store(alloc, &catalog, request.store, lost, &fault));
+        }
     };
     match rebuild_owned(run, &catalog, lost, files) {
         Ok(rebuilt) => Ok((catalog, rebuilt)),
-        Err(fault) => Err(stop_of(alloc, &catalog, lost, &fault)),
+        Err(fault) => Err(VerbError::of_store(alloc, &catalog, request.store, lost, &fault)),
     }
 }
 
@@ -71,33 +73,31 @@ fn rebuild_store<R: Threads + Sync, G: Progress + Sync, P: Places>(
 fn write_output<R: Threads + Sync, G: Progress + Sync, P: Places>(
     run: &Run<'_, R, G>,
     places: &mut P,
-    catalog: &Catalog,
     files: &FileSet,
     path: &str,
-) -> Result<(), Stop>
+) -> Result<(), VerbError>
     ensures ok { OnOk result (WritesOutput P.makes P.Output.takes P.Output.marks places.old path.now files.now places.new) }
     ensures err { OnErr result (AsksForOutput P.makes P.denies places.old path.now places.new) }
 {
     let sink = match places.output(path) {
         Ok(sink) => sink,
-        Err(fault) => return Err(unmade(run.alloc, fault, path)),
+        Err(fault) => {
+            return Err(VerbError::of_device(run.alloc, fault, Failure::MakeOutput, path));
+        }
     };
     match save_batch(run.rt, run.alloc, files, sink) {
         Ok(()) => Ok(()),
-        Err(fault) => Err(stop_of(run.alloc, catalog, Loss::none(), &fault)),
+        Err(fault) => Err(write_error(run.alloc, &fault, path)),
     }
 }
 
-/// How an output ends a recovery that could not be made.
-fn unmade(alloc: Global, fault: StoreFault, path: &str) -> Stop {
-    if let StoreFault::Memory = fault {
-        return Stop::Memory;
-    }
-    let text = format!(in alloc;
-        "fault: write OUT\nnext: see that nothing is at {path} yet, and that its parent folder is there and may be written to\n"
-    );
-    match text {
-        Ok(text) => Stop::Device(text),
-        Err(_) => Stop::Memory,
+/// The error for a file of an output that could not be written.
+fn write_error(alloc: Global, fault: &Fault, path: &str) -> VerbError {
+    match fault {
+        Fault::Write(name) => {
+            let failure = Failure::WriteOutput(*name);
+            VerbError::of_device(alloc, StoreFault::Device, failure, path)
+        }
+        _ => VerbError::OutOfMemory,
     }
 }

@@ -6,14 +6,14 @@ ghost use Rattle.pinepolo_run.specs.TablePromises.{LaysOutStore, LaysOutSurvivor
 use crate::host::World;
 use crate::making::{make_store, unsafe_already};
 use crate::surviving::{Surviving, read_survivors, refuse};
-use crate::ways::see_way;
+use crate::ways::require_free;
 use cs_parallel_io::SharedSource;
 use cs_rebuild::Run;
 use cs_schema::Catalog;
 use cs_store::FileSet;
 use cs_tables::{Relaid, RelayoutFault, RelayoutWords};
 use pinepolo_args::RelayoutArgs;
-use pinepolo_places::{Stop, find_store, look_up_text, refused};
+use pinepolo_places::{Refusal, VerbError, find_store, look_up_text};
 use pinepolo_progress::{Progress, Stage};
 use pinepolo_text::NewStore;
 use std::marker::Sync;
@@ -31,17 +31,17 @@ pub fn relayout<R: Threads + Sync, G: Progress + Sync, P: World>(
     run: &Run<'_, R, G>,
     places: &mut P,
     request: &RelayoutArgs<'_>,
-) -> Result<NewStore, Stop>
+) -> Result<NewStore, VerbError>
     ensures { IfOk result (λ store. RelaysStore P.reads P.opens (standing P.Store.answers) P.begins P.NewStore.takes P.NewStore.marks
         places.old request.now.store.now request.now.lost request.now.catalog.now request.now.new.now store places.new) }
 {
-    match see_way(run.alloc, places, request.new, request.replaces) {
+    match require_free(run.alloc, places, request.new, request.replaces) {
         Ok(()) => {}
-        Err(stop) => return Err(stop),
+        Err(error) => return Err(error),
     }
     let LaidOut { found, relaid } = match lay_out_store(run, places, request) {
         Ok(laid_out) => laid_out,
-        Err(stop) => return Err(stop),
+        Err(error) => return Err(error),
     };
     run.gate.reached(Stage::Writing);
     let Relaid { files, rows } = relaid;
@@ -53,21 +53,21 @@ fn lay_out_store<R: Threads + Sync, G: Progress + Sync, P: World>(
     run: &Run<'_, R, G>,
     places: &mut P,
     request: &RelayoutArgs<'_>,
-) -> Result<LaidOut, Stop>
+) -> Result<LaidOut, VerbError>
     ensures { IfOk result (λ laid_out. LaysOutStore P.reads P.opens (standing P.Store.answers)
         places.old request.now.store.now request.now.lost request.now.catalog.now
         laid_out.found.0 laid_out.found.1.items laid_out.relaid places.new) }
 {
     let (old, source) = match find_store(run.alloc, places, request.store) {
         Ok(found) => found,
-        Err(stop) => return Err(stop),
+        Err(error) => return Err(error),
     };
     let Ok(unfinished) = places.unfinished(request.store) else {
-        return Err(Stop::Memory);
+        return Err(VerbError::OutOfMemory);
     };
     let found = match look_up_text(run.alloc, places, request.catalog) {
         Ok(found) => found,
-        Err(stop) => return Err(stop),
+        Err(error) => return Err(error),
     };
     let store = Surviving {
         catalog: &old,
@@ -77,7 +77,7 @@ fn lay_out_store<R: Threads + Sync, G: Progress + Sync, P: World>(
     };
     match lay_out(run, request, &store, &source, &found.0) {
         Ok(relaid) => Ok(LaidOut { found, relaid }),
-        Err(stop) => Err(stop),
+        Err(error) => Err(error),
     }
 }
 
@@ -88,40 +88,36 @@ fn lay_out<R: Threads + Sync, G: Progress + Sync, S: SharedSource>(
     store: &Surviving<'_>,
     source: &S,
     new: &Catalog,
-) -> Result<Relaid, Stop>
+) -> Result<Relaid, VerbError>
     ensures { IfOk result (λ relaid. LaysOutSurvivors (standing S.answers) store.now.catalog.now store.now.lost source.now new.now relaid source.now) }
 {
     let files = match read_survivors(run, store, source) {
         Ok(files) => files,
-        Err(stop) => return Err(stop),
+        Err(error) => return Err(error),
     };
     match cs_tables::relayout(run, store.catalog, &files, store.lost, new) {
         Ok(relaid) => Ok(relaid),
-        Err(fault) => Err(stop_by(run, request, store, &files, new, &fault)),
+        Err(fault) => Err(layout_error(run, request, store, &files, new, &fault)),
     }
 }
 
-/// How a fault ends a relayout.
-fn stop_by<R: Threads + Sync, G: Progress + Sync>(
+/// The error for a store that is not laid out anew.
+fn layout_error<R: Threads + Sync, G: Progress + Sync>(
     run: &Run<'_, R, G>,
     request: &RelayoutArgs<'_>,
     store: &Surviving<'_>,
     files: &FileSet,
     new: &Catalog,
     fault: &RelayoutFault,
-) -> Stop {
+) -> VerbError {
     match fault {
-        RelayoutFault::Memory => Stop::Memory,
-        RelayoutFault::Unsafe => unsafe_already(run.alloc, new),
+        RelayoutFault::Memory => VerbError::OutOfMemory,
+        RelayoutFault::Unsafe => unsafe_already(run.alloc, new, request.catalog),
         RelayoutFault::Store(fault) => refuse(run, store, files, &[], fault),
         _ => {
             let old = store.catalog;
             let words = RelayoutWords { old, new, fault };
-            let path = request.catalog;
-            let text = format!(in run.alloc;
-                "fault: {words}\nnext: change {path}, and lay the store out again\n"
-            );
-            refused(text.ok())
+            VerbError::refused_by(run.alloc, Refusal::Layout, request.catalog, &words)
         }
     }
 }

@@ -5,17 +5,18 @@ ghost use Rattle.cs_schema.specs.FileNames.{HasName, file_path};
 ghost use Rattle.cs_parallel_io.specs.Standing.{standing};
 ghost use Rattle.pinepolo_run.specs.Showing.{Shows, ShowsStore, ShowsFile, LooksOver};
 
+use crate::drawing::draw;
 use cs_file_decode::look_into;
 use cs_inspection::{Badness, bad_files};
 use cs_parallel_io::{SharedSource, load_readable_side_by_side};
 use cs_rebuild::Run;
-use cs_reports::design_of;
+use cs_reports::{design_of, store_picture, with_site};
 use cs_schema::{Catalog, FileName, Loss};
 use cs_store::{Fault, StoreFault};
 use pinepolo_args::ShowArgs;
-use pinepolo_places::{Listings, Places, Stop, find_store, stop_of};
+use pinepolo_places::{Failure, Listings, Places, Refusal, Tables, VerbError, find_store};
 use pinepolo_progress::{Progress, Stage};
-use pinepolo_text::{Answer, FileLine, FileView, StoreView, lines_of, strays_of};
+use pinepolo_text::{Answer, FileLine, FileView, StoreView, files_of, lines_of, strays_of};
 use std::alloc::{AllocError, Global};
 use std::marker::Sync;
 use std::thread::Threads;
@@ -32,65 +33,77 @@ fn look_over<R: Threads + Sync, G: Progress + Sync, S: SharedSource>(
     run: &Run<'_, R, G>,
     catalog: &Catalog,
     source: &S,
-) -> Result<Seen, Stop>
+) -> Result<Seen, VerbError>
     ensures { IfOk result (λ seen. LooksOver (standing S.answers) (standing S.fails) catalog.now source.now seen.bad.items source.now) }
 {
     let alloc = run.alloc;
     let Ok(found) = load_readable_side_by_side(run.rt, alloc, catalog, Loss::none(), source) else {
-        return Err(Stop::Memory);
+        return Err(VerbError::OutOfMemory);
     };
     let unreadable = found.unreadable.as_slice();
     run.gate.reached(Stage::Inspecting);
     let Ok(bad) = bad_files(run.rt, alloc, catalog, &found.files, unreadable) else {
-        return Err(Stop::Memory);
+        return Err(VerbError::OutOfMemory);
     };
     match lines_of(alloc, catalog, &found.files, bad.as_slice()) {
         Ok(lines) => Ok(Seen { bad, lines }),
-        Err(_) => Err(Stop::Memory),
+        Err(_) => Err(VerbError::OutOfMemory),
     }
 }
 
-/// How a folder ends the verb that could not be listed.
-fn unlisted(alloc: Global, fault: StoreFault, path: &str) -> Stop {
-    if let StoreFault::Memory = fault {
-        return Stop::Memory;
+/// The picture of a store with these bad files.
+fn picture_of(
+    alloc: Global,
+    catalog: &Catalog,
+    bad: &[(FileName, Badness)],
+) -> Result<String, AllocError> {
+    let files = files_of(alloc, catalog, bad, &[])?;
+    let mut lost = Loss::none();
+    for file in &files {
+        lost = with_site(lost, file.site);
     }
-    let text = format!(in alloc;
-        "fault: list STORE\nnext: see that {path} is a folder and may be read\n"
-    );
-    match text {
-        Ok(text) => Stop::Device(text),
-        Err(_) => Stop::Memory,
-    }
+    let design = design_of(alloc, catalog, lost)?;
+    store_picture(alloc, catalog, &design, files)
 }
 
-/// What a store holds: its catalog, its files, those that are bad, and what else stands in its folder.
-fn show_store<R: Threads + Sync, G: Progress + Sync, P: Listings>(
+/// What a store holds: its catalog, its files, those that are bad, and what else stands in its folder. Its picture is written,
+/// if a path is given for it.
+fn show_store<R: Threads + Sync, G: Progress + Sync, P: Listings + Tables>(
     run: &Run<'_, R, G>,
     places: &mut P,
     path: &str,
-) -> Result<StoreView, Stop>
-    ensures { IfOk result (λ view. ShowsStore P.reads P.opens (standing P.Store.answers) (standing P.Store.fails) P.lists P.leaves
-        places.old path.now view places.new) }
+    svg: Option<&str>,
+) -> Result<StoreView, VerbError>
+    ensures { IfOk result (λ view. ShowsStore P.reads P.opens (standing P.Store.answers) (standing P.Store.fails) P.lists P.draws P.leaves
+        places.old path.now (option_map (λ p. p.now) svg.entry) view places.new) }
 {
     let alloc = run.alloc;
     let (catalog, source) = match find_store(alloc, places, path) {
         Ok(found) => found,
-        Err(stop) => return Err(stop),
+        Err(error) => return Err(error),
     };
     let names = match places.names(path) {
         Ok(names) => names,
-        Err(fault) => return Err(unlisted(alloc, fault, path)),
+        Err(fault) => {
+            return Err(VerbError::of_device(alloc, fault, Failure::ListStore, path));
+        }
     };
     let Seen { bad, lines } = match look_over(run, &catalog, &source) {
         Ok(seen) => seen,
-        Err(stop) => return Err(stop),
+        Err(error) => return Err(error),
     };
     let Ok(design) = design_of(alloc, &catalog, Loss::none()) else {
-        return Err(Stop::Memory);
+        return Err(VerbError::OutOfMemory);
     };
+    if let Some(svg) = svg {
+        let text = picture_of(alloc, &catalog, bad.as_slice());
+        match draw(alloc, places, svg, text) {
+            Ok(()) => {}
+            Err(error) => return Err(error),
+        }
+    }
     let Ok(unfinished) = places.unfinished(path) else {
-        return Err(Stop::Memory);
+        return Err(VerbError::OutOfMemory);
     };
     match strays_of(alloc, lines.as_slice(), names) {
         Ok(strays) => Ok(StoreView {
@@ -101,7 +114,7 @@ fn show_store<R: Threads + Sync, G: Progress + Sync, P: Listings>(
             strays,
             unfinished,
         }),
-        Err(_) => Err(Stop::Memory),
+        Err(_) => Err(VerbError::OutOfMemory),
     }
 }
 
@@ -127,35 +140,26 @@ fn file_named(alloc: Global, catalog: &Catalog, text: &str) -> Result<Option<Fil
     Ok(None)
 }
 
-/// How a text ends the verb that names no file.
-fn unnamed(alloc: Global, text: &str) -> Stop {
-    let text = format!(in alloc;
-        "fault: the catalog has no file {text:?}\nnext: pinepolo show STORE lists its files\n"
-    );
-    match text {
-        Ok(text) => Stop::Refused(text),
-        Err(_) => Stop::Memory,
-    }
-}
-
 /// What the bytes of one file of a store say.
 fn show_file<P: Places>(
     alloc: Global,
     places: &mut P,
     path: &str,
     file: &str,
-) -> Result<FileView, Stop>
+) -> Result<FileView, VerbError>
     ensures { IfOk result (λ view. ShowsFile P.reads P.opens (standing P.Store.answers)
         places.old path.now file.now view places.new) }
 {
     let (catalog, source) = match find_store(alloc, places, path) {
         Ok(found) => found,
-        Err(stop) => return Err(stop),
+        Err(error) => return Err(error),
     };
     let name = match file_named(alloc, &catalog, file) {
         Ok(Some(name)) => name,
-        Ok(None) => return Err(unnamed(alloc, file)),
-        Err(_) => return Err(Stop::Memory),
+        Ok(None) => {
+            return Err(VerbError::refused_by(alloc, Refusal::NoSuchFile, path, &file));
+        }
+        Err(_) => return Err(VerbError::OutOfMemory),
     };
     let fault = match source.read_shared(name) {
         Ok(Some(bytes)) => match look_into(alloc, &catalog, name, bytes.as_slice()) {
@@ -172,20 +176,20 @@ fn show_file<P: Places>(
         Err(StoreFault::Device) => Fault::Read(name),
         Err(StoreFault::Memory) => Fault::Memory,
     };
-    Err(stop_of(alloc, &catalog, Loss::none(), &fault))
+    Err(VerbError::of_store(alloc, &catalog, path, Loss::none(), &fault))
 }
 
 /// What a store holds, or what the bytes of one of its files say.
-pub fn show<R: Threads + Sync, G: Progress + Sync, P: Listings>(
+pub fn show<R: Threads + Sync, G: Progress + Sync, P: Listings + Tables>(
     run: &Run<'_, R, G>,
     places: &mut P,
     request: &ShowArgs<'_>,
-) -> Result<Answer, Stop>
-    ensures { IfOk result (λ answer. Shows P.reads P.opens (standing P.Store.answers) (standing P.Store.fails) P.lists P.leaves
-        places.old request.now.store.now (option_map (λ file. file.now) request.now.file) answer places.new) }
+) -> Result<Answer, VerbError>
+    ensures { IfOk result (λ answer. Shows P.reads P.opens (standing P.Store.answers) (standing P.Store.fails) P.lists P.draws P.leaves
+        places.old request.now.store.now (option_map (λ file. file.now) request.now.file) (option_map (λ p. p.now) request.now.svg) answer places.new) }
 {
     match request.file {
-        None => show_store(run, places, request.store).map(Answer::Shown),
+        None => show_store(run, places, request.store, request.svg).map(Answer::Shown),
         Some(file) => show_file(run.alloc, places, request.store, file).map(Answer::ShownFile),
     }
 }

@@ -4,16 +4,14 @@ ghost use Rattle.cs_schema.specs.FileNames.{surviving};
 ghost use Rattle.cs_store.specs.Load.{Loads};
 ghost use Rattle.cs_parallel_io.specs.Standing.{standing};
 
-use cs_inspection::{Badness, bad_survivors};
+use cs_inspection::bad_survivors;
 use cs_parallel_io::{SharedSource, load_readable_side_by_side};
 use cs_rebuild::Run;
-use cs_reports::FaultWords;
 use cs_schema::{Catalog, FileName, Loss};
 use cs_store::{Fault, FileSet, Readable};
-use pinepolo_places::{Stop, WorkKind, refused, stop_of};
+use pinepolo_places::{Step, VerbError, WorkKind};
 use pinepolo_progress::Progress;
-use pinepolo_text::{BadStore, NextStep};
-use std::alloc::Global;
+use pinepolo_text::files_of;
 use std::marker::Sync;
 use std::thread::Threads;
 
@@ -28,12 +26,12 @@ pub struct Surviving<'a> {
     pub unfinished: Option<WorkKind>,
 }
 
-impl<'a> Surviving<'a> {
+impl Surviving<'_> {
     /// What tells more of the store, or makes it whole.
-    fn next(&self) -> NextStep<'a> {
-        NextStep {
-            store: self.path,
-            unfinished: self.unfinished,
+    fn step(&self) -> Step {
+        match self.unfinished {
+            Some(kind) => Step::Resume(kind),
+            None => Step::Diagnose,
         }
     }
 }
@@ -43,12 +41,12 @@ pub fn read_survivors<R: Threads + Sync, G: Progress + Sync, S: SharedSource>(
     run: &Run<'_, R, G>,
     store: &Surviving<'_>,
     source: &S,
-) -> Result<FileSet, Stop>
+) -> Result<FileSet, VerbError>
     ensures { IfOk result (λ files. Loads (standing S.answers) (surviving store.now.catalog.now store.now.lost) source.now files source.now) }
 {
     let Ok(found) = load_readable_side_by_side(run.rt, run.alloc, store.catalog, store.lost, source)
     else {
-        return Err(Stop::Memory);
+        return Err(VerbError::OutOfMemory);
     };
     let Readable { files, unreadable } = found;
     match unreadable.first() {
@@ -63,44 +61,24 @@ pub fn read_survivors<R: Threads + Sync, G: Progress + Sync, S: SharedSource>(
     }
 }
 
-/// How a fault of what survives ends a verb: all bad files are named, if it comes of bad files.
+/// The error for a fault of what survives: all bad files are named, if it comes of bad files.
 pub fn refuse<R: Threads + Sync, G: Progress + Sync>(
     run: &Run<'_, R, G>,
     store: &Surviving<'_>,
     files: &FileSet,
     unreadable: &[FileName],
     fault: &Fault,
-) -> Stop {
-    let alloc = run.alloc;
+) -> VerbError {
+    let (alloc, catalog) = (run.alloc, store.catalog);
+    let error = VerbError::of_store(alloc, catalog, store.path, store.lost, fault);
     if let Fault::Memory | Fault::Site | Fault::Unsafe(_) = fault {
-        return stop_of(alloc, store.catalog, store.lost, fault);
+        return error;
     }
-    let Ok(bad) = bad_survivors(run.rt, alloc, store.catalog, files, unreadable, store.lost) else {
-        return Stop::Memory;
+    let Ok(bad) = bad_survivors(run.rt, alloc, catalog, files, unreadable, store.lost) else {
+        return VerbError::OutOfMemory;
     };
-    let Some(lines) = lines_of(alloc, store, bad.as_slice(), fault) else {
-        return Stop::Memory;
-    };
-    if unreadable.is_empty() {
-        Stop::Refused(lines)
-    } else {
-        Stop::Device(lines)
+    match files_of(alloc, catalog, bad.as_slice(), &[]) {
+        Ok(bad) => error.with(store.step(), bad),
+        Err(_) => VerbError::OutOfMemory,
     }
-}
-
-/// The lines of a refusal by a fault, with the bad files.
-fn lines_of(
-    alloc: Global,
-    store: &Surviving<'_>,
-    bad: &[(FileName, Badness)],
-    fault: &Fault,
-) -> Option<String> {
-    let catalog = store.catalog;
-    let next = store.next();
-    if bad.is_empty() {
-        let words = FaultWords { catalog, fault };
-        return format!(in alloc; "fault: {words}\n{next}").ok();
-    }
-    let bad = BadStore { catalog, bad };
-    format!(in alloc; "{bad}{next}").ok()
 }

@@ -16,20 +16,12 @@ use cs_rebuild::Run;
 use cs_schema::{Catalog, FileName, Loss};
 use cs_store::{FileSet, Readable};
 use cs_verifying::{Trusted, is_changed};
-use pinepolo_places::{Places, Stop, find_store_text, refused};
+use pinepolo_places::{Places, Refusal, VerbError, find_store_text};
 use pinepolo_progress::Progress;
 use pinepolo_text::ChangedFile;
 use std::alloc::{AllocError, Global};
 use std::marker::Sync;
 use std::thread::Threads;
-
-/// How a catalog ends a verb of which the manifest says another digest.
-fn changed_catalog(alloc: Global, path: &str) -> Stop {
-    let text = format!(in alloc;
-        "fault: {path}/{CATALOG} has another digest than the manifest's\nnext: give the manifest of this store, or bring its catalog back\n"
-    );
-    refused(text.ok())
-}
 
 /// The store at this path, with its catalog, of which the manifest says no other digest.
 pub fn find_trusted<P: Places>(
@@ -37,16 +29,16 @@ pub fn find_trusted<P: Places>(
     places: &mut P,
     path: &str,
     manifest: &Manifest,
-) -> Result<(Catalog, P::Store), Stop>
+) -> Result<(Catalog, P::Store), VerbError>
     ensures ok { IfOk result (λ found. FindsTrusted P.reads P.opens manifest.now places.old path.now found.0 found.1 places.new) }
     ensures err { OnErr result (LooksUp P.reads P.misses places.old path.now places.new) }
 {
     let (catalog, bytes, source) = match find_store_text(alloc, places, path) {
         Ok(found) => found,
-        Err(stop) => return Err(stop),
+        Err(error) => return Err(error),
     };
     if is_changed(manifest, CATALOG, bytes.as_slice()) {
-        return Err(changed_catalog(alloc, path));
+        return Err(VerbError::refused(alloc, Refusal::CatalogChanged, path));
     }
     Ok((catalog, source))
 }

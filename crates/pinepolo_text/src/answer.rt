@@ -1,21 +1,29 @@
 //! What a verb did.
-use crate::checked::Checked;
+use crate::checked::{Checked, CheckedText};
 use crate::designed::Designed;
-use crate::diagnosed::Diagnosed;
+use crate::diagnosed::{Diagnosed, DiagnosedText};
+use crate::doubted::DoubtedText;
 use crate::dumped::Dumped;
+use crate::file_text::FileText;
+use crate::found_restore::{FoundRestore, FoundText};
 use crate::new_store::NewStore;
 use crate::recovered::Recovered;
 use crate::restoration::Restoration;
+use crate::sited::Sited;
+use crate::store_text::StoreText;
 use crate::undone::Undone;
 use crate::{FileView, StoreView};
 use cs_verifying::{Listed, Verified};
+use pinepolo_drill::{Drilled, DrilledText};
 use std::fmt;
 
-/// What a verb did. Its text is lines, each ended by a line break.
+/// What a verb did.
 #[derive(Drop)]
 pub enum Answer {
     /// A store was checked.
     Checked(Checked),
+    /// A store was tested by rebuilding losses of it.
+    Drilled(Drilled),
     /// A store was looked at as a whole.
     Shown(StoreView),
     /// One file of a store was looked at.
@@ -26,6 +34,8 @@ pub enum Answer {
     Recovered(Recovered),
     /// A store was restored in place, or it was doubtful what it had lost.
     Restored(Restoration),
+    /// A store was diagnosed, and restored if one table explains it.
+    RestoredFound(FoundRestore),
     /// The files of a store were listed with their digests. Its text is what of them is for standard error.
     Listed(Listed),
     /// A store was compared with a manifest.
@@ -42,20 +52,56 @@ pub enum Answer {
     Relaid(NewStore),
 }
 
-impl fmt::Display for Answer {
+/// What a verb did, as lines.
+#[derive(Clone, Copy)]
+pub struct AnswerText<'a> {
+    pub answer: &'a Answer,
+    /// The path of the store that the verb was given, or of its catalog.
+    pub store: &'a str,
+    /// Where its sites stand, if not there.
+    pub sites: Option<Sited<'a>>,
+}
+
+impl fmt::Display for AnswerText<'_> {
     fn fmt<W: fmt::Write>(&self, f: &mut fmt::Formatter<W>) -> fmt::Result {
-        match self {
-            Answer::Checked(checked) => write!(f, "{checked}"),
-            Answer::Shown(view) => write!(f, "{view}"),
-            Answer::ShownFile(view) => write!(f, "{view}"),
-            Answer::Diagnosed(diagnosed) => write!(f, "{diagnosed}"),
+        let (store, sites) = (self.store, self.sites);
+        match self.answer {
+            Answer::Checked(checked) => {
+                write!(
+                    f,
+                    "{}",
+                    CheckedText {
+                        checked,
+                        store,
+                        sites
+                    }
+                )
+            }
+            Answer::Drilled(drilled) => write!(f, "{}", DrilledText { drilled, store }),
+            Answer::Shown(view) => write!(f, "{}", StoreText { view, store, sites }),
+            Answer::ShownFile(view) => write!(f, "{}", FileText { view, store }),
+            Answer::Diagnosed(diagnosed) => {
+                write!(
+                    f,
+                    "{}",
+                    DiagnosedText {
+                        diagnosed,
+                        store,
+                        sites
+                    }
+                )
+            }
             Answer::Recovered(recovered) => write!(f, "{recovered}"),
-            Answer::Restored(restoration) => write!(f, "{restoration}"),
+            Answer::Restored(Restoration::Done(restored)) => write!(f, "{restored}"),
+            Answer::Restored(Restoration::Doubted(doubted)) => {
+                write!(f, "{}", DoubtedText { doubted, store })
+            }
+            Answer::RestoredFound(found) => write!(f, "{}", FoundText { found, store }),
             Answer::Listed(listed) => write!(f, "{listed}"),
             Answer::Verified(verified) => write!(f, "{verified}"),
             Answer::Undone(undone) => write!(f, "{undone}"),
             Answer::Designed(designed) => write!(f, "{designed}"),
-            Answer::Loaded(store) | Answer::Relaid(store) => write!(f, "{store}"),
+            Answer::Loaded(made) | Answer::Relaid(made) => write!(f, "{made}"),
             Answer::Dumped(dumped) => write!(f, "{dumped}"),
         }
     }

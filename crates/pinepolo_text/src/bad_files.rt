@@ -1,32 +1,33 @@
 //! Bad files in lines, one for each, or one for a site of which no file is left.
-use crate::badness::badness_word;
-use crate::changed::{ChangedFile, fault_word};
+use crate::changed::{ChangedFile, problem_in};
 use cs_inspection::Badness;
-use cs_reports::{SitedFile, site_of, with_site};
+use cs_reports::{BadFile, FileProblem, site_of, with_site};
 use cs_schema::{Catalog, FileName, Loss};
-use cs_verifying::FileLine;
+use std::alloc::{AllocError, Global};
 use std::fmt;
 
-/// A line for each bad file, with its site.
-#[derive(Clone, Copy)]
-pub struct FileLines<'a> {
-    pub catalog: &'a Catalog,
-    pub bad: &'a [(FileName, Badness)],
+/// What is wrong with a file that was inspected.
+pub fn problem_of(badness: Badness) -> FileProblem {
+    match badness {
+        Badness::Unreadable => FileProblem::Unreadable,
+        Badness::Missing => FileProblem::Missing,
+        Badness::Damaged => FileProblem::Damaged,
+    }
 }
 
-impl fmt::Display for FileLines<'_> {
-    fn fmt<W: fmt::Write>(&self, f: &mut fmt::Formatter<W>) -> fmt::Result {
-        let catalog = self.catalog;
-        for (name, badness) in self.bad {
-            let file = SitedFile {
-                catalog,
-                name: *name,
-            };
-            let badness = badness_word(badness);
-            writeln!(f, "{file}: {badness}")?;
-        }
-        Ok(())
+/// Bad files with their sites; of some a manifest says another digest.
+pub fn files_of(
+    alloc: Global,
+    catalog: &Catalog,
+    bad: &[(FileName, Badness)],
+    changed: &[ChangedFile],
+) -> Result<Vec<BadFile>, AllocError> {
+    let mut files = Vec::new(alloc);
+    for (name, badness) in bad {
+        let problem = problem_in(changed, *name, *badness);
+        files.push(BadFile::new(catalog, *name, problem))?;
     }
+    Ok(files)
 }
 
 /// A line for each bad file, and one for each site whose files are all missing.
@@ -36,6 +37,8 @@ pub struct BadLines<'a> {
     pub bad: &'a [(FileName, Badness)],
     /// Those of which a manifest says another digest.
     pub changed: &'a [ChangedFile],
+    /// The sites that are away, whose files have no lines.
+    pub away: Loss,
 }
 
 /// How many files a catalog has on a site.
@@ -82,23 +85,20 @@ impl BadLines<'_> {
 }
 
 /// Whether a loss has a site.
-fn has(loss: Loss, site: u8) -> bool {
+pub fn has(loss: Loss, site: u8) -> bool {
     (1..=16).contains(&site) && loss.has(site)
 }
 
 impl fmt::Display for BadLines<'_> {
     fn fmt<W: fmt::Write>(&self, f: &mut fmt::Formatter<W>) -> fmt::Result {
         let gone = self.gone();
-        let mut said = Loss::none();
+        let mut said = self.away;
         for (name, badness) in self.bad {
             let site = site_of(self.catalog, name.projection(), name.segment()).unwrap_or(0);
-            if !has(gone, site) {
-                let line = FileLine {
-                    catalog: self.catalog,
-                    name: *name,
-                    what: fault_word(self.changed, *name, badness),
-                };
-                write!(f, "{line}")?;
+            if !has(gone, site) && !has(self.away, site) {
+                let problem = problem_in(self.changed, *name, *badness);
+                let file = BadFile::new(self.catalog, *name, problem);
+                write!(f, "{file}")?;
             } else if !has(said, site) {
                 said = with_site(said, Some(site));
                 let count = files_on(self.catalog, site);

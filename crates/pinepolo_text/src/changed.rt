@@ -1,6 +1,7 @@
 //! Files of which a manifest says another digest.
-use crate::badness::badness_word;
+use crate::bad_files::problem_of;
 use cs_inspection::Badness;
+use cs_reports::FileProblem;
 use cs_schema::FileName;
 
 /// A file of which a manifest says another digest.
@@ -11,18 +12,18 @@ pub struct ChangedFile {
     pub is_damaged: bool,
 }
 
-/// What a bad file is called, where some are bad because a manifest says so.
-pub fn fault_word(changed: &[ChangedFile], name: FileName, badness: &Badness) -> &'static str {
+/// What is wrong with a bad file, if some are bad because a manifest says so.
+pub fn problem_in(changed: &[ChangedFile], name: FileName, badness: Badness) -> FileProblem {
     for file in changed {
         if file.name == name {
             return if file.is_damaged {
-                "damaged"
+                FileProblem::Damaged
             } else {
-                "changed"
+                FileProblem::Changed
             };
         }
     }
-    badness_word(badness)
+    problem_of(badness)
 }
 
 /// Whether one of these files reads well by itself.

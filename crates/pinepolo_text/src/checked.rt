@@ -3,7 +3,8 @@ ghost use Rattle.std.specs.Prelude.{◌≡◌};
 ghost use Rattle.pinepolo_text.specs.Statuses.{checked_status};
 
 use crate::Unfinished;
-use crate::bad_files::FileLines;
+use crate::bad_files::BadLines;
+use crate::sited::{AwayLines, Sited, StoreWords, away_sites};
 use cs_inspection::Badness;
 use cs_reports::{FaultWords, Next, SiteWords, site_of, with_site};
 use cs_safety::safe;
@@ -90,60 +91,88 @@ impl fmt::Display for Wrong<'_> {
     }
 }
 
-impl Checked {
+/// What a check of the store at a path found, as lines.
+#[derive(Clone, Copy)]
+pub struct CheckedText<'a> {
+    pub checked: &'a Checked,
+    /// The folder of the store.
+    pub store: &'a str,
+    /// Where its sites stand, if not there.
+    pub sites: Option<Sited<'a>>,
+}
+
+impl<'a> CheckedText<'a> {
+    /// The store as words of a command line.
+    fn words(&self) -> StoreWords<'a> {
+        StoreWords {
+            store: self.store,
+            sites: self.sites,
+        }
+    }
+
     /// What to do next about bad files.
     fn write_recovery<W: fmt::Write>(&self, f: &mut fmt::Formatter<W>) -> fmt::Result {
-        let loss = self.bad_sites();
-        let sites = SiteWords(loss);
-        if safe(&self.catalog, loss) {
-            writeln!(f, "next: pinepolo recover STORE OUT{sites}")
+        let loss = self.checked.bad_sites();
+        let (store, sites) = (self.words(), SiteWords(loss));
+        if safe(&self.checked.catalog, loss) {
+            if self.sites.is_some() {
+                // (no restore reaches the folders of sites)
+                return writeln!(f, "next: pinepolo recover {store} OUT{sites}");
+            }
+            writeln!(f, "next: pinepolo restore {store}{sites}")
         } else {
             writeln!(
                 f,
-                "next: bring files of some of these sites back, {loss} can't be recovered together"
+                "next: bring back files of some of these sites: {loss} can't be recovered together"
             )
         }
     }
 
     /// What to do next.
     fn write_next<W: fmt::Write>(&self, f: &mut fmt::Formatter<W>) -> fmt::Result {
-        if let Some(kind) = self.unfinished {
-            let unfinished = Unfinished {
-                kind,
-                store: "STORE",
-            };
+        let store = self.store;
+        if let Some(kind) = self.checked.unfinished {
+            let unfinished = Unfinished { kind, store };
             return write!(f, "{unfinished}");
         }
-        match &self.verdict {
-            Verdict::Sound { .. } => Ok(()),
-            Verdict::BadFiles => self.write_recovery(f),
-            Verdict::Fatal { loss, .. } => self.write_step(f, &Fault::Unsafe(*loss)),
-            Verdict::Unsound(fault) => self.write_step(f, fault),
+        let fault = match &self.checked.verdict {
+            Verdict::Sound { .. } => return Ok(()),
+            Verdict::BadFiles => return self.write_recovery(f),
+            Verdict::Fatal { loss, .. } => Fault::Unsafe(*loss),
+            Verdict::Unsound(fault) => *fault,
+        };
+        if self.sites.is_some() {
+            let verb = match fault {
+                Fault::Unsafe(_) => "design",
+                _ => "diagnose",
+            };
+            let store = self.words();
+            return writeln!(f, "next: pinepolo {verb} {store}");
         }
-    }
-
-    /// What to do next after a fault.
-    fn write_step<W: fmt::Write>(&self, f: &mut fmt::Formatter<W>, fault: &Fault) -> fmt::Result {
         let next = Next {
-            catalog: &self.catalog,
-            lost: Loss::none(),
-            fault,
+            store,
+            sites: Loss::none(),
+            fault: &fault,
         };
         writeln!(f, "next: {next}")
     }
 }
 
-impl fmt::Display for Checked {
+impl fmt::Display for CheckedText<'_> {
     fn fmt<W: fmt::Write>(&self, f: &mut fmt::Formatter<W>) -> fmt::Result {
-        let lines = FileLines {
-            catalog: &self.catalog,
-            bad: self.bad.as_slice(),
+        let checked = self.checked;
+        let lines = BadLines {
+            catalog: &checked.catalog,
+            bad: checked.bad.as_slice(),
+            changed: &[],
+            away: away_sites(self.sites),
         };
-        write!(f, "{lines}")?;
-        match &self.verdict {
+        let away = AwayLines(self.sites);
+        write!(f, "{away}{lines}")?;
+        match &checked.verdict {
             Verdict::Sound { rows, k } => writeln!(f, "ok rows={rows} k={k}")?,
             _ => {
-                let wrong = Wrong(self);
+                let wrong = Wrong(checked);
                 writeln!(f, "fault: {wrong}")?;
             }
         }

@@ -7,6 +7,7 @@ use crate::bad_files::BadLines;
 use crate::changed::{ChangedFile, reads_well};
 use crate::disputed::DisputeLines;
 use crate::explained::{ExplanationLines, VerdictLine};
+use crate::sited::{AwayLines, Sited, StoreWords, away_sites};
 use crate::unrecoverable::BringBack;
 use cs_design::fatal_losses;
 use cs_diagnosis::{Diagnosis, TableDisputes, Verdict};
@@ -90,46 +91,69 @@ impl Diagnosed {
             Verdict::NotRecoverable => NOT_RECOVERABLE,
         }
     }
+}
 
-    /// That work was left unfinished, and how it is finished.
+/// What a diagnosis of the store at a path found, as lines.
+#[derive(Clone, Copy)]
+pub struct DiagnosedText<'a> {
+    pub diagnosed: &'a Diagnosed,
+    /// The folder of the store.
+    pub store: &'a str,
+    /// Where its sites stand, if not there.
+    pub sites: Option<Sited<'a>>,
+}
+
+impl<'a> DiagnosedText<'a> {
+    /// The store as words of a command line.
+    fn words(&self) -> StoreWords<'a> {
+        StoreWords {
+            store: self.store,
+            sites: self.sites,
+        }
+    }
+
+    /// That work was left unfinished, and how it is resumed.
     fn write_unfinished<W: fmt::Write>(&self, f: &mut fmt::Formatter<W>) -> fmt::Result {
-        let Some(kind) = self.unfinished else {
+        let Some(kind) = self.diagnosed.unfinished else {
             return Ok(());
         };
-        let unfinished = Unfinished {
-            kind,
-            store: "STORE",
-        };
+        let store = self.store;
+        let unfinished = Unfinished { kind, store };
         write!(f, "{unfinished}")
     }
 
-    /// The sites whose files are not to be kept.
+    /// The sites whose files must be replaced.
     fn write_forced<W: fmt::Write>(&self, f: &mut fmt::Formatter<W>) -> fmt::Result {
-        let forced = self.diagnosis.forced;
+        let forced = self.diagnosed.diagnosis.forced;
         if forced.count() == 0 {
             return Ok(());
         }
-        writeln!(f, "not to be kept: sites {forced}")
+        writeln!(f, "must be replaced: sites {forced}")
     }
 
     /// The restoring that one table allows, and what must not be lost after the first explanation.
     fn write_restoring<W: fmt::Write>(&self, f: &mut fmt::Formatter<W>) -> fmt::Result {
-        let Some(first) = self.diagnosis.explanations.first() else {
+        let Some(first) = self.diagnosed.diagnosis.explanations.first() else {
             return Ok(());
         };
-        let sites = SiteWords(first.loss);
+        let (store, sites) = (self.words(), SiteWords(first.loss));
         // (a restore finds nothing wrong with what a manifest alone says is changed)
-        let option = if reads_well(self.changed.as_slice()) {
+        let option = if reads_well(self.diagnosed.changed.as_slice()) {
             " --accept-loss"
         } else {
             ""
         };
-        writeln!(f, "next: pinepolo restore{option} STORE{sites}")?;
-        if self.fatal.is_empty() {
+        if self.sites.is_some() {
+            // (no restore reaches the folders of sites)
+            writeln!(f, "next: pinepolo recover {store} OUT{sites}")?;
+        } else {
+            writeln!(f, "next: pinepolo restore{option} {store}{sites}")?;
+        }
+        if self.diagnosed.fatal.is_empty() {
             return Ok(());
         }
         let mut separator = "then fatal: ";
-        for loss in &self.fatal {
+        for loss in &self.diagnosed.fatal {
             write!(f, "{separator}{loss}")?;
             separator = "  ";
         }
@@ -138,29 +162,31 @@ impl Diagnosed {
 
     /// Where the tables differ, and what may tell which is the store's.
     fn write_disputes<W: fmt::Write>(&self, f: &mut fmt::Formatter<W>) -> fmt::Result {
-        for of in &self.disputes {
+        for of in &self.diagnosed.disputes {
             let lines = DisputeLines {
-                catalog: &self.catalog,
-                diagnosis: &self.diagnosis,
+                catalog: &self.diagnosed.catalog,
+                diagnosis: &self.diagnosed.diagnosis,
                 of,
             };
             write!(f, "{lines}")?;
         }
-        f.write_str(
-            "which of the tables is the store's, its files don't say: compare them with a manifest (pinepolo diagnose --manifest FILE STORE) or a backup, or look at the files (pinepolo show STORE FILE)\n",
+        let store = self.words();
+        writeln!(
+            f,
+            "the files alone cannot tell which table is right: compare them with a manifest (pinepolo diagnose --manifest FILE {store}) or a backup, or look at the files (pinepolo show {store} FILE)"
         )
     }
 
     /// What to do next.
     fn write_next<W: fmt::Write>(&self, f: &mut fmt::Formatter<W>) -> fmt::Result {
-        match self.diagnosis.verdict {
+        match self.diagnosed.diagnosis.verdict {
             Verdict::Sound => Ok(()),
             Verdict::OneTable => self.write_restoring(f),
             Verdict::Ambiguous => self.write_disputes(f),
             Verdict::NotRecoverable => {
                 let back = BringBack {
-                    catalog: &self.catalog,
-                    forced: self.diagnosis.forced,
+                    catalog: &self.diagnosed.catalog,
+                    forced: self.diagnosed.diagnosis.forced,
                 };
                 write!(f, "{back}")
             }
@@ -168,24 +194,35 @@ impl Diagnosed {
     }
 }
 
-impl fmt::Display for Diagnosed {
-    fn fmt<W: fmt::Write>(&self, f: &mut fmt::Formatter<W>) -> fmt::Result {
-        let diagnosis = &self.diagnosis;
-        let verdict = VerdictLine(diagnosis);
-        if let Verdict::Sound = diagnosis.verdict {
-            write!(f, "{verdict}")?;
-            return self.write_unfinished(f);
-        }
+impl DiagnosedText<'_> {
+    /// The bad files, the explanations and the verdict.
+    pub(crate) fn write_found<W: fmt::Write>(&self, f: &mut fmt::Formatter<W>) -> fmt::Result {
+        let diagnosis = &self.diagnosed.diagnosis;
         let bad = BadLines {
-            catalog: &self.catalog,
+            catalog: &self.diagnosed.catalog,
             bad: diagnosis.bad.as_slice(),
-            changed: self.changed.as_slice(),
+            changed: self.diagnosed.changed.as_slice(),
+            away: away_sites(self.sites),
         };
         write!(f, "{bad}")?;
         self.write_forced(f)?;
-        let explanations = ExplanationLines(diagnosis);
-        write!(f, "{explanations}{verdict}")?;
-        if self.unfinished.is_some() {
+        let (explanations, verdict) = (ExplanationLines(diagnosis), VerdictLine(diagnosis));
+        write!(f, "{explanations}{verdict}")
+    }
+}
+
+impl fmt::Display for DiagnosedText<'_> {
+    fn fmt<W: fmt::Write>(&self, f: &mut fmt::Formatter<W>) -> fmt::Result {
+        let diagnosis = &self.diagnosed.diagnosis;
+        let away = AwayLines(self.sites);
+        write!(f, "{away}")?;
+        if let Verdict::Sound = diagnosis.verdict {
+            let verdict = VerdictLine(diagnosis);
+            write!(f, "{verdict}")?;
+            return self.write_unfinished(f);
+        }
+        self.write_found(f)?;
+        if self.diagnosed.unfinished.is_some() {
             return self.write_unfinished(f);
         }
         self.write_next(f)

@@ -1,10 +1,10 @@
 //! What a restore answers where it is doubtful what was lost.
 ghost use Rattle.std.specs.Prelude.{◌≤◌};
 
-use crate::diagnosed::Diagnosed;
+use crate::diagnosed::{Diagnosed, DiagnosedText};
 use cs_design::within::is_within;
 use cs_diagnosis::Diagnosis;
-use cs_reports::SiteWords;
+use cs_reports::{ShellWord, SiteWords};
 use cs_schema::Loss;
 use std::fmt;
 
@@ -14,6 +14,8 @@ pub struct Doubted {
     pub diagnosed: Diagnosed,
     /// The sites that were said to be lost.
     pub lost: Loss,
+    /// Whether an unfinished restore was resumed.
+    pub resumes: bool,
 }
 
 /// Whether a loss, without this site of it, holds an explanation.
@@ -30,7 +32,7 @@ fn is_spare(diagnosis: &Diagnosis, loss: Loss, site: u8) -> bool
 }
 
 /// The sites of a loss without which it is accepted with the same table.
-fn spare_sites(diagnosis: &Diagnosis, loss: Loss) -> Loss {
+pub fn spare_sites(diagnosis: &Diagnosis, loss: Loss) -> Loss {
     let mut spare = Loss::none();
     for site in 1..17u8 {
         if loss.has(site) && is_spare(diagnosis, loss, site) {
@@ -40,16 +42,29 @@ fn spare_sites(diagnosis: &Diagnosis, loss: Loss) -> Loss {
     spare
 }
 
-impl fmt::Display for Doubted {
+/// What makes a restore of the store at a path doubtful, as lines.
+#[derive(Clone, Copy)]
+pub struct DoubtedText<'a> {
+    pub doubted: &'a Doubted,
+    /// The folder of the store.
+    pub store: &'a str,
+}
+
+impl fmt::Display for DoubtedText<'_> {
     fn fmt<W: fmt::Write>(&self, f: &mut fmt::Formatter<W>) -> fmt::Result {
-        let diagnosed = &self.diagnosed;
-        write!(f, "{diagnosed}")?;
-        let lost = self.lost;
+        let (store, lost) = (self.store, self.doubted.lost);
+        let diagnosed = &self.doubted.diagnosed;
+        let text = DiagnosedText {
+            diagnosed,
+            store,
+            sites: None,
+        };
+        write!(f, "{text}")?;
         let spare = spare_sites(&diagnosed.diagnosis, lost);
         if spare.count() == 0 {
             writeln!(
                 f,
-                "not restored: the loss of {lost} gives one table, and another loss another one"
+                "not restored: the loss of {lost} gives one table, and another loss a different one"
             )?;
         }
         for site in 1..17u8 {
@@ -60,10 +75,17 @@ impl fmt::Display for Doubted {
                 )?;
             }
         }
+        let store = ShellWord(store);
+        if self.doubted.resumes {
+            return writeln!(
+                f,
+                "if sites {lost} are known to be gone: pinepolo restore --resume --accept-loss {store}"
+            );
+        }
         let sites = SiteWords(lost);
         writeln!(
             f,
-            "where these sites are known to be gone: pinepolo restore --accept-loss STORE{sites}"
+            "if these sites are known to be gone: pinepolo restore --accept-loss {store}{sites}"
         )
     }
 }

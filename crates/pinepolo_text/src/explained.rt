@@ -53,7 +53,7 @@ pub fn verdict_word(verdict: Verdict) -> &'static str {
 #[derive(Clone, Copy)]
 pub struct VerdictLine<'a>(pub &'a Diagnosis);
 
-/// Where one table is certain.
+/// Until how many changed sites one table is certain.
 #[derive(Clone, Copy)]
 struct Certainty {
     forced: u8,
@@ -63,15 +63,12 @@ struct Certainty {
 impl fmt::Display for Certainty {
     fn fmt<W: fmt::Write>(&self, f: &mut fmt::Formatter<W>) -> fmt::Result {
         let Some(changed) = self.reach.certain else {
-            return f.write_str("not certain, more sites are bad than any of which may fail");
+            return f.write_str("not certain: more sites are bad than may fail");
         };
         match changed {
-            0 => f.write_str("certain where no other site was changed")?,
-            1 => f.write_str("certain where at most 1 other site was changed")?,
-            _ => write!(
-                f,
-                "certain where at most {changed} other sites were changed"
-            )?,
+            0 => f.write_str("certain if no other site was changed")?,
+            1 => f.write_str("certain if at most 1 other site was changed")?,
+            _ => write!(f, "certain if at most {changed} other sites were changed")?,
         }
         let tried = self.reach.at_most;
         if tried > self.forced.saturating_add(changed) {

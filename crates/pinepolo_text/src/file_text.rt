@@ -9,7 +9,7 @@ use crate::samples::{first_end, has_gap, last_begin};
 use cs_delta::{Delta, Layer};
 use cs_file_decode::{Content, Digests, Nonsense};
 use cs_jix::JoinIndex;
-use cs_reports::{ColumnNames, SiteWords, SitedFile, site_of, with_site};
+use cs_reports::{ColumnNames, ShellWord, SiteWords, site_of, with_site};
 use cs_schema::{Catalog, FileName, Loss};
 use cs_segment::Segment;
 use std::fmt;
@@ -194,14 +194,14 @@ impl FileView {
     fn write_head<W: fmt::Write>(&self, f: &mut fmt::Formatter<W>) -> fmt::Result {
         let name = self.name;
         let catalog = &self.catalog;
-        let file = SitedFile { catalog, name };
+        let site = site_of(catalog, name.projection(), name.segment()).unwrap_or(0);
         let kind = match name {
             FileName::Seg { .. } => "segment",
             FileName::Del { .. } => "the delta of segment",
             FileName::Jix { .. } => "the join index of segment",
         };
         let s = name.segment();
-        write!(f, "{file}: {kind} {s}")?;
+        write!(f, "{name} (site {site}): {kind} {s}")?;
         write_projection(f, catalog, "of projection", name.projection())?;
         if let FileName::Jix { q, .. } = name {
             write_projection(f, catalog, "into projection", q)?;
@@ -213,33 +213,45 @@ impl FileView {
         };
         writeln!(f, ", {bytes}")
     }
+}
 
-    /// Where the bytes stop making sense, and what to do next.
+/// What is said of a file of the store at a path, as lines.
+#[derive(Clone, Copy)]
+pub struct FileText<'a> {
+    pub view: &'a FileView,
+    /// The folder of the store.
+    pub store: &'a str,
+}
+
+impl FileText<'_> {
+    /// Where the first invalid byte is, and what to do next.
     fn write_nonsense<W: fmt::Write>(
         &self,
         f: &mut fmt::Formatter<W>,
         nonsense: &Nonsense,
     ) -> fmt::Result {
-        let (at, length, wanted) = (nonsense.at, self.report.length, nonsense.wanted);
+        let view = self.view;
+        let (at, length, wanted) = (nonsense.at, view.report.length, nonsense.wanted);
+        let site = site_of(&view.catalog, view.name.projection(), view.name.segment());
+        let sites = SiteWords(with_site(Loss::none(), site));
+        let store = ShellWord(self.store);
         writeln!(
             f,
-            "damaged: byte {at} of {length} makes no sense; expected there: {wanted}"
-        )?;
-        let site = site_of(&self.catalog, self.name.projection(), self.name.segment());
-        let sites = SiteWords(with_site(Loss::none(), site));
-        writeln!(f, "next: pinepolo recover STORE OUT{sites}")
+            "damaged: invalid at byte {at} of {length}; expected: {wanted}\nnext: pinepolo restore {store}{sites}"
+        )
     }
 }
 
-impl fmt::Display for FileView {
+impl fmt::Display for FileText<'_> {
     fn fmt<W: fmt::Write>(&self, f: &mut fmt::Formatter<W>) -> fmt::Result {
-        self.write_head(f)?;
-        if let Some(digests) = &self.report.digests {
+        let view = self.view;
+        view.write_head(f)?;
+        if let Some(digests) = &view.report.digests {
             write_digests(f, digests)?;
         }
-        match &self.report.content {
+        match &view.report.content {
             Content::Segment(segment) => {
-                write_columns(f, &self.catalog, self.name.projection())?;
+                write_columns(f, &view.catalog, view.name.projection())?;
                 write_segment(f, segment)
             }
             Content::Delta(delta) => write_delta(f, delta),

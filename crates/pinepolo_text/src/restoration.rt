@@ -6,7 +6,6 @@ use crate::diagnosed::AMBIGUOUS;
 use crate::doubted::Doubted;
 use crate::restored::Restored;
 use pinepolo_places::DONE;
-use std::fmt;
 
 /// What a restore came to.
 #[derive(Drop)]
@@ -25,15 +24,6 @@ impl Restoration {
         match self {
             Restoration::Done(_) => DONE,
             Restoration::Doubted(_) => AMBIGUOUS,
-        }
-    }
-}
-
-impl fmt::Display for Restoration {
-    fn fmt<W: fmt::Write>(&self, f: &mut fmt::Formatter<W>) -> fmt::Result {
-        match self {
-            Restoration::Done(restored) => write!(f, "{restored}"),
-            Restoration::Doubted(doubted) => write!(f, "{doubted}"),
         }
     }
 }

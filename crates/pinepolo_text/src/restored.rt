@@ -81,7 +81,7 @@ pub fn write_outdated<W: fmt::Write>(f: &mut fmt::Formatter<W>, changed: u64) ->
         0 => Ok(()),
         _ => writeln!(
             f,
-            "a manifest of this store must be made anew: {JOURNAL} has the new digests"
+            "make a new manifest of this store: {JOURNAL} has the new digests"
         ),
     }
 }

@@ -3,8 +3,8 @@ use crate::file_lines::FileLine;
 use crate::memory::recovery_memory;
 use crate::store_text::state_word;
 use crate::store_view::StoreView;
-use cs_reports::object::{Object, losses, number_or_null};
-use cs_reports::site_of;
+use cs_reports::object::{Object, count_or_null, losses, number_or_null};
+use cs_reports::{file_object, site_of};
 use cs_schema::{Catalog, FileName};
 use serde_json::Value;
 use std::alloc::{AllocError, Global};
@@ -43,30 +43,19 @@ fn line_objects(alloc: Global, view: &StoreView) -> Result<Value, AllocError> {
     Ok(Value::Array(list))
 }
 
-/// A number, or null where it isn't known.
-fn known(number: Option<u64>) -> Value {
-    match number {
-        Some(number) => Value::from(number),
-        None => Value::Null,
-    }
-}
-
 /// A file.
 fn line_object(alloc: Global, catalog: &Catalog, line: &FileLine) -> Result<Value, AllocError> {
     let name = line.name;
-    let path = name.path();
     let site = site_of(catalog, name.projection(), name.segment());
     let counted = match name {
         FileName::Seg { .. } => "rows",
         FileName::Del { .. } => "items",
         FileName::Jix { .. } => "entries",
     };
-    Object::new(alloc)
-        .text("path", path.as_str())
-        .member("site", Ok(number_or_null(site)))
+    file_object(alloc, name, site)
         .number("projection", u64::from(name.projection()))
-        .member("bytes", Ok(known(line.bytes)))
-        .member(counted, Ok(known(line.count)))
+        .member("bytes", Ok(count_or_null(line.bytes)))
+        .member(counted, Ok(count_or_null(line.count)))
         .text("state", state_word(line))
         .finish()
 }

@@ -1,13 +1,14 @@
 //! What is said of a store as a whole, as text.
+use crate::bad_files::{has, problem_of};
 use crate::catalog_words::CatalogWords;
 use crate::counted::Counted;
 use crate::file_lines::FileLine;
 use crate::memory::recovery_memory;
+use crate::sited::{AwayLines, Sited, away_sites};
 use crate::store_view::StoreView;
 use crate::unfinished::Unfinished;
-use cs_inspection::Badness;
 use cs_reports::{DesignHead, site_of};
-use cs_schema::FileName;
+use cs_schema::{FileName, Loss};
 use std::fmt;
 
 /// How many bytes a mebibyte has.
@@ -17,9 +18,7 @@ const MEBIBYTE: u64 = 1_048_576;
 pub fn state_word(line: &FileLine) -> &'static str {
     match line.badness {
         None => "sound",
-        Some(Badness::Unreadable) => "unreadable",
-        Some(Badness::Missing) => "missing",
-        Some(Badness::Damaged) => "damaged",
+        Some(badness) => problem_of(badness).word(),
     }
 }
 
@@ -77,12 +76,16 @@ impl StoreView {
         )
     }
 
-    /// The table of files, by sites.
-    fn write_table<W: fmt::Write>(&self, f: &mut fmt::Formatter<W>) -> fmt::Result {
+    /// The table of files, by sites. A site that is away has one line.
+    fn write_table<W: fmt::Write>(&self, f: &mut fmt::Formatter<W>, away: Loss) -> fmt::Result {
         writeln!(f, "site  file          projection")?;
         for site in 1..17u8 {
             if site > self.catalog.sites {
                 return Ok(());
+            }
+            if has(away, site) {
+                writeln!(f, "{site:>4}  away")?;
+                continue;
             }
             for line in &self.lines {
                 self.write_line(f, site, line)?;
@@ -114,31 +117,35 @@ impl StoreView {
         }
         Ok(())
     }
-
-    /// That work was left unfinished, and what to do next.
-    fn write_unfinished<W: fmt::Write>(&self, f: &mut fmt::Formatter<W>) -> fmt::Result {
-        let Some(kind) = self.unfinished else {
-            return Ok(());
-        };
-        let unfinished = Unfinished {
-            kind,
-            store: "STORE",
-        };
-        write!(f, "{unfinished}")
-    }
 }
 
-impl fmt::Display for StoreView {
+/// What is said of the store at a path, as lines.
+#[derive(Clone, Copy)]
+pub struct StoreText<'a> {
+    pub view: &'a StoreView,
+    /// The folder of the store.
+    pub store: &'a str,
+    /// Where its sites stand, if not there.
+    pub sites: Option<Sited<'a>>,
+}
+
+impl fmt::Display for StoreText<'_> {
     fn fmt<W: fmt::Write>(&self, f: &mut fmt::Formatter<W>) -> fmt::Result {
-        let catalog = CatalogWords(&self.catalog);
+        let (view, store) = (self.view, self.store);
+        let catalog = CatalogWords(&view.catalog);
         let head = DesignHead {
-            catalog: &self.catalog,
-            design: &self.design,
+            catalog: &view.catalog,
+            design: &view.design,
         };
-        write!(f, "{catalog}{head}")?;
-        self.write_table(f)?;
-        self.write_sums(f)?;
-        self.write_strays(f)?;
-        self.write_unfinished(f)
+        let away = AwayLines(self.sites);
+        write!(f, "{away}{catalog}{head}")?;
+        view.write_table(f, away_sites(self.sites))?;
+        view.write_sums(f)?;
+        view.write_strays(f)?;
+        let Some(kind) = view.unfinished else {
+            return Ok(());
+        };
+        let unfinished = Unfinished { kind, store };
+        write!(f, "{unfinished}")
     }
 }

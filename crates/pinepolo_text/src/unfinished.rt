@@ -1,4 +1,5 @@
 //! That work on a store was left unfinished.
+use cs_reports::ShellWord;
 use pinepolo_places::{RESTORING, WorkKind};
 use std::fmt;
 
@@ -12,8 +13,10 @@ pub struct Unfinished<'a> {
 
 impl fmt::Display for Unfinished<'_> {
     fn fmt<W: fmt::Write>(&self, f: &mut fmt::Formatter<W>) -> fmt::Result {
-        let (kind, store) = (self.kind, self.store);
-        writeln!(f, "unfinished {kind}: {RESTORING} is there")?;
-        writeln!(f, "next: pinepolo {kind} --resume {store}")
+        let (kind, store) = (self.kind, ShellWord(self.store));
+        writeln!(
+            f,
+            "unfinished {kind}: {RESTORING} is there\nnext: pinepolo {kind} --resume {store}"
+        )
     }
 }

@@ -49,6 +49,6 @@ impl fmt::Display for BringBack<'_> {
         if enough.count() == 0 {
             return Ok(());
         }
-        writeln!(f, "enough to bring back: one of the sites {enough}")
+        writeln!(f, "it is enough to bring back one of the sites {enough}")
     }
 }

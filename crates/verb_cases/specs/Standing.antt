@@ -8,7 +8,6 @@ use Rattle.std.specs.Global.{Vec}
 use Rattle.std.specs.Io.Cursor.{cursor_inner, cursor_position}
 use Rattle.std.specs.declared.io.Cursor.{Cursor}
 use Rattle.cs_schema.specs.FileNames.{file_path}
-use Rattle.cs_schema.specs.Losses.{Sites}
 use Rattle.cs_store.specs.FileSet.{Files}
 use Rattle.cs_store.specs.declared.fault.StoreFault.{StoreFault}
 use Rattle.cs_store.specs.declared.fault.StoreFault.TheVariants.{Device}
@@ -16,6 +15,7 @@ use Rattle.cs_shelf.specs.declared.memory.MemoryShelf.{MemoryShelf}
 use Rattle.cs_shelf.specs.declared.work.Work.{Work}
 use Rattle.cs_shelf.specs.declared.work.Work.TheVariants.{Restore, Undo}
 use Rattle.cs_shelf.specs.declared.work.WorkKind.{WorkKind}
+use Rattle.pinepolo_places.specs.declared.shelves.RestoreOf.{RestoreOf}
 use Rattle.verb_cases.specs.declared.places.MemoryPlaces.{MemoryPlaces}
 use Rattle.verb_cases.specs.declared.standing.Standing.{Standing}
 use Rattle.verb_cases.specs.declared.outputs.MemoryOutput.{MemoryOutput}
@@ -98,11 +98,12 @@ pub record ChangesStore (path : List ℕ) (s t : MemoryPlaces) : Type 0 where
   pub texts : t.texts ≡ s.texts
   pub others : (other : List ℕ) → other ≢ path → get_by_text t.stores other ≡ get_by_text s.stores other
 
--- the shelf holds what stands at this path, where a restore of these sites is now unfinished; no file changed
-pub record TakesStore (s : MemoryPlaces) (path : List ℕ) (lost : Sites) (shelf : MemoryShelf) (t : MemoryPlaces) : Type 0 where
+-- the shelf holds what stands at this path, where this restore is now unfinished; no file changed
+pub record TakesStore (s : MemoryPlaces) (path : List ℕ) (of : RestoreOf) (shelf : MemoryShelf) (t : MemoryPlaces) : Type 0 where
   pub holds : HoldsStore (get_by_text s.stores path) shelf
   pub files : files_at t path ≡ files_at s path
-  pub restoring : option_and_then (λ store. store.restoring) (get_by_text t.stores path) ≡ Some (Restore lost)
+  pub restoring : option_and_then (λ store. store.restoring) (get_by_text t.stores path) ≡ Some (Restore of.lost)
+  pub accepted : option_map (λ store. store.accepts_loss) (get_by_text t.stores path) ≡ Some of.accepts_loss
   pub taken : option_map string_bytes t.taken ≡ Some path
   pub changes : ChangesStore path s t
 

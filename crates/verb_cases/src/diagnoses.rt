@@ -7,7 +7,7 @@ use cs_diagnosis::{are_absent, diagnose, disputed_rows};
 use cs_rebuild::{check, rebuild};
 use cs_schema::{Catalog, Loss};
 use cs_store::FileSet;
-use pinepolo_text::Diagnosed;
+use pinepolo_text::{Diagnosed, DiagnosedText};
 use std::alloc::Global;
 use std::marker::Sync;
 use std::thread::Threads;
@@ -76,6 +76,11 @@ pub fn tell<R: Threads + Sync + AllocGlobal + Print>(rt: &R, case: &Case<'_>) ->
         changed: Vec::new(alloc),
         unfinished: None,
     };
-    print!(rt; "{diagnosed}")?;
+    let text = DiagnosedText {
+        diagnosed: &diagnosed,
+        store: "store",
+        sites: None,
+    };
+    print!(rt; "{text}")?;
     Ok(())
 }

@@ -89,7 +89,7 @@ fn first_places(alloc: Global) -> Result<MemoryPlaces> {
         ("cities.sha256", SUMS),
     ] {
         if places.put_text(path, text.as_bytes()).is_err() {
-            return Err(anyhow!("want of memory"));
+            return Err(anyhow!("out of memory"));
         }
     }
     Ok(places)

@@ -58,6 +58,7 @@ impl MemoryOutput {
             files: copy_files(self.alloc, &self.sink.files)?,
             kept: FileSet::new(self.alloc)?,
             restoring: None,
+            accepts_loss: false,
             begun: None,
             undoable: Vec::new(self.alloc),
         };

@@ -6,7 +6,9 @@ use crate::undos::{number_of, put_shelf, undoable_of};
 use cs_schema::{Catalog, Loss};
 use cs_shelf::MemoryShelf;
 use cs_store::StoreFault;
-use pinepolo_places::{GivenBack, Listings, Shelves, UndoOf, Undoable, Untaken, Work, WorkKind};
+use pinepolo_places::{
+    GivenBack, Listings, RestoreOf, Shelves, UndoOf, Undoable, Untaken, Work, WorkKind,
+};
 use std::alloc::AllocError;
 
 impl Listings for MemoryPlaces {
@@ -46,7 +48,7 @@ impl Shelves for MemoryPlaces {
 
     type Shelf = MemoryShelf;
 
-    ghost takes_store = { λ s path catalog lost store t. TakesStore s path lost store t };
+    ghost takes_store = { λ s path catalog of store t. TakesStore s path of store t };
 
     ghost takes_undo = { λ s path catalog asked back names store t. TakesUndo s path store t };
 
@@ -55,7 +57,12 @@ impl Shelves for MemoryPlaces {
     ghost gives_back = { GivesBack };
 
     #[tactic(auto, using(std::proofs::lemmas::Map::Text::text_keys))]
-    fn take(&mut self, path: &str, _catalog: &Catalog, lost: Loss) -> Result<MemoryShelf, Untaken> {
+    fn take(
+        &mut self,
+        path: &str,
+        _catalog: &Catalog,
+        of: RestoreOf,
+    ) -> Result<MemoryShelf, Untaken> {
         let Ok(name) = String::from_str(self.alloc, path) else {
             return Err(Untaken::Memory);
         };
@@ -74,22 +81,30 @@ impl Shelves for MemoryPlaces {
             return Err(Untaken::Memory);
         };
         store.begun = Some(begun);
-        store.restoring = Some(Work::Restore(lost));
+        store.restoring = Some(Work::Restore(of.lost));
+        store.accepts_loss = of.accepts_loss;
         self.stop = None;
         self.taken = Some(name);
         Ok(shelf)
     }
 
     #[tactic(auto, using(std::proofs::lemmas::Map::Text::text_keys))]
-    fn resume(&mut self, path: &str, _catalog: &Catalog) -> Result<(MemoryShelf, Loss), Untaken> {
+    fn resume(
+        &mut self,
+        path: &str,
+        _catalog: &Catalog,
+    ) -> Result<(MemoryShelf, RestoreOf), Untaken> {
         let Ok(name) = String::from_str(self.alloc, path) else {
             return Err(Untaken::Memory);
         };
         let Some(store) = self.stores.get(path) else {
             return Err(Untaken::Device);
         };
-        let lost = match store.restoring {
-            Some(Work::Restore(lost)) => lost,
+        let of = match store.restoring {
+            Some(Work::Restore(lost)) => RestoreOf {
+                lost,
+                accepts_loss: store.accepts_loss,
+            },
             Some(Work::Undo(_)) => return Err(Untaken::UnfinishedUndo),
             None => return Err(Untaken::Finished),
         };
@@ -97,7 +112,7 @@ impl Shelves for MemoryPlaces {
             return Err(Untaken::Memory);
         };
         self.taken = Some(name);
-        Ok((shelf, lost))
+        Ok((shelf, of))
     }
 
     #[tactic(auto, using(std::proofs::lemmas::Map::Text::text_keys))]
@@ -136,7 +151,7 @@ impl Shelves for MemoryPlaces {
         Ok((shelf, undoable))
     }
 
-    fn look(&self, path: &str, _catalog: &Catalog) -> Result<MemoryShelf, StoreFault> {
+    fn look(&self, path: &str, _catalog: &Catalog, _lost: Loss) -> Result<MemoryShelf, StoreFault> {
         match self.stores.get(path) {
             Some(store) => match store.shelf(self.alloc, None) {
                 Ok(shelf) => Ok(shelf),

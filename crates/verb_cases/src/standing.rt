@@ -17,6 +17,8 @@ pub struct Standing {
     pub kept: FileSet,
     /// The restore or the undo that is not finished.
     pub restoring: Option<Work>,
+    /// Whether the loss of that restore is accepted.
+    pub accepts_loss: bool,
     /// The files as they stood when that began.
     pub begun: Option<FileSet>,
     /// What restores and undos that are finished changed, from number 1 on.

@@ -120,5 +120,6 @@ pub fn put_shelf(
     Ok(GivenBack {
         kept,
         is_unfinished,
+        is_synced: true,
     })
 }

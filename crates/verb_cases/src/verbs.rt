@@ -3,9 +3,20 @@ use crate::places::MemoryPlaces;
 use anyhow::Result;
 use pinepolo_args::parse;
 use pinepolo_progress::OpenGate;
-use pinepolo_run::{Host, World, run};
+use pinepolo_run::{Host, Meter, World, run};
 use std::marker::Sync;
 use std::thread::Threads;
+
+// (no test rests on a clock)
+impl Meter for MemoryPlaces {
+    fn milliseconds(&self) -> u64 {
+        0
+    }
+
+    fn peak(&self) -> Option<u64> {
+        None
+    }
+}
 
 impl World for MemoryPlaces {}
 
@@ -27,6 +38,7 @@ pub fn answered<R: Threads + Sync + AllocGlobal + Print>(
         rt,
         alloc,
         gate: &OpenGate,
+        sites: None,
     };
     let mut out = Vec::new(alloc);
     let mut err = Vec::new(alloc);

@@ -1,8 +1,8 @@
 //! Rows with their boxes.
 use super::escaped::Escaped;
 use super::frame::{Frame, LEFT, WIDTH};
+use super::looks::{Look, Paint};
 use super::rows::Row;
-use cs_schema::Loss;
 use std::alloc::AllocError;
 use std::fmt::Write;
 
@@ -37,20 +37,15 @@ fn draw_lines(text: &mut String, style: Style, lines: &[String]) -> Result<(), A
 pub fn draw_row(
     text: &mut String,
     frame: &Frame,
-    lost: Loss,
+    paint: &Paint,
     row: &Row<'_>,
 ) -> Result<(), AllocError> {
     draw_band(text, frame, row)?;
     let projection = row.projection;
     for (s, site) in projection.sites.iter().enumerate() {
-        draw_box(text, frame, row, (s, *site), is_lost(lost, *site))?;
+        draw_box(text, frame, row, (s, *site), paint.look_of(row.p, s, *site))?;
     }
     Ok(())
-}
-
-/// Whether a site is lost.
-pub fn is_lost(lost: Loss, site: u8) -> bool {
-    (1..=16).contains(&site) && lost.has(site)
 }
 
 /// What lies behind the boxes of a row, and its name.
@@ -76,23 +71,23 @@ fn draw_box(
     frame: &Frame,
     row: &Row<'_>,
     at: (usize, u8),
-    struck: bool,
+    look: Look,
 ) -> Result<(), AllocError> {
     let (s, site) = at;
     let (x, y) = (frame.x_of(site), row.box_top(s));
     let (width, height) = (frame.width, row.box_height);
-    let fill = if struck { "#dddddd" } else { "#ffffff" };
+    let Look {
+        fill,
+        mark,
+        attributes,
+    } = look;
     write!(
         text,
         r##"<rect x="{x}" y="{y}" width="{width}" height="{height}" rx="3" fill="{fill}" stroke="#334155"/>
 "##
     )?;
-    let attributes = if struck {
-        r##" fill="#555555" text-decoration="line-through""##
-    } else {
-        ""
-    };
     draw_title(text, frame, (x, y), s, attributes)?;
+    draw_mark(text, frame, (x, y), mark)?;
     let style = Style {
         x: x.saturating_add(4),
         y: y.saturating_add(frame.line.saturating_mul(2)),
@@ -117,6 +112,25 @@ fn draw_title(
     write!(
         text,
         r##"<text x="{x}" y="{y}" font-weight="bold"{attributes}>{word}{blank}{s}</text>
+"##
+    )
+}
+
+/// The mark of a box at the end of its first line, if it has one.
+fn draw_mark(
+    text: &mut String,
+    frame: &Frame,
+    at: (u64, u64),
+    mark: &str,
+) -> Result<(), AllocError> {
+    if mark.is_empty() {
+        return Ok(());
+    }
+    let x = at.0.saturating_add(frame.width).saturating_sub(4);
+    let y = at.1.saturating_add(frame.line);
+    write!(
+        text,
+        r##"<text x="{x}" y="{y}" font-weight="bold" text-anchor="end">{mark}</text>
 "##
     )
 }

@@ -1,6 +1,6 @@
 //! The columns of the sites.
-use super::boxes::is_lost;
 use super::frame::Frame;
+use super::looks::is_lost;
 use crate::design::Design;
 use cs_schema::Loss;
 use std::alloc::AllocError;

@@ -1,0 +1,95 @@
+//! What becomes of each name, written down once what stood there is kept.
+ghost use Rattle.std.specs.Prelude.{◌≡◌};
+
+use crate::keeping::{keep_names, make_kept_folder};
+use crate::record::Change;
+use crate::shelf::FolderShelf;
+use cs_file_system::SystemFiles;
+use cs_schema::FileName;
+use std::alloc::{AllocError, Global};
+use std::collections::BTreeMap;
+use std::fs::File;
+use std::io;
+use std::io::ErrorKind;
+use std::rt::Files;
+
+/// Which of these names nothing was written down of. What was stays: those names may have been given new bytes already.
+fn fresh_names(
+    alloc: Global,
+    changes: &BTreeMap<FileName, Change>,
+    names: &[FileName],
+) -> Result<Vec<FileName>, AllocError> {
+    let mut fresh = Vec::new(alloc);
+    for name in names {
+        if !changes.contains_key(name) {
+            fresh.push(*name)?;
+        }
+    }
+    Ok(fresh)
+}
+
+/// Adds what becomes of these names.
+fn add_all(
+    changes: &mut BTreeMap<FileName, Change>,
+    names: &[FileName],
+    became: &[Change],
+) -> Result<(), AllocError> {
+    for (name, change) in names.iter().zip(became) {
+        changes.insert(*name, *change)?;
+    }
+    Ok(())
+}
+
+impl<R: Files + Copy + Drop> FolderShelf<R> {
+    /// Keeps what stands under these names in `replaced/N`, which is made unless it is there: what becomes of each.
+    fn keep_fresh(&self, names: &[FileName]) -> io::Result<Vec<Change>> {
+        let store = self.path.as_str();
+        let all = format!(in self.alloc; "{store}/replaced")?;
+        let folder = format!(in self.alloc; "{all}/{}", self.number())?;
+        let files = &mut SystemFiles(&self.rt);
+        make_kept_folder(files, store, all.as_str(), folder.as_str())?;
+        keep_names(files, self.alloc, store, folder.as_str(), names)
+    }
+
+    /// What was written down of what becomes of each name.
+    fn noted(&mut self) -> BTreeMap<FileName, Change>
+        ensures { self.new.faults ≡ self.old.faults }
+    {
+        let noted = match &mut self.taken {
+            Some(taken) => taken.record.changes.take(),
+            None => None,
+        };
+        noted.unwrap_or(BTreeMap::new(self.alloc))
+    }
+}
+
+impl<R: Files<File = File> + Copy + Drop> FolderShelf<R> {
+    /// Keeps what stands under these names, and then writes down what becomes of each.
+    pub fn keep_all(&mut self, names: &[FileName]) -> io::Result<()>
+        ensures { self.new.faults ≡ self.old.faults }
+    {
+        if names.is_empty() {
+            return Ok(());
+        }
+        self.has_changed = true;
+        let mut changes = self.noted();
+        let fresh = fresh_names(self.alloc, &changes, names)?;
+        self.digests.keep(fresh.as_slice())?;
+        let kept = self.keep_fresh(fresh.as_slice())?;
+        add_all(&mut changes, fresh.as_slice(), kept.as_slice())?;
+        self.note(changes)
+    }
+
+    /// Writes down what becomes of each name, before any is given new bytes.
+    fn note(&mut self, changes: BTreeMap<FileName, Change>) -> io::Result<()>
+        ensures { self.new.faults ≡ self.old.faults }
+    {
+        let Some(taken) = &mut self.taken else {
+            // a folder that is only looked at
+            return Err(io::Error::from(ErrorKind::PermissionDenied));
+        };
+        let noted = taken.note(self.alloc, &self.rt, self.path.as_str(), changes);
+        self.has_kept = taken.record.keeps_any();
+        noted
+    }
+}

@@ -1,0 +1,28 @@
+//! Paths as words of a command line.
+use std::fmt;
+
+/// A path as a word that a shell reads as it is: between quotes if it has a blank or another special character.
+#[derive(Clone, Copy)]
+pub struct ShellWord<'a>(pub &'a str);
+
+/// Whether a shell gives a character no meaning of its own.
+fn is_plain(c: char) -> bool {
+    matches!(c, 'a'..='z' | 'A'..='Z' | '0'..='9' | '_' | '-' | '.' | '/' | ',' | ':' | '=' | '@' | '%' | '+')
+}
+
+impl fmt::Display for ShellWord<'_> {
+    fn fmt<W: fmt::Write>(&self, f: &mut fmt::Formatter<W>) -> fmt::Result {
+        let path = self.0;
+        if !path.is_empty() && path.chars().all(is_plain) {
+            return f.write_str(path);
+        }
+        f.write_str("'")?;
+        for c in path.chars() {
+            match c {
+                '\'' => f.write_str("'\\''")?,
+                _ => f.write_char(c)?,
+            }
+        }
+        f.write_str("'")
+    }
+}

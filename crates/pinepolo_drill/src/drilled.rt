@@ -1,0 +1,149 @@
+//! What a drill answers.
+ghost use Rattle.std.specs.Prelude.{◌≡◌};
+ghost use Rattle.std.specs.List.{list_any};
+ghost use Rattle.pinepolo_drill.specs.Statuses.{drilled_status, is_failed};
+
+use crate::meter::Measure;
+use crate::trial_words::{Lost, TrialLine};
+use cs_drill::{Outcome, Trial};
+use cs_reports::ShellWord;
+use cs_schema::{Catalog, Loss};
+use cs_store::Fault;
+use pinepolo_places::{DONE, REFUSED};
+use std::fmt;
+
+/// What a drill found.
+#[derive(Drop)]
+pub struct Drilled {
+    /// The catalog of the store.
+    pub catalog: Catalog,
+    /// The greatest number of sites of a loss that was tried.
+    pub at_most: u8,
+    /// The losses that were tried, in the order of losses.
+    pub trials: Vec<Trial>,
+    /// What each of them took.
+    pub measures: Vec<Measure>,
+}
+
+/// Whether a loss can't be rebuilt, or differs from what stands.
+pub fn is_failed(trial: &Trial) -> bool
+    ensures { result ≡ is_failed trial.now }
+{
+    match &trial.outcome {
+        Outcome::Rebuilt(rebuilt) => !rebuilt.is_same,
+        Outcome::Refused(_) => true,
+    }
+}
+
+/// Whether the catalog does not survive a loss.
+fn is_unsafe(trial: &Trial) -> bool {
+    match &trial.outcome {
+        Outcome::Refused(Fault::Unsafe(_)) => true,
+        _ => false,
+    }
+}
+
+/// Whether one of the losses can't be rebuilt, or differs from what stands.
+fn any_failed(trials: &[Trial]) -> bool
+    ensures { result ≡ list_any is_failed trials.now }
+{
+    trials.iter().any(|trial| is_failed(trial))
+}
+
+impl Drilled {
+    /// The status that tells it: 1 if a loss can't be rebuilt, or differs from what stands; else 0.
+    pub fn status(&self) -> u8
+        ensures { result ≡ drilled_status self.now.trials.items }
+    {
+        if any_failed(self.trials.as_slice()) {
+            REFUSED
+        } else {
+            DONE
+        }
+    }
+
+    /// The number of losses that can't be rebuilt, or differ from what stands.
+    fn failures(&self) -> u64 {
+        let mut count = 0u64;
+        for trial in &self.trials {
+            if is_failed(trial) {
+                count = count.saturating_add(1);
+            }
+        }
+        count
+    }
+
+    /// Whether the catalog survives none of the losses that failed.
+    fn fails_by_design(&self) -> bool {
+        for trial in &self.trials {
+            if is_failed(trial) && !is_unsafe(trial) {
+                return false;
+            }
+        }
+        true
+    }
+
+    /// The first of the losses that took longest, and what it took.
+    pub fn slowest(&self) -> Option<(Loss, Measure)> {
+        let mut slowest: Option<(Loss, Measure)> = None;
+        for (trial, measure) in self.trials.iter().zip(self.measures.iter()) {
+            let is_slower = match &slowest {
+                Some((_loss, other)) => measure.milliseconds > other.milliseconds,
+                None => true,
+            };
+            if is_slower {
+                slowest = Some((trial.loss, *measure));
+            }
+        }
+        slowest
+    }
+}
+
+/// What a drill of the store at a path found, as lines.
+#[derive(Clone, Copy)]
+pub struct DrilledText<'a> {
+    pub drilled: &'a Drilled,
+    /// The folder of the store.
+    pub store: &'a str,
+}
+
+impl DrilledText<'_> {
+    /// The verdict, and what to do next.
+    fn write_verdict<W: fmt::Write>(&self, f: &mut fmt::Formatter<W>) -> fmt::Result {
+        let drilled = self.drilled;
+        let (losses, sites) = (drilled.trials.len(), drilled.at_most);
+        let failures = drilled.failures();
+        if failures == 0 {
+            return writeln!(f, "ok losses={losses} at_most={sites}");
+        }
+        let store = ShellWord(self.store);
+        let verb = if drilled.fails_by_design() {
+            "design"
+        } else {
+            "diagnose"
+        };
+        writeln!(
+            f,
+            "fault: {failures} of {losses} losses are not rebuilt as the store stands\nnext: pinepolo {verb} {store}"
+        )
+    }
+}
+
+impl fmt::Display for DrilledText<'_> {
+    fn fmt<W: fmt::Write>(&self, f: &mut fmt::Formatter<W>) -> fmt::Result {
+        let drilled = self.drilled;
+        for (trial, measure) in drilled.trials.iter().zip(drilled.measures.iter()) {
+            let line = TrialLine {
+                catalog: &drilled.catalog,
+                trial,
+                measure: *measure,
+            };
+            write!(f, "{line}")?;
+        }
+        if let Some((loss, measure)) = drilled.slowest() {
+            let lost = Lost(loss);
+            writeln!(f, "slowest: lost {lost}  {measure}")?;
+        }
+        self.write_verdict(f)
+    }
+}

@@ -1,0 +1,112 @@
+//! Why the folders of a store's sites are refused.
+use cs_sites::SitesFault;
+use pinepolo_places::{DEVICE, MEMORY, REFUSED, USAGE};
+use std::fmt;
+use std::io::Write;
+
+/// A copy of a store's catalog.
+#[derive(Debug, Drop)]
+pub struct CatalogCopy {
+    /// The path of the store or of the site's folder that it belongs to.
+    pub path: String,
+    /// The SHA-256 digest of its bytes.
+    pub digest: [u8; 32],
+}
+
+/// Why the folders of a store's sites are refused.
+#[derive(Debug, Drop)]
+pub enum SitesError {
+    /// Memory ran out.
+    OutOfMemory,
+    /// The SITES file at this path cannot be read.
+    Unreadable(String),
+    /// The SITES file at this path is refused.
+    Refused(String, SitesFault),
+    /// In the SITES file at the first path, these two sites have one folder, which is at the second path.
+    OneFolder(String, (u8, u8), String),
+    /// Two copies of the catalog differ.
+    CatalogsDiffer(CatalogCopy, CatalogCopy),
+}
+
+/// A digest in hexadecimal digits.
+#[derive(Clone, Copy)]
+struct Digits<'a>(&'a [u8]);
+
+impl fmt::Display for Digits<'_> {
+    fn fmt<W: fmt::Write>(&self, f: &mut fmt::Formatter<W>) -> fmt::Result {
+        for byte in self.0 {
+            write!(f, "{byte:02x}")?;
+        }
+        Ok(())
+    }
+}
+
+impl fmt::Display for CatalogCopy {
+    fn fmt<W: fmt::Write>(&self, f: &mut fmt::Formatter<W>) -> fmt::Result {
+        let (digest, path) = (Digits(self.digest.as_slice()), self.path.as_str());
+        writeln!(f, "{digest}  {path}")
+    }
+}
+
+impl SitesError {
+    /// The status that tells it: 1 if copies of the catalog differ, 2 if the SITES file is refused.
+    pub fn status(&self) -> u8 {
+        match self {
+            SitesError::OutOfMemory => MEMORY,
+            SitesError::Unreadable(_) => DEVICE,
+            SitesError::Refused(..) | SitesError::OneFolder(..) => USAGE,
+            SitesError::CatalogsDiffer(..) => REFUSED,
+        }
+    }
+
+    /// What to do next.
+    fn advice(&self) -> &'static str {
+        match self {
+            SitesError::OutOfMemory => "run it with fewer workers, or with more memory",
+            SitesError::Unreadable(_) => "see that it is a file that may be read",
+            SitesError::Refused(..) => {
+                "give each site of the catalog one [[site]] table, with its number and its folder"
+            }
+            SitesError::OneFolder(..) => "give each site a folder of its own",
+            SitesError::CatalogsDiffer(..) =>
+                "put the store's catalog.toml in the place of the other",
+        }
+    }
+}
+
+/// What is wrong, and what to do next, as lines.
+impl fmt::Display for SitesError {
+    fn fmt<W: fmt::Write>(&self, f: &mut fmt::Formatter<W>) -> fmt::Result {
+        match self {
+            SitesError::OutOfMemory => f.write_str("fault: out of memory\n")?,
+            SitesError::Unreadable(file) => {
+                let file = file.as_str();
+                writeln!(f, "fault: read {file}")?;
+            }
+            SitesError::Refused(file, fault) => {
+                let file = file.as_str();
+                writeln!(f, "fault: {file}: {fault}")?;
+            }
+            SitesError::OneFolder(file, (first, second), folder) => {
+                let (file, folder) = (file.as_str(), folder.as_str());
+                writeln!(
+                    f,
+                    "fault: {file}: sites {first} and {second} have one folder: {folder}"
+                )?;
+            }
+            SitesError::CatalogsDiffer(one, other) => {
+                write!(f, "fault: two copies of catalog.toml differ\n{one}{other}")?;
+            }
+        }
+        let advice = self.advice();
+        writeln!(f, "next: {advice}")
+    }
+}
+
+/// Says on `err` why the folders are refused, and gives the status: that of a device if `err` cannot be written.
+pub fn report_sites<E: Write>(error: &SitesError, err: &mut E) -> u8 {
+    match write!(err, "{error}") {
+        Ok(()) => error.status(),
+        Err(_) => DEVICE,
+    }
+}

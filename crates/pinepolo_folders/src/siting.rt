@@ -1,0 +1,95 @@
+//! Requests, with the folders of the sites that they name.
+ghost use Rattle.std.specs.Prelude.{◌≤◌};
+
+use crate::folders::Folders;
+use crate::sites_error::SitesError;
+use cs_schema::Loss;
+use pinepolo_args::{DesignArgs, ParseExit, Request, Verb};
+use pinepolo_run::{AwaySite, Sited};
+use std::rt::Files;
+
+/// A request, with the folders of its store's sites found.
+#[derive(Drop)]
+pub struct SitedRequest<'x> {
+    parsed: Result<Request<'x>, ParseExit>,
+    /// The sites whose folders are away.
+    away: Vec<AwaySite>,
+}
+
+/// A loss with the sites that are away.
+fn lost_with(lost: Loss, away: &[AwaySite]) -> Loss {
+    let mut loss = lost;
+    for away in away {
+        if (1..=16).contains(&away.site) {
+            loss = loss.with(away.site);
+        }
+    }
+    loss
+}
+
+/// The request. If it is `design`, the sites that are away are lost as well.
+fn without<'x>(request: Request<'x>, away: &[AwaySite]) -> Request<'x> {
+    let verb = match request.verb {
+        Verb::Design(args) => Verb::Design(DesignArgs {
+            lost: lost_with(args.lost, away),
+            svg: args.svg,
+            catalog: args.catalog,
+        }),
+        other => other,
+    };
+    Request {
+        verb,
+        workers: request.workers,
+        json: request.json,
+        quiet: request.quiet,
+        sites: request.sites,
+    }
+}
+
+impl<'x> SitedRequest<'x> {
+    /// What is to be run: a request, or why there is none.
+    pub fn parsed(&self) -> &Result<Request<'x>, ParseExit> {
+        &self.parsed
+    }
+
+    /// Where the sites of the store stand, if each has a folder of its own.
+    pub fn sites(&self) -> Option<Sited<'_>> {
+        match &self.parsed {
+            Ok(request) => match request.sites {
+                Some(file) => Some(Sited {
+                    file,
+                    away: self.away.as_slice(),
+                }),
+                None => None,
+            },
+            Err(_) => None,
+        }
+    }
+}
+
+impl<R: Files + Copy> Folders<R> {
+    /// Finds the folders of the sites of what was asked for: if it names a SITES file, each site of its store has the
+    /// folder that this file names, and otherwise all sites have the store's.
+    pub fn find_sites_of<'x>(
+        &mut self,
+        parsed: Result<Request<'x>, ParseExit>,
+    ) -> Result<SitedRequest<'x>, SitesError> {
+        self.sites = None;
+        let request = match parsed {
+            Ok(request) => request,
+            Err(exit) => {
+                let (parsed, away) = (Err(exit), Vec::new(self.alloc));
+                return Ok(SitedRequest { parsed, away });
+            }
+        };
+        let away = match request.sites {
+            Some(file) => match self.use_sites(file, request.verb.path()) {
+                Ok(away) => away,
+                Err(error) => return Err(error),
+            },
+            None => Vec::new(self.alloc),
+        };
+        let parsed = Ok(without(request, away.as_slice()));
+        Ok(SitedRequest { parsed, away })
+    }
+}

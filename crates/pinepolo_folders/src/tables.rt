@@ -1,0 +1,39 @@
+//! Tables as CSV, and new stores, in the folders of the system. No contract is told what they hold.
+ghost use Rattle.std.specs.Prelude.{⊤};
+
+use crate::folders::Folders;
+use cs_folders::{NewStoreFolder, open_text, way_to, write_whole};
+use cs_store::StoreFault;
+use pinepolo_places::{Tables, Way};
+use std::rt::Files;
+
+impl<R: Files + Copy> Tables for Folders<R> {
+    type Input = R::File;
+
+    type NewStore = NewStoreFolder<R>;
+
+    ghost opens_table = { λ s path input t. ⊤ };
+
+    ghost begins = { λ s path catalog store t. ⊤ };
+
+    ghost writes_table = { λ s path text t. ⊤ };
+
+    fn way(&self, path: &str) -> Result<Way, StoreFault> {
+        way_to(self.alloc, &self.rt, path)
+    }
+
+    fn table(&mut self, path: &str) -> Result<R::File, StoreFault> {
+        let opened = open_text(&self.rt, path);
+        self.told(opened)
+    }
+
+    fn new_store(&mut self, path: &str, catalog: &[u8]) -> Result<NewStoreFolder<R>, StoreFault> {
+        let made = NewStoreFolder::make(self.alloc, self.rt, path, catalog);
+        self.told(made)
+    }
+
+    fn write_table(&mut self, path: &str, text: &[u8]) -> Result<(), StoreFault> {
+        let written = write_whole(self.alloc, &self.rt, path, text);
+        self.told(written)
+    }
+}

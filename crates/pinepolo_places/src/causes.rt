@@ -1,0 +1,214 @@
+//! What a verb can fail at, and for what it refuses what it was given, each with its texts.
+//!
+//! In a text `{0}` stands for the path, `{1}` for the path as a word of a command line, `{2}` for what is wrong there in words,
+//! `{3}` for a number or a verb, and `{4}` for a file.
+use arrayvec::ArrayString;
+use cs_schema::FileName;
+use cs_shelf::WorkKind;
+
+/// At what a file, a folder or a stream failed.
+#[derive(Clone, Copy, Debug)]
+pub enum Failure {
+    /// A catalog was read.
+    ReadCatalog,
+    /// A manifest was read.
+    ReadManifest,
+    /// A CSV was read.
+    ReadTable,
+    /// The folder of a store was looked at.
+    ReadStore,
+    /// The folder of a store was listed.
+    ListStore,
+    /// The folder of an output was made.
+    MakeOutput,
+    /// This file of an output was written; if none, its mark.
+    WriteOutput(Option<FileName>),
+    /// Something new was made at a path.
+    MakeNew,
+    /// This file of a new store was written.
+    WriteNew(FileName),
+    /// The record of a restore or an undo was written.
+    WriteRecord,
+    /// The record of a restore or an undo was removed.
+    RemoveRecord(WorkKind),
+    /// That the record of finished work is gone was brought to the disk.
+    SyncEnd,
+}
+
+/// A place in a CSV.
+#[derive(Clone, Copy, Debug)]
+pub struct CsvPlace {
+    /// The number of the record, from 1 after the header, if one is to blame.
+    pub record: Option<u64>,
+    /// The name of the column, if one is to blame.
+    pub column: Option<ArrayString<32>>,
+}
+
+/// For what a store, a text or a path is refused.
+#[derive(Clone, Copy, Debug)]
+pub enum Refusal {
+    /// Something is at the path already.
+    Exists,
+    /// What an earlier run began at the path was not finished.
+    Begun,
+    /// The catalog has no file of this name.
+    NoSuchFile,
+    /// A manifest says another digest of the catalog.
+    CatalogChanged,
+    /// A text is no manifest.
+    NotManifest,
+    /// A CSV makes no store, because of what is at this place.
+    Table(CsvPlace),
+    /// A table is not laid out under another catalog.
+    Layout,
+    /// This work on the store was left unfinished.
+    Unfinished(WorkKind),
+    /// No such work on the store is unfinished.
+    NothingToResume(WorkKind),
+    /// Other work on the store is being done.
+    Busy,
+    /// The record of unfinished work can't be read as one.
+    DamagedRecord,
+    /// Nothing is kept that could be put back: under this number, if one was given.
+    NothingKept(Option<u32>),
+    /// What is kept under this number has no record.
+    NoRecord(u32),
+    /// This file of what is kept under this number is missing, or can't be read.
+    Incomplete(u32, FileName),
+}
+
+/// What is said of a failure, and what to do next.
+pub fn failure_texts(failure: &Failure) -> (&'static str, &'static str) {
+    match failure {
+        Failure::ReadCatalog => (
+            "read catalog.toml",
+            "see that {0} is a store, and that its catalog is a regular file of at most 1 MiB",
+        ),
+        Failure::ReadManifest => (
+            "read {0}",
+            "see that {0} is a file of less than 16 MiB that may be read",
+        ),
+        Failure::ReadTable => ("read {0}", "see that {0} is a file that may be read"),
+        Failure::ReadStore => ("read {0}", "see that {0} is a folder and may be read"),
+        Failure::ListStore => ("list {0}", "see that {0} is a folder and may be read"),
+        Failure::MakeOutput => (
+            "write {0}",
+            "see that nothing is at {0} yet, and that its parent folder is there and may be written to",
+        ),
+        Failure::WriteOutput(_) => (
+            "write {0}/{4}",
+            "see that the disk has room, remove {0}, and run it again",
+        ),
+        Failure::MakeNew => (
+            "write {0}",
+            "see that its parent folder is there and may be written to",
+        ),
+        Failure::WriteNew(_) => (
+            "write {0}.partial/{4}",
+            "see that the disk has room, and run it again with --replace-partial",
+        ),
+        Failure::WriteRecord => (
+            "write {0}/RESTORING",
+            "see that {0} is a folder and may be written to",
+        ),
+        Failure::RemoveRecord(_) => ("remove {0}/RESTORING", "pinepolo {3} --resume {1}"),
+        Failure::SyncEnd => (
+            "sync {0}: all files are in place, but a crash may bring RESTORING back",
+            "sync -f {1}",
+        ),
+    }
+}
+
+/// What is said of a refusal, and what to do next.
+pub fn refusal_texts(refusal: &Refusal) -> (&'static str, &'static str) {
+    match refusal {
+        Refusal::Exists => (
+            "{0} is there already",
+            "name another path, or move away what is there",
+        ),
+        Refusal::Begun => (
+            "{0}.partial is left from an unfinished run",
+            "see that no other run writes it, then give --replace-partial",
+        ),
+        Refusal::NoSuchFile => ("the catalog has no file \"{2}\"", "pinepolo show {1}"),
+        Refusal::CatalogChanged => (
+            "{0}/catalog.toml has another digest than the manifest's",
+            "give the manifest of this store, or bring its catalog back",
+        ),
+        Refusal::NotManifest => (
+            "{0}: {2}",
+            "give a manifest, as pinepolo manifest prints it",
+        ),
+        Refusal::Table(_) => ("{2}", "change {0}, or the catalog, and load it again"),
+        Refusal::Layout => ("{2}", "change {0}, and lay the store out again"),
+        Refusal::Unfinished(WorkKind::Restore) => (
+            "a restore of {0} is not finished",
+            "pinepolo restore --resume {1}",
+        ),
+        Refusal::Unfinished(WorkKind::Undo) => (
+            "an undo of {0} is not finished",
+            "pinepolo undo --resume {1}",
+        ),
+        Refusal::NothingToResume(WorkKind::Restore) => (
+            "no restore of {0} is unfinished",
+            "pinepolo check {1}",
+        ),
+        Refusal::NothingToResume(WorkKind::Undo) => (
+            "no undo of {0} is unfinished",
+            "pinepolo undo {1}",
+        ),
+        Refusal::Busy => (
+            "another restore or undo of {0} is at work",
+            "let it end, then pinepolo check {1}",
+        ),
+        Refusal::DamagedRecord => (
+            "{0}/RESTORING is no record of a restore or an undo",
+            "move it away, then pinepolo diagnose {1}",
+        ),
+        Refusal::NothingKept(None) => ("nothing to undo in {0}", "pinepolo check {1}"),
+        Refusal::NothingKept(Some(_)) => (
+            "nothing is kept in {0}/replaced/{3}",
+            "see which numbers are there: ls {1}/replaced",
+        ),
+        Refusal::NoRecord(_) => (
+            "{0}/replaced/{3} has no record of what changed",
+            "copy its files back by hand",
+        ),
+        Refusal::Incomplete(..) => (
+            "{0}/replaced/{3}/{4} is no regular file that can be read",
+            "copy the others of {0}/replaced/{3} back by hand",
+        ),
+    }
+}
+
+/// What a failure is called in JSON.
+pub fn failure_kind(failure: &Failure) -> &'static str {
+    match failure {
+        Failure::ReadCatalog
+        | Failure::ReadManifest
+        | Failure::ReadTable
+        | Failure::ReadStore
+        | Failure::ListStore => "unreadable",
+        _ => "not written",
+    }
+}
+
+/// What a refusal is called in JSON.
+pub fn refusal_kind(refusal: &Refusal) -> &'static str {
+    match refusal {
+        Refusal::Exists => "exists",
+        Refusal::Begun => "begun",
+        Refusal::NoSuchFile => "no such file",
+        Refusal::CatalogChanged => "catalog changed",
+        Refusal::NotManifest => "not a manifest",
+        Refusal::Table(_) => "table",
+        Refusal::Layout => "layout",
+        Refusal::Unfinished(_) => "unfinished",
+        Refusal::NothingToResume(_) => "nothing to resume",
+        Refusal::Busy => "busy",
+        Refusal::DamagedRecord => "damaged record",
+        Refusal::NothingKept(_) => "nothing kept",
+        Refusal::NoRecord(_) => "no record",
+        Refusal::Incomplete(..) => "incomplete",
+    }
+}
