@@ -13,8 +13,8 @@ _pinepolo() {
     recover) words="--sites --workers --quiet --json" ;;
     restore) words="--dry-run --accept-loss --resume --workers --quiet --json" ;;
     undo) words="--resume --quiet --json" ;;
-    manifest) words="--sites" ;;
-    verify) words="--manifest --sites --json" ;;
+    manifest) words="--site --sites" ;;
+    verify) words="--manifest --site --sites --json" ;;
     design) words="--lost --sites --json --svg" ;;
     load) words="--workers --quiet --json --replace-partial" ;;
     dump) words="--lost --sites --workers --quiet" ;;

@@ -63,7 +63,7 @@ pub fn failed(error: io::Error) -> Untaken {
 }
 
 /// Which kind of work on the store in this folder is not finished, if any; a restore if its record can't be looked at or read.
-pub fn unfinished_kind<R: Files>(
+pub fn unfinished_kind<R: Files<File = File>>(
     alloc: Global,
     rt: &R,
     store: &str,
@@ -91,17 +91,32 @@ fn is_unfinished<R: Files>(alloc: Global, rt: &R, store: &str) -> io::Result<boo
     }
 }
 
-/// The record at this path; `Busy` where it is gone meanwhile.
-fn record_at<R: Files>(alloc: Global, rt: &R, path: &str) -> Result<Record, Untaken> {
-    match fs::open(rt, path) {
-        Ok(mut file) => read_record(alloc, &mut file),
-        Err(e) if e.kind() == ErrorKind::NotFound => Err(Untaken::Busy),
+/// The file of the record at this path; none if nothing is there. What is no regular file is no record, and is not opened:
+/// the open of a pipe would wait for a writer.
+fn open_record<R: Files<File = File>>(rt: &R, path: &str) -> Result<Option<File>, Untaken> {
+    let opened = match fs::symlink_metadata(rt, path) {
+        Ok(found) if !found.is_file() => return Err(Untaken::Damaged),
+        Ok(_) => fs::open(rt, path),
+        Err(e) => Err(e),
+    };
+    match opened {
+        Ok(file) => Ok(Some(file)),
+        Err(e) if e.kind() == ErrorKind::NotFound => Ok(None),
         Err(e) => Err(failed(e)),
     }
 }
 
+/// The record at this path; `Busy` if it is gone meanwhile.
+fn record_at<R: Files<File = File>>(alloc: Global, rt: &R, path: &str) -> Result<Record, Untaken> {
+    match open_record(rt, path) {
+        Ok(Some(mut file)) => read_record(alloc, &mut file),
+        Ok(None) => Err(Untaken::Busy),
+        Err(untaken) => Err(untaken),
+    }
+}
+
 /// Which work is not finished, of which the record is there.
-fn unfinished<R: Files>(alloc: Global, rt: &R, path: &str) -> Untaken {
+fn unfinished<R: Files<File = File>>(alloc: Global, rt: &R, path: &str) -> Untaken {
     match record_at(alloc, rt, path) {
         Ok(record) => match record.work.kind() {
             WorkKind::Restore => Untaken::Unfinished,
@@ -183,10 +198,10 @@ pub fn resume<R: Files<File = File>>(alloc: Global, rt: &R, store: &str) -> Resu
         Ok(path) => path,
         Err(_) => return Err(Untaken::Memory),
     };
-    let mut file = match fs::open(rt, path.as_str()) {
-        Ok(file) => file,
-        Err(e) if e.kind() == ErrorKind::NotFound => return Err(Untaken::Finished),
-        Err(e) => return Err(failed(e)),
+    let mut file = match open_record(rt, path.as_str()) {
+        Ok(Some(file)) => file,
+        Ok(None) => return Err(Untaken::Finished),
+        Err(untaken) => return Err(untaken),
     };
     file.take_lock().map_err(failed)?;
     if !is_there(rt, &file, path.as_str()).map_err(failed)? {

@@ -1,5 +1,5 @@
 //! The digests of the files of a store.
-ghost use Rattle.std.specs.Prelude.{◌≡◌, [], IfOk};
+ghost use Rattle.std.specs.Prelude.{◌≡◌, IfOk};
 ghost use Rattle.cs_schema.specs.FileNames.{surviving};
 ghost use Rattle.cs_parallel_io.specs.Standing.{standing};
 ghost use Rattle.cs_manifest.specs.Digests.{digest, DigestsFiles, DigestsFile};
@@ -28,17 +28,18 @@ pub fn digest_of(bytes: &[u8]) -> [u8; 32]
     Sha256::digest(bytes)
 }
 
-/// Reads the files of a catalog one after the other, ascending by name, and returns the outcome for each. It continues
-/// after a read that fails, and keeps no file in memory.
+/// Reads the files of a catalog that survive a loss one after the other, ascending by name, and returns the outcome for
+/// each. It continues after a read that fails, and keeps no file in memory.
 pub fn digest_files<S: SharedSource>(
     alloc: Global,
     catalog: &Catalog,
+    lost: Loss,
     source: &S,
 ) -> Result<Vec<(FileName, Digested)>, AllocError>
-    ensures { IfOk result (λ files. DigestsFiles (standing S.answers) (standing S.fails) (surviving catalog.now [])
+    ensures { IfOk result (λ files. DigestsFiles (standing S.answers) (standing S.fails) (surviving catalog.now lost)
         source.now files.items source.now) }
 {
-    let names = catalog.surviving(alloc, Loss::none())?;
+    let names = catalog.surviving(alloc, lost)?;
     digest_names(alloc, names.as_slice(), source)
 }
 

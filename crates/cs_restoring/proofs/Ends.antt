@@ -1,5 +1,5 @@
 -- How a restore ends, of a store that was read before.
-use Rattle.std.proofs.Common.{◌≡◌, ℕ, Bool, false, List, [], Option, Result, IfOk, sym, subst}
+use Rattle.std.proofs.Common.{◌≡◌, ℕ, Bool, false, List, [], Option, sym, subst}
 use Rattle.cs_schema.specs.CatalogData.{CatalogData}
 use Rattle.cs_schema.specs.FileNames.{surviving}
 use Rattle.cs_schema.specs.Losses.{Sites}
@@ -10,9 +10,7 @@ use Rattle.cs_store.specs.declared.readable.Readable.{Readable}
 use Rattle.cs_shelf.specs.Shelf.{IsNoMore, IsReadIn}
 use Rattle.cs_shelf.proofs.Steps.{from_more}
 use Rattle.cs_restore.specs.Restoring.{IsFinished}
-use Rattle.pinepolo_places.specs.declared.error.VerbError.{VerbError}
 use Rattle.cs_diagnosis.specs.declared.diagnosing.Diagnosis.{Diagnosis}
-use Rattle.pinepolo_text.specs.declared.doubted.Doubted.{Doubted}
 use Rattle.pinepolo_text.specs.declared.restoration.Restoration.{Restoration}
 use Rattle.pinepolo_text.specs.declared.restoration.Restoration.TheVariants as restoration
 use Rattle.cs_restoring.specs.Doubts.{IsDoubtOf, IsUndoubtedOf}
@@ -38,9 +36,8 @@ module _ {P K : Type 0} (gives_back : P → K → Bool → P → Type 0) (gives 
   ends_restored accepts resumes undoubted (restoration.Doubted doubted) ends = absurd ends
 
   pub ends_doubted : (accepts resumes : Bool) → accepts ≡ false → (stop : IsNoMore (may_leave store) (may_leave left)) (diagnosis : Diagnosis) → IsDoubtOf gives refuses C store L resumes diagnosis
-      → (doubted : Result Doubted VerbError) → IfOk doubted (λ d. (d.lost ≡ L) × (d.diagnosed.diagnosis ≡ diagnosis)) → (answer : Restoration) → EndsDoubted gives_back s doubted left t answer
+      → (answer : Restoration) → EndsDoubted gives_back s L diagnosis left t answer
       → EndsRestore gives_back gives refuses holds may_leave accepts resumes s C L store t answer
-  ends_doubted accepts resumes unaccepted stop diagnosis doubt doubted of (restoration.Done restored) ends = absurd ends
-  ends_doubted accepts resumes unaccepted stop diagnosis doubt doubted of (restoration.Doubted answer) ends =
-      let same : (answer.lost ≡ L) × (answer.diagnosed.diagnosis ≡ diagnosis) = subst (λ r. IfOk r (λ d. (d.lost ≡ L) × (d.diagnosed.diagnosis ≡ diagnosis))) ends.0 of in
-      (unaccepted, same.0, subst (IsDoubtOf gives refuses C store L resumes) (sym same.1) doubt, record { left = left; held = held; stop = stop; given = ends.1 })
+  ends_doubted accepts resumes unaccepted stop diagnosis doubt (restoration.Done restored) ends = absurd ends
+  ends_doubted accepts resumes unaccepted stop diagnosis doubt (restoration.Doubted answer) ends =
+      (unaccepted, ends.0, subst (IsDoubtOf gives refuses C store L resumes) (sym ends.1) doubt, record { left = left; held = held; stop = stop; given = ends.2 })

@@ -1,5 +1,5 @@
 -- What the verb `restore` does, by what the places and a store that can be changed say of one call.
-use Rattle.std.specs.Prelude.{◌≡◌, ◌⊎◌, ◌||◌, ℕ, Bool, true, false, List, [], Option, Some, None, Result, Ok}
+use Rattle.std.specs.Prelude.{◌≡◌, ◌⊎◌, ◌||◌, ℕ, Bool, true, false, List, [], Option, Some, None}
 use Rattle.std.specs.Option.{unwrap_or}
 use Rattle.cs_schema.specs.CatalogData.{CatalogData}
 use Rattle.cs_schema.specs.Losses.{Sites}
@@ -9,10 +9,10 @@ use Rattle.cs_store.specs.FileSet.{Files}
 use Rattle.cs_store.specs.declared.fault.StoreFault.{StoreFault}
 use Rattle.cs_store.specs.declared.readable.Readable.{Readable}
 use Rattle.cs_design.specs.Fatal.{IsGreatestK}
+use Rattle.cs_diagnosis.specs.declared.diagnosing.Diagnosis.{Diagnosis}
 use Rattle.cs_shelf.specs.Shelf.{Follows, IsNoMore, IsReadOf}
 use Rattle.cs_restore.specs.Restoring.{IsFinished, PlansFor, PlansRestore, ReadsBack}
 use Rattle.pinepolo_places.specs.Finding.{FindsStore}
-use Rattle.pinepolo_places.specs.declared.error.VerbError.{VerbError}
 use Rattle.pinepolo_places.specs.declared.shelves.RestoreOf.{RestoreOf}
 use Rattle.pinepolo_text.specs.declared.doubted.Doubted.{Doubted}
 use Rattle.pinepolo_text.specs.declared.restoration.Restoration.{Restoration}
@@ -74,10 +74,10 @@ module _ {P K : Type 0} where
   FinishesRestore gives_back holds may_leave s C L store t (restoration.Done restored) = (rows : ℕ) × IsRestoredOf C L (Some rows) restored × WorksOnStore gives_back holds may_leave s C L store rows t
   FinishesRestore gives_back holds may_leave s C L store t (restoration.Doubted _) = ⊥
 
-  -- a doubt is the answer, whose store was given back
-  abbrev pub EndsDoubted : (P → K → Bool → P → Type 0) → P → Result Doubted VerbError → K → P → Restoration → Type 0
-  EndsDoubted gives_back s doubted store t (restoration.Done _) = ⊥
-  EndsDoubted gives_back s doubted store t (restoration.Doubted answer) = (doubted ≡ Ok answer) × gives_back s store false t
+  -- a doubt about the loss of these sites is the answer, with this diagnosis, and the store was given back
+  abbrev pub EndsDoubted : (P → K → Bool → P → Type 0) → P → Sites → Diagnosis → K → P → Restoration → Type 0
+  EndsDoubted gives_back s L diagnosis store t (restoration.Done _) = ⊥
+  EndsDoubted gives_back s L diagnosis store t (restoration.Doubted answer) = (answer.lost ≡ L) × (answer.diagnosed.diagnosis ≡ diagnosis) × gives_back s store false t
 
   -- the store was given back as it was taken: it was read alone
   pub record GivesBackUnchanged (gives_back : P → K → Bool → P → Type 0) (holds may_leave : K → Files → Type 0) (s : P) (store : K) (t : P) : Type 0 where

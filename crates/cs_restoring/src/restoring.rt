@@ -4,6 +4,7 @@ ghost use Rattle.cs_schema.specs.FileNames.{surviving};
 ghost use Rattle.cs_shelf.specs.Shelf.{IsReadIn};
 ghost use Rattle.cs_restoring.specs.Restores.{DoesRestore, EndsDoubted, EndsRestore, FinishesRestore};
 
+use crate::doubting::Doubt;
 use crate::ending::{LostStore, finish_error, lock_error};
 use crate::foreseeing::look_ahead;
 use crate::planning::restored_of;
@@ -13,9 +14,9 @@ use cs_rebuild::Run;
 use cs_schema::{Catalog, Loss};
 use cs_store::Readable;
 use pinepolo_args::RestoreArgs;
-use pinepolo_places::{RestoreOf, Shelves, VerbError, WorkKind, find_store};
+use pinepolo_places::{Listings, RestoreOf, Shelves, VerbError, WorkKind, find_store};
 use pinepolo_progress::Progress;
-use pinepolo_text::{Doubted, Restoration};
+use pinepolo_text::Restoration;
 use std::alloc::Global;
 use std::marker::Sync;
 use std::thread::Threads;
@@ -74,17 +75,18 @@ fn give_back_doubted<P: Shelves>(
     alloc: Global,
     places: &mut P,
     shelf: P::Shelf,
-    doubted: Result<Doubted, VerbError>,
+    found: (Catalog, Doubt),
+    lost: Loss,
     path: &str,
 ) -> Result<Restoration, VerbError>
-    ensures { IfOk result (EndsDoubted P.gives_back places.old doubted shelf places.new) }
+    ensures { IfOk result (EndsDoubted P.gives_back places.old lost found.1.diagnosis shelf places.new) }
 {
-    let doubted = match doubted {
-        Ok(doubted) => doubted,
-        Err(error) => return Err(give_up(places, shelf, error)),
-    };
+    let (catalog, doubt) = found;
     match places.give_back(shelf, false) {
-        Ok(_) => Ok(Restoration::Doubted(doubted)),
+        Ok(given) => match doubted(alloc, catalog, doubt, lost, given.is_unfinished) {
+            Ok(doubted) => Ok(Restoration::Doubted(doubted)),
+            Err(error) => Err(error),
+        },
         Err(fault) => Err(finish_error(alloc, fault, path, WorkKind::Restore)),
     }
 }
@@ -140,8 +142,8 @@ fn restore_taken<R: Threads + Sync, G: Progress + Sync, P: Shelves>(
     match doubt_of(run, &catalog, &read, lost, accepts_loss, request.resumes) {
         Ok(None) => restore_read(run, places, (shelf, lost), catalog, read, request.store),
         Ok(Some(doubt)) => {
-            let doubted = doubted(run.alloc, catalog, doubt, lost, request.resumes);
-            give_back_doubted(run.alloc, places, shelf, doubted, request.store)
+            let found = (catalog, doubt);
+            give_back_doubted(run.alloc, places, shelf, found, lost, request.store)
         }
         Err(error) => Err(give_up(places, shelf, error)),
     }
@@ -150,7 +152,7 @@ fn restore_taken<R: Threads + Sync, G: Progress + Sync, P: Shelves>(
 /// Rebuilds in place what a store has lost, or says what that would change.
 ///
 /// The store is taken before its first file is read. Where it is doubtful that the sites are what was lost, nothing changes.
-pub fn restore<R: Threads + Sync, G: Progress + Sync, P: Shelves>(
+pub fn restore<R: Threads + Sync, G: Progress + Sync, P: Listings + Shelves>(
     run: &Run<'_, R, G>,
     places: &mut P,
     request: &RestoreArgs<'_>,

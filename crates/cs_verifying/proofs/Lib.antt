@@ -1,1 +1,2 @@
+mod OtherSites
 pub mod TrustedLoads

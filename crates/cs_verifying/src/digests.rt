@@ -4,9 +4,10 @@ ghost use Rattle.cs_manifest.specs.Digests.{digest};
 ghost use Rattle.cs_parallel_io.specs.Standing.{standing};
 ghost use Rattle.cs_verifying.specs.Promises.{DigestsStore};
 
+use crate::one_site::{has_site, others};
 use cs_manifest::{Digested, digest_files, digest_of};
 use cs_schema::{Catalog, FileName};
-use pinepolo_places::{Places, VerbError, find_store_text};
+use pinepolo_places::{Places, Refusal, VerbError, find_store_text};
 use std::alloc::Global;
 
 /// The digests of a store.
@@ -16,24 +17,30 @@ pub struct StoreDigests {
     pub catalog: Catalog,
     /// The digest of that one's bytes.
     pub digest: [u8; 32],
-    /// The files, each with what it came to, in the order of their names.
+    /// The files that were read, each with what it came to, in the order of their names.
     pub files: Vec<(FileName, Digested)>,
 }
 
-/// Reads the files of the store at this path, one after the other. None is kept.
+/// Reads the files of the store at this path, or those of one of its sites alone, one after the other. None is kept. A
+/// site that the catalog lacks is refused.
 pub fn digest_store<P: Places>(
     alloc: Global,
     places: &mut P,
     path: &str,
+    site: Option<u8>,
 ) -> Result<StoreDigests, VerbError>
     ensures { IfOk result (λ found. (bytes : List ℕ) × (found.digest ≡ digest bytes) × DigestsStore P.reads P.opens (standing P.Store.answers) (standing P.Store.fails)
-        places.old path.now found.catalog bytes found.files.items places.new) }
+        places.old path.now site found.catalog bytes found.files.items places.new) }
 {
     let (catalog, bytes, source) = match find_store_text(alloc, places, path) {
         Ok(found) => found,
         Err(error) => return Err(error),
     };
-    match digest_files(alloc, &catalog, &source) {
+    if !has_site(&catalog, site) {
+        let refusal = Refusal::NoSuchSite(site.unwrap_or(0));
+        return Err(VerbError::refused(alloc, refusal, path));
+    }
+    match digest_files(alloc, &catalog, others(site), &source) {
         Ok(files) => Ok(StoreDigests {
             catalog,
             digest: digest_of(bytes.as_slice()),

@@ -5,6 +5,7 @@ mod digests;
 mod listed;
 mod listing;
 mod objects;
+mod one_site;
 mod reading;
 mod trusting;
 mod verified;

@@ -9,12 +9,18 @@ use cs_manifest::write_manifest;
 use pinepolo_places::{Places, VerbError};
 use std::alloc::Global;
 
-/// The manifest of a store: its files that are there, with their digests; and those that are not.
-pub fn list<P: Places>(alloc: Global, places: &mut P, path: &str) -> Result<Listed, VerbError>
+/// The manifest of a store: its files that are there, with their digests; and those that are not. With a site, that site's
+/// files alone.
+pub fn list<P: Places>(
+    alloc: Global,
+    places: &mut P,
+    path: &str,
+    site: Option<u8>,
+) -> Result<Listed, VerbError>
     ensures { IfOk result (λ listed. ListsStore P.reads P.opens (standing P.Store.answers) (standing P.Store.fails)
-        places.old path.now listed places.new) }
+        places.old path.now site listed places.new) }
 {
-    let found = match digest_store(alloc, places, path) {
+    let found = match digest_store(alloc, places, path, site) {
         Ok(found) => found,
         Err(error) => return Err(error),
     };

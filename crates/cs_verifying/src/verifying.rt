@@ -10,21 +10,22 @@ use cs_manifest::compare;
 use pinepolo_places::{Places, Tables, VerbError};
 use std::alloc::Global;
 
-/// Which files of a store are not those of a manifest.
+/// Which files of a store are not those of a manifest. With a site, that site's files alone are compared.
 pub fn verify<P: Places + Tables>(
     alloc: Global,
     places: &mut P,
     path: &str,
     manifest_path: &str,
+    site: Option<u8>,
 ) -> Result<Verified, VerbError>
     ensures { IfOk result (λ verified. VerifiesStore P.reads P.opens (standing P.Store.answers) (standing P.Store.fails) P.opens_table P.Input.remaining
-        places.old path.now manifest_path.now verified places.new) }
+        places.old path.now manifest_path.now site verified places.new) }
 {
     let manifest = match manifest_at(alloc, places, manifest_path) {
         Ok(manifest) => manifest,
         Err(error) => return Err(error),
     };
-    let found = match digest_store(alloc, places, path) {
+    let found = match digest_store(alloc, places, path, site) {
         Ok(found) => found,
         Err(error) => return Err(error),
     };

@@ -84,10 +84,17 @@ pub const ARGUMENTS: &[Argument] = &[
         verbs: &["verify"],
     },
     Argument {
+        id: "site",
+        form: Form::Named("N", Value::Number(1, 16)),
+        presence: Presence::Optional,
+        help: "Read the files of this site alone, 1 to 16",
+        verbs: &["manifest", "verify"],
+    },
+    Argument {
         id: "sites",
         form: Form::Named("FILE", Value::Text),
         presence: Presence::Optional,
-        help: "The sites of the store stand in the folders that this file names",
+        help: "Read each site from the folder that this file names for it",
         verbs: &[
             "check", "show", "diagnose", "drill", "recover", "manifest", "verify", "design", "dump",
         ],

@@ -59,10 +59,14 @@ fn verb_on_store<'a>(name: &str, options: &Options<'a>) -> Option<Verb<'a>> {
             manifest: options.manifest,
             store,
         })),
-        "manifest" => Some(Verb::Manifest(ManifestArgs { store })),
+        "manifest" => Some(Verb::Manifest(ManifestArgs {
+            store,
+            site: options.site,
+        })),
         "verify" => Some(Verb::Verify(VerifyArgs {
             manifest: options.manifest?,
             store,
+            site: options.site,
         })),
         "dump" => Some(Verb::Dump(DumpArgs {
             lost,

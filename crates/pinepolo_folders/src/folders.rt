@@ -142,7 +142,7 @@ impl<R: Files + Copy + Sync> Places for Folders<R> {
     }
 }
 
-impl<R: Files + Alloc + Copy + Drop + Sync> Listings for Folders<R> {
+impl<R: Files<File = File> + Alloc + Copy + Drop + Sync> Listings for Folders<R> {
     ghost lists = { λ s path names t. ⊤ };
 
     ghost leaves = { λ s path kind. ⊤ };

@@ -68,8 +68,7 @@ impl SitesError {
                 "give each site of the catalog one [[site]] table, with its number and its folder"
             }
             SitesError::OneFolder(..) => "give each site a folder of its own",
-            SitesError::CatalogsDiffer(..) =>
-                "put the store's catalog.toml in the place of the other",
+            SitesError::CatalogsDiffer(..) => "put the right one in the place of the other",
         }
     }
 }

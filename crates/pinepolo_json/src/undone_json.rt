@@ -1,7 +1,7 @@
 //! What an undo came to, as JSON.
 use crate::json::placed_object;
 use cs_reports::object::{Object, count_or_null};
-use pinepolo_text::{Undone, undone_word};
+use pinepolo_text::{Undone, undone_size, undone_word};
 use serde_json::Value;
 use std::alloc::{AllocError, Global};
 
@@ -16,15 +16,14 @@ pub fn undone_object(alloc: Global, undone: &Undone) -> Result<Value, AllocError
         .finish()
 }
 
-/// What became of each name. What is gone has no size.
+/// What became of each name. What is gone has no size, nor what is moved back.
 fn name_objects(alloc: Global, undone: &Undone) -> Result<Value, AllocError> {
     let mut list = Vec::new(alloc);
     for name in &undone.undoable.names {
         let back = undone.undoable.back.get(*name);
-        let size = back.map(|bytes| bytes.len() as u64);
         let object = placed_object(alloc, &undone.catalog, *name)
             .text("what", undone_word(back))
-            .member("bytes", Ok(count_or_null(size)));
+            .member("bytes", Ok(count_or_null(undone_size(back))));
         list.push(object.finish()?)?;
     }
     Ok(Value::Array(list))

@@ -53,6 +53,8 @@ pub enum Refusal {
     Begun,
     /// The catalog has no file of this name.
     NoSuchFile,
+    /// The catalog has no site of this number.
+    NoSuchSite(u8),
     /// A manifest says another digest of the catalog.
     CatalogChanged,
     /// A text is no manifest.
@@ -81,7 +83,7 @@ pub enum Refusal {
 pub fn failure_texts(failure: &Failure) -> (&'static str, &'static str) {
     match failure {
         Failure::ReadCatalog => (
-            "read catalog.toml",
+            "read the catalog at {0}",
             "see that {0} is a store, and that its catalog is a regular file of at most 1 MiB",
         ),
         Failure::ReadManifest => (
@@ -108,10 +110,13 @@ pub fn failure_texts(failure: &Failure) -> (&'static str, &'static str) {
             "see that the disk has room, and run it again with --replace-partial",
         ),
         Failure::WriteRecord => (
-            "write {0}/RESTORING",
-            "see that {0} is a folder and may be written to",
+            "read or write {0}/RESTORING or {0}/replaced",
+            "see that {0} is a folder, and that it, RESTORING and replaced in it may be read and written to",
         ),
-        Failure::RemoveRecord(_) => ("remove {0}/RESTORING", "pinepolo {3} --resume {1}"),
+        Failure::RemoveRecord(_) => (
+            "write {0}/restores.jsonl or remove {0}/RESTORING",
+            "pinepolo {3} --resume {1}",
+        ),
         Failure::SyncEnd => (
             "sync {0}: all files are in place, but a crash may bring RESTORING back",
             "sync -f {1}",
@@ -131,6 +136,7 @@ pub fn refusal_texts(refusal: &Refusal) -> (&'static str, &'static str) {
             "see that no other run writes it, then give --replace-partial",
         ),
         Refusal::NoSuchFile => ("the catalog has no file \"{2}\"", "pinepolo show {1}"),
+        Refusal::NoSuchSite(_) => ("the catalog has no site {3}", "pinepolo design {1}"),
         Refusal::CatalogChanged => (
             "{0}/catalog.toml has another digest than the manifest's",
             "give the manifest of this store, or bring its catalog back",
@@ -199,6 +205,7 @@ pub fn refusal_kind(refusal: &Refusal) -> &'static str {
         Refusal::Exists => "exists",
         Refusal::Begun => "begun",
         Refusal::NoSuchFile => "no such file",
+        Refusal::NoSuchSite(_) => "no such site",
         Refusal::CatalogChanged => "catalog changed",
         Refusal::NotManifest => "not a manifest",
         Refusal::Table(_) => "table",

@@ -45,6 +45,7 @@ fn with_refusal(object: Object, refusal: &Refusal) -> Object {
     let object = object.text("kind", refusal_kind(refusal));
     match refusal {
         Refusal::Table(place) => with_place(object, place),
+        Refusal::NoSuchSite(site) => object.number("site", u64::from(*site)),
         Refusal::NothingKept(Some(number)) | Refusal::NoRecord(number) => {
             object.number("kept", u64::from(*number))
         }

@@ -68,6 +68,7 @@ fn refusal_details(refusal: &Refusal) -> (Detail, Detail) {
         Refusal::NothingKept(Some(number)) | Refusal::NoRecord(number) => {
             (Detail::Number(*number), Detail::Nothing)
         }
+        Refusal::NoSuchSite(site) => (Detail::Number(u32::from(*site)), Detail::Nothing),
         Refusal::Incomplete(number, name) => (Detail::Number(*number), Detail::File(*name)),
         _ => (Detail::Nothing, Detail::Nothing),
     }

@@ -67,7 +67,7 @@ pub trait Places {
             → CountsFault (fault_count self.old) (fault_count self.new) }
         ensures counted { fault_count self.old ≤ fault_count self.new };
 
-    /// Writes a picture to the file at this path, in the place of one that is there.
+    /// Writes a picture to a new file at this path, where nothing may be yet.
     fn picture(&mut self, path: &str, bytes: &[u8]) -> Result<(), StoreFault>
         ensures ok { OnOk result (draws self.old path.now bytes.now self.new) }
         ensures device { IsErrOf result StoreFault.Device

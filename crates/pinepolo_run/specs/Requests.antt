@@ -44,8 +44,8 @@ module _ {P S K I N B : Type 0} (w : WorldSays P S K I N B) where
   Performs s (verb.Restore args) (answer.Restored restoration) t = IsTrue (knows_loss args.resumes args.lost) × DoesRestore w.reads w.opens w.takes_store w.looks_at w.gives_back w.gives_held w.refuses_held w.holds w.may_leave args.is_dry_run args.accepts_loss args.resumes args.lost s args.store.now restoration t
   Performs s (verb.Restore args) (answer.RestoredFound found) t = (¬ IsTrue (knows_loss args.resumes args.lost)) × RestoresFound w.reads w.opens w.gives w.refuses w.opens_table w.remaining w.leaves w.takes_store w.looks_at w.gives_back w.gives_held w.refuses_held w.holds w.may_leave args.is_dry_run s args.store.now found t
   Performs s (verb.Undo args) (answer.Undone undone) t = DoesUndo w.reads w.opens w.takes_undo w.gives_back w.holds w.may_leave s args.store.now (undo_asked args.resumes args.kept) t undone
-  Performs s (verb.Manifest args) (answer.Listed listed) t = ListsStore w.reads w.opens w.gives w.refuses s args.store.now listed t
-  Performs s (verb.Verify args) (answer.Verified verified) t = VerifiesStore w.reads w.opens w.gives w.refuses w.opens_table w.remaining s args.store.now args.manifest.now verified t
+  Performs s (verb.Manifest args) (answer.Listed listed) t = ListsStore w.reads w.opens w.gives w.refuses s args.store.now args.site listed t
+  Performs s (verb.Verify args) (answer.Verified verified) t = VerifiesStore w.reads w.opens w.gives w.refuses w.opens_table w.remaining s args.store.now args.manifest.now args.site verified t
   Performs s (verb.Design args) (answer.Designed designed) t = DesignsCatalog w.reads w.draws s args.catalog.now args.lost (option_map (λ path. path.now) args.svg) designed.design t
   Performs s (verb.Load args) (answer.Loaded store) t = LoadsStore w.reads w.opens_table w.remaining w.begins w.takes_new w.marks_new s args.catalog.now args.table.now args.store.now store t
   Performs s (verb.Dump args) (answer.Dumped dumped) t = DumpsStore w.reads w.opens w.gives w.leaves w.writes_table s args.store.now args.lost (option_map (λ path. path.now) args.table) dumped t

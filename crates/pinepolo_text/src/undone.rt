@@ -25,15 +25,23 @@ pub fn undone_word(back: Option<&[u8]>) -> &'static str {
     }
 }
 
+/// The size of what is back, in bytes; none if that is moved back without being read, or is empty.
+pub fn undone_size(back: Option<&[u8]>) -> Option<u64> {
+    match back {
+        Some(bytes) if !bytes.is_empty() => Some(bytes.len() as u64),
+        _ => None,
+    }
+}
+
 impl Undone {
     /// A line for a name.
     fn write_name<W: fmt::Write>(&self, f: &mut fmt::Formatter<W>, name: FileName) -> fmt::Result {
         let site = site_of(&self.catalog, name.projection(), name.segment()).unwrap_or(0);
         let back = self.undoable.back.get(name);
         let word = undone_word(back);
-        match back {
-            Some(bytes) => {
-                let bytes = Grouped(bytes.len() as u64);
+        match undone_size(back) {
+            Some(size) => {
+                let bytes = Grouped(size);
                 writeln!(f, "site {site}  {word}  {name}  {bytes} bytes")
             }
             None => writeln!(f, "site {site}  {word}  {name}"),

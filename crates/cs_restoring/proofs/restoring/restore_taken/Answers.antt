@@ -20,5 +20,4 @@ returns-in-Ok-Some g c =
     IfOk-weaker c.give_back_doubted.result _ _
     (ends_doubted g.P.Shelves.gives_back g.P.Shelf.Source.gives g.P.Shelf.Source.refuses g.P.Shelf.Shelf.holds g.P.Shelf.Shelf.may_leave c.args.places.now c.args.catalog c.args.taken.1.lost c.args.taken.0 c.read_files.new.shelf c.give_back_doubted.new.places c.read_files.ensures.held
     (c.args.request.now.accepts_loss || c.args.taken.1.accepts_loss) c.args.request.now.resumes (sym c.is_accepted-accepts_loss.ensures ∙ c.in-Ok-Some.ensures.unaccepted c.in-Ok-Some.doubt c.in-Ok-Some.field-0-is) c.read_files.ensures.stop c.in-Ok-Some.doubt.diagnosis
-    (record { read = c.in-Ok.read; seen = c.read_files.new.shelf; from = c.in-Ok.ensures.from; doubt = c.in-Ok-Some.ensures.doubt c.in-Ok-Some.doubt c.in-Ok-Some.field-0-is })
-    c.doubted-doubted.result c.doubted-doubted.ensures) c.give_back_doubted.ensures
+    (record { read = c.in-Ok.read; seen = c.read_files.new.shelf; from = c.in-Ok.ensures.from; doubt = c.in-Ok-Some.ensures.doubt c.in-Ok-Some.doubt c.in-Ok-Some.field-0-is })) c.give_back_doubted.ensures

@@ -1,0 +1,50 @@
+//! The files of one site alone.
+ghost use Rattle.std.specs.Prelude.{◌≡◌, ◌≤◌, ◌==◌, ◌&&◌, ◌||◌, ℕ, not, IsTrue, IfSome};
+ghost use Rattle.cs_schema.specs.Lists.{member};
+ghost use Rattle.cs_verifying.specs.Promises.{AreOthers};
+
+use cs_schema::{Catalog, Loss};
+
+/// A loss with one more site, unless it is the site that is kept.
+fn with_unless(lost: Loss, other: u8, kept: u8) -> Loss
+    requires low { 1 ≤ other }
+    requires high { other ≤ 16 }
+    ensures { (s : ℕ) → member result s ≡ ((not (other == kept) && s == other) || member lost s) }
+{
+    if other == kept {
+        lost
+    } else {
+        lost.with(other)
+    }
+}
+
+/// The loss of each site but this one.
+fn all_but(site: u8) -> Loss
+    ensures { (s : ℕ) → 1 ≤ s → s ≤ 16 → member result s ≡ not (s == site) }
+{
+    let mut lost = Loss::none();
+    for other in 1..17u8 {
+        lost = with_unless(lost, other, site);
+    }
+    lost
+}
+
+/// The loss of each site but this one; of none if no site is given.
+pub fn others(site: Option<u8>) -> Loss
+    ensures { AreOthers site result }
+{
+    match site {
+        Some(site) => all_but(site),
+        None => Loss::none(),
+    }
+}
+
+/// Whether a catalog has the site, if one is given.
+pub fn has_site(catalog: &Catalog, site: Option<u8>) -> bool
+    ensures { IsTrue result → IfSome site (λ n. n ≤ catalog.now.sites) }
+{
+    match site {
+        Some(site) => site <= catalog.sites,
+        None => true,
+    }
+}
