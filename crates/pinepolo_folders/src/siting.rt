@@ -29,7 +29,8 @@ fn lost_with(lost: Loss, away: &[AwaySite]) -> Loss {
 
 /// The request. If it is `design`, the sites that are away are lost as well.
 fn without<'x>(request: Request<'x>, away: &[AwaySite]) -> Request<'x> {
-    let verb = match request.verb {
+    let asked = request.verb;
+    let verb = match asked {
         Verb::Design(args) => Verb::Design(DesignArgs {
             lost: lost_with(args.lost, away),
             svg: args.svg,
