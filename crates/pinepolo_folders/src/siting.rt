@@ -4,7 +4,7 @@ ghost use Rattle.std.specs.Prelude.{◌≤◌};
 use crate::folders::Folders;
 use crate::sites_error::SitesError;
 use cs_schema::Loss;
-use pinepolo_args::{DesignArgs, ParseExit, Request, Verb};
+use pinepolo_args::{ParseExit, Request, Verb};
 use pinepolo_run::{AwaySite, Sited};
 use std::rt::Files;
 
@@ -27,23 +27,10 @@ fn lost_with(lost: Loss, away: &[AwaySite]) -> Loss {
     loss
 }
 
-/// The request. If it is `design`, the sites that are away are lost as well.
-fn without<'x>(request: Request<'x>, away: &[AwaySite]) -> Request<'x> {
-    let asked = request.verb;
-    let verb = match asked {
-        Verb::Design(args) => Verb::Design(DesignArgs {
-            lost: lost_with(args.lost, away),
-            svg: args.svg,
-            catalog: args.catalog,
-        }),
-        other => other,
-    };
-    Request {
-        verb,
-        workers: request.workers,
-        json: request.json,
-        quiet: request.quiet,
-        sites: request.sites,
+/// Counts the sites that are away as lost, if the request is `design`.
+fn lose_away(request: &mut Request<'_>, away: &[AwaySite]) {
+    if let Verb::Design(args) = &mut request.verb {
+        args.lost = lost_with(args.lost, away);
     }
 }
 
@@ -76,7 +63,7 @@ impl<R: Files + Copy> Folders<R> {
         parsed: Result<Request<'x>, ParseExit>,
     ) -> Result<SitedRequest<'x>, SitesError> {
         self.sites = None;
-        let request = match parsed {
+        let mut request = match parsed {
             Ok(request) => request,
             Err(exit) => {
                 let (parsed, away) = (Err(exit), Vec::new(self.alloc));
@@ -90,7 +77,8 @@ impl<R: Files + Copy> Folders<R> {
             },
             None => Vec::new(self.alloc),
         };
-        let parsed = Ok(without(request, away.as_slice()));
+        lose_away(&mut request, away.as_slice());
+        let parsed = Ok(request);
         Ok(SitedRequest { parsed, away })
     }
 }
