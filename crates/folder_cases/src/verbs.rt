@@ -73,9 +73,9 @@ pub fn answer<R: Threads + Sync + AllocGlobal + Print, P: World>(
     let mut out = Vec::new(alloc);
     let mut err = Vec::new(alloc);
     let status = if is_full {
-        run(&host, sited.parsed(), places, &mut Full, &mut err)
+        run(&host, &sited.parsed, places, &mut Full, &mut err)
     } else {
-        run(&host, sited.parsed(), places, &mut out, &mut err)
+        run(&host, &sited.parsed, places, &mut out, &mut err)
     };
     print_answer(rt, out.as_slice(), err.as_slice(), status)
 }

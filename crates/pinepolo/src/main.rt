@@ -35,7 +35,7 @@ fn main(rt: HostRuntime) -> ExitCode {
                             gate: &gate,
                             sites: sited.sites(),
                         };
-                        run(&host, sited.parsed(), &mut places, &mut out, &mut err)
+                        run(&host, &sited.parsed, &mut places, &mut out, &mut err)
                     }
                     Err(error) => report_sites(&error, &mut err),
                 }

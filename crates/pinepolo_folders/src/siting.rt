@@ -1,5 +1,6 @@
 //! Requests, with the folders of the sites that they name.
-ghost use Rattle.std.specs.Prelude.{◌≤◌};
+ghost use Rattle.std.specs.Prelude.{◌≤◌, IfOk};
+ghost use Rattle.pinepolo_folders.specs.Siting.{AreSited, IsSited};
 
 use crate::folders::Folders;
 use crate::sites_error::SitesError;
@@ -11,9 +12,10 @@ use std::rt::Files;
 /// A request, with the folders of its store's sites found.
 #[derive(Drop)]
 pub struct SitedRequest<'x> {
-    parsed: Result<Request<'x>, ParseExit>,
+    /// What is to be run: a request, or why there is none.
+    pub parsed: Result<Request<'x>, ParseExit>,
     /// The sites whose folders are away.
-    away: Vec<AwaySite>,
+    pub away: Vec<AwaySite>,
 }
 
 /// A loss with the sites that are away.
@@ -28,18 +30,15 @@ fn lost_with(lost: Loss, away: &[AwaySite]) -> Loss {
 }
 
 /// Counts the sites that are away as lost, if the request is `design`.
-fn lose_away(request: &mut Request<'_>, away: &[AwaySite]) {
+fn lose_away(request: &mut Request<'_>, away: &[AwaySite])
+    ensures { IsSited request.old request.new }
+{
     if let Verb::Design(args) = &mut request.verb {
         args.lost = lost_with(args.lost, away);
     }
 }
 
 impl<'x> SitedRequest<'x> {
-    /// What is to be run: a request, or why there is none.
-    pub fn parsed(&self) -> &Result<Request<'x>, ParseExit> {
-        &self.parsed
-    }
-
     /// Where the sites of the store stand, if each has a folder of its own.
     pub fn sites(&self) -> Option<Sited<'_>> {
         match &self.parsed {
@@ -61,7 +60,9 @@ impl<R: Files + Copy> Folders<R> {
     pub fn find_sites_of<'x>(
         &mut self,
         parsed: Result<Request<'x>, ParseExit>,
-    ) -> Result<SitedRequest<'x>, SitesError> {
+    ) -> Result<SitedRequest<'x>, SitesError>
+        ensures { IfOk result (λ sited. AreSited parsed.entry sited.parsed) }
+    {
         self.sites = None;
         let mut request = match parsed {
             Ok(request) => request,
