@@ -1,4 +1,4 @@
--- What an event gives that is added to a recorded run, by the rule before it and after it.
+-- What an event gives that is added to a recorded history, by the rule before it and after it.
 use Rattle.std.proofs.Common.{◌≡◌, ℕ, ◌+◌, ◌<◌, ◌≤◌, min, List, [], ◌∷◌, set, Option, Some, None, true, false, nat_lt, if◌then◌else◌, refl, sym, ap, ◌∙◌, arith}
 use Rattle.std.proofs.lemmas.Bool.Decides.{nat_tests}
 use mathlib.Core.Option.{some}
@@ -12,7 +12,7 @@ use Rattle.cs_board.proofs.Counts.{one_if, below, times-cons}
 use Rattle.cs_board.proofs.Events.{steps_are_events}
 use Rattle.cs_board.proofs.History.{history_words, gives_some, gives_none}
 
--- the one number that stands below the lesser of m + 1 and the count, and not below that of m, is m
+-- the only number below both m + 1 and the count, but not below both m and the count, is m
 next_below : (m n count : ℕ) → one_if n n + below n (min m count) ≡ below n (min (m + 1) count) → (m ≡ n) × (n < count)
 next_below m n count e = grind (arith, nat_tests)
 
@@ -27,7 +27,7 @@ claim_answers count opened claimed reported claimed' reported' views h seat n v 
     let here = next_below claimed n count (more ∙ ap (λ k. below n (min k count)) one) in
     gives_some n (claims_in h) count (sym before.0 ∙ here.0) here.1
 
--- as many are drawn after a claim in vain as before it
+-- a claim that gives `None` leaves the drawn numbers as they are, so m has reached the count
 full : (m count : ℕ) (same : (x : ℕ) → below x (min m count) ≡ below x (min (m + 1) count)) → count ≤ m
 full m count same = let e = same m in grind (arith, nat_tests)
 

@@ -7,9 +7,11 @@ ghost use Rattle.cs_schema.specs.Named.{byte_of, safety_of, kind_named, code_of,
 
 use crate::CatalogFault;
 use crate::cuts::cut_cells;
-use crate::document::{ColumnEntry, Document, ProjectionEntry, is_from_to, push};
+use crate::document::{ColumnEntry, Document, ProjectionEntry};
+use crate::keys::{is_from_to, push};
 use crate::lookups::{is_among, is_int_column, leading};
 use arrayvec::ArrayString;
+use cs_schema::limits::NAME_BYTES;
 use cs_schema::{Catalog, Code, Column, Kind, Projection, Safety};
 use std::alloc::{AllocError, Global};
 
@@ -52,7 +54,7 @@ fn code_of(number: i64) -> Code
     }
 }
 
-fn name_of(name: &str) -> ArrayString<32>
+fn name_of(name: &str) -> ArrayString<{ NAME_BYTES }>
     requires { is_name name.now ≡ true }
     ensures { result.bytes ≡ name.now }
 {

@@ -10,8 +10,10 @@ ghost use Rattle.cs_schema.specs.Rules.{has_cuts, cuts_hold};
 ghost use Rattle.cs_catalog.specs.Refusals.{IsRefusedUnlessMemory};
 
 use crate::CatalogFault;
-use crate::document::{ColumnEntry, Document, ProjectionEntry, push};
+use crate::document::{ColumnEntry, Document, ProjectionEntry};
+use crate::keys::push;
 use crate::lookups::{is_int_column, leading};
+use cs_schema::limits::CUTS;
 use cs_schema::{Cells, Texts, Word};
 use std::alloc::Global;
 use toml::Value;
@@ -119,7 +121,7 @@ pub fn has_cuts(
     ensures test { IfOk result (λ b. b ≡ has_cuts columns.now projection.now) }
     ensures memory { IfErr result (λ e. e ≡ CatalogFault.Memory) }
 {
-    if projection.cuts.len() > 15 {
+    if projection.cuts.len() > CUTS {
         return Ok(false);
     }
     match cut_cells(

@@ -1,13 +1,14 @@
 //! A catalog's TOML, with each key read at its type.
-ghost use Rattle.std.specs.Prelude.{◌≡◌, codes, Some, None, IfOk, IfErr, OnOk, map, option_and_then, [], ◌∷◌, ◌++◌};
-ghost use Rattle.toml.specs.Data.{as_str, as_integer, as_table};
+ghost use Rattle.std.specs.Prelude.{◌≡◌, codes, Some, IfOk, IfErr, map, option_and_then};
+ghost use Rattle.toml.specs.Data.{as_table};
 ghost use Rattle.toml.specs.View.{view, table_view};
-ghost use Rattle.cs_schema.specs.Document.{read_all, is_from_to};
-ghost use Rattle.cs_catalog.specs.Tree.{is_version, safety_at, texts, text_at, integer_at, array_at, texts_at, integers_at, tables_at, column_of, projection_of, document_of};
+ghost use Rattle.cs_schema.specs.Document.{read_all};
+ghost use Rattle.cs_catalog.specs.Tree.{tables_at, column_of, projection_of, document_of};
 ghost use Rattle.cs_catalog.specs.Refusals.{IsRefused, IsRefusedUnlessMemory};
 
 use crate::CatalogFault;
 use crate::head::head_of;
+use crate::keys::{array_at, integers_at, push, text_at, texts_at};
 use std::alloc::Global;
 use std::marker::Model;
 use toml::{Table, Value};
@@ -84,100 +85,6 @@ impl<'a> Model for Document<'a> {
     } };
 }
 
-/// Appends an item; fails if memory is refused.
-pub fn push<T: Drop>(list: &mut Vec<T>, item: T) -> Result<(), CatalogFault>
-    ensures ok { OnOk result (list.new.items ≡ list.old.items ++ item ∷ []) }
-    ensures memory { IfErr result (λ e. e ≡ CatalogFault.Memory) }
-{
-    match list.push(item) {
-        Ok(()) => Ok(()),
-        Err(_) => Err(CatalogFault::Memory),
-    }
-}
-
-pub fn text_at<'a>(table: &'a Table, key: &str) -> Result<&'a str, CatalogFault>
-    ensures read { IfOk result (λ s. text_at key.now (table_view table.now) ≡ Some s.now) }
-    ensures unread { IfErr result (IsRefused 2 (text_at key.now (table_view table.now))) }
-{
-    match table.get(key) {
-        Some(value) => match value.as_str() {
-            Some(text) => Ok(text),
-            None => Err(CatalogFault::Rule(2)),
-        },
-        None => Err(CatalogFault::Rule(2)),
-    }
-}
-
-pub fn integer_at(table: &Table, key: &str) -> Result<i64, CatalogFault>
-    ensures read { IfOk result (λ z. integer_at key.now (table_view table.now) ≡ Some z) }
-    ensures unread { IfErr result (IsRefused 2 (integer_at key.now (table_view table.now))) }
-{
-    match table.get(key) {
-        Some(value) => match value.as_integer() {
-            Some(number) => Ok(number),
-            None => Err(CatalogFault::Rule(2)),
-        },
-        None => Err(CatalogFault::Rule(2)),
-    }
-}
-
-fn array_at<'a>(table: &'a Table, key: &str) -> Result<&'a [Value], CatalogFault>
-    ensures read { IfOk result (λ vs. array_at key.now (table_view table.now) ≡ Some (map view vs.now)) }
-    ensures unread { IfErr result (IsRefused 2 (array_at key.now (table_view table.now))) }
-{
-    match table.get(key) {
-        Some(value) => match value.as_array() {
-            Some(items) => Ok(items.as_slice()),
-            None => Err(CatalogFault::Rule(2)),
-        },
-        None => Err(CatalogFault::Rule(2)),
-    }
-}
-
-/// Each value as a text.
-fn texts(alloc: Global, values: &[Value]) -> Result<Vec<&str>, CatalogFault>
-    ensures read { IfOk result (λ v. read_all as_str (map view values.now) ≡ Some (texts v.items)) }
-    ensures unread { IfErr result (IsRefusedUnlessMemory 2 (read_all as_str (map view values.now))) }
-{
-    let mut found = Vec::new(alloc);
-    for value in values {
-        match value.as_str() {
-            Some(text) => push(&mut found, text)?,
-            None => return Err(CatalogFault::Rule(2)),
-        }
-    }
-    Ok(found)
-}
-
-/// Each value as an integer.
-pub fn integers(alloc: Global, values: &[Value]) -> Result<Vec<i64>, CatalogFault>
-    ensures read { IfOk result (λ v. read_all as_integer (map view values.now) ≡ Some v.items) }
-    ensures unread { IfErr result (IsRefusedUnlessMemory 2 (read_all as_integer (map view values.now))) }
-{
-    let mut found = Vec::new(alloc);
-    for value in values {
-        match value.as_integer() {
-            Some(number) => push(&mut found, number)?,
-            None => return Err(CatalogFault::Rule(2)),
-        }
-    }
-    Ok(found)
-}
-
-fn texts_at<'a>(alloc: Global, table: &'a Table, key: &str) -> Result<Vec<&'a str>, CatalogFault>
-    ensures read { IfOk result (λ v. texts_at key.now (table_view table.now) ≡ Some (texts v.items)) }
-    ensures unread { IfErr result (IsRefusedUnlessMemory 2 (texts_at key.now (table_view table.now))) }
-{
-    texts(alloc, array_at(table, key)?)
-}
-
-fn integers_at(alloc: Global, table: &Table, key: &str) -> Result<Vec<i64>, CatalogFault>
-    ensures read { IfOk result (λ v. integers_at key.now (table_view table.now) ≡ Some v.items) }
-    ensures unread { IfErr result (IsRefusedUnlessMemory 2 (integers_at key.now (table_view table.now))) }
-{
-    integers(alloc, array_at(table, key)?)
-}
-
 fn column(value: &Value) -> Result<ColumnEntry<'_>, CatalogFault>
     ensures read { IfOk result (λ c. option_and_then column_of (as_table (view value.now)) ≡ Some c) }
     ensures unread { IfErr result (IsRefused 2 (option_and_then column_of (as_table (view value.now)))) }
@@ -237,24 +144,6 @@ fn projections(alloc: Global, values: &[Value]) -> Result<Vec<ProjectionEntry<'_
         push(&mut found, entry)?;
     }
     Ok(found)
-}
-
-pub fn is_from_to(low: u8, high: u8, value: i64) -> bool
-    ensures { result ≡ is_from_to low high value }
-{
-    match u8::try_from(value) {
-        Ok(number) => low <= number && number <= high,
-        Err(_) => false,
-    }
-}
-
-pub fn is_version(number: u8, table: &Table) -> bool
-    ensures { result ≡ is_version number (table_view table.now) }
-{
-    match integer_at(table, "version") {
-        Ok(version) => is_from_to(number, number, version),
-        Err(_) => false,
-    }
 }
 
 fn columns_at(alloc: Global, table: &Table) -> Result<Vec<ColumnEntry<'_>>, CatalogFault>

@@ -1,9 +1,11 @@
 //! Which part of a document breaks a rule.
-use crate::document::{Document, is_from_to, read_document};
+use crate::document::{Document, read_document};
+use crate::keys::is_from_to;
 use crate::names::{column_names, is_name, projection_names};
 use crate::problem::{NONE, Part, Problem};
 use crate::projection_problems::projection_problem;
 use crate::rules::{is_kind, is_stored};
+use cs_schema::limits::{COLUMNS, SITES};
 use std::alloc::{AllocError, Global};
 use toml::Table;
 
@@ -46,10 +48,10 @@ fn name_problem<'a>(
 
 fn size_problem(document: &Document) -> Problem<'static> {
     let (columns, projections) = (document.columns.len(), document.projections.len());
-    if !is_from_to(1, 16, document.sites) {
+    if !is_from_to(1, SITES, document.sites) {
         let sites = Part::Number(document.sites);
         Problem::of("sites is {}, 1 to 16 is wanted", sites)
-    } else if columns < 1 || 32 < columns {
+    } else if columns < 1 || COLUMNS < columns {
         Problem::of("{} columns, 1 to 32 are wanted", Part::Count(columns))
     } else {
         let projections = Part::Count(projections);

@@ -5,7 +5,7 @@ ghost use Rattle.cs_catalog.specs.Tree.{safety_at, text_at, integer_at, document
 ghost use Rattle.cs_catalog.specs.Refusals.{IsRefused};
 
 use crate::CatalogFault;
-use crate::document::{integer_at, is_version, text_at};
+use crate::keys::{integer_at, is_version, text_at};
 use toml::Table;
 
 /// The keys of a document other than columns and projections.

@@ -1,5 +1,5 @@
 //! Which key of a catalog is missing or has the wrong type.
-use crate::document::is_version;
+use crate::keys::is_version;
 use crate::problem::{NONE, Part, Problem};
 use std::alloc::{AllocError, Global};
 use toml::{Table, Value};

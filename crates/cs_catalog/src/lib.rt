@@ -12,6 +12,7 @@ mod explained;
 mod fault;
 mod head;
 mod key_problems;
+mod keys;
 mod lookups;
 mod names;
 mod problem;

@@ -6,6 +6,7 @@ ghost use Rattle.cs_schema.specs.Rules.{are_distinct, are_names, is_lowercase, i
 
 use crate::CatalogFault;
 use crate::document::{ColumnEntry, Document, ProjectionEntry};
+use cs_schema::limits::NAME_BYTES;
 use std::alloc::{AllocError, Global};
 
 fn is_lowercase(byte: u8) -> bool
@@ -30,7 +31,9 @@ pub fn is_name(name: &str) -> bool
     ensures { result ≡ is_name name.now }
 {
     match name.as_bytes().split_first() {
-        Some((first, rest)) => is_lowercase(*first) && are_name_bytes(rest) && rest.len() <= 31,
+        Some((first, rest)) => is_lowercase(*first)
+            && are_name_bytes(rest)
+            && rest.len() < NAME_BYTES,
         None => false,
     }
 }

@@ -1,9 +1,11 @@
 //! Which part of a projection breaks a rule.
 use crate::cuts::{has_cuts, integer_cut, text_cut};
-use crate::document::{ColumnEntry, Document, ProjectionEntry, is_from_to};
+use crate::document::{ColumnEntry, Document, ProjectionEntry};
+use crate::keys::is_from_to;
 use crate::lookups::{is_among, is_column, is_int_column, is_projection, leading};
 use crate::problem::{NONE, Part, Problem};
 use crate::rules::may_have_code;
+use cs_schema::limits::{CUTS, SORT_COLUMNS};
 use std::alloc::{AllocError, Global};
 use toml::Value;
 
@@ -64,7 +66,7 @@ fn codes_problem(projection: &ProjectionEntry) -> Option<Problem<'static>> {
 
 fn sort_problem<'a>(projection: &ProjectionEntry<'a>) -> Option<Problem<'a>> {
     let found = projection.sort.len();
-    if found < 1 || 4 < found {
+    if found < 1 || SORT_COLUMNS < found {
         return Some(Problem::of("sort has {} names, 1 to 4 are wanted", Part::Count(found)));
     }
     for (at, name) in projection.sort.iter().enumerate() {
@@ -111,7 +113,7 @@ fn item_of_cuts(of_ints: bool, cuts: &[Value]) -> Problem<'static> {
 
 fn cuts_problem(columns: &[ColumnEntry], projection: &ProjectionEntry) -> Problem<'static> {
     let found = projection.cuts.len();
-    if found > 15 {
+    if found > CUTS {
         return Problem::of(
             "cuts has {} items, at most 15 are wanted",
             Part::Count(found),

@@ -5,7 +5,8 @@ ghost use Rattle.cs_catalog.specs.Reading.{has_version, IsCatalogOfTree, IsRefus
 
 use crate::CatalogFault;
 use crate::build::catalog_of;
-use crate::document::{is_version, read_document};
+use crate::document::read_document;
+use crate::keys::is_version;
 use crate::rules::broken_rule;
 use cs_schema::Catalog;
 use std::alloc::Global;

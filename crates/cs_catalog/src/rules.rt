@@ -1,24 +1,29 @@
 //! The rules of a catalog, each checked on the whole document.
-ghost use Rattle.std.specs.Prelude.{◌≡◌, ℕ, ◌+◌, ◌-◌, ◌<◌, ◌≤◌, ◌==◌, nat_le, length, map, IfOk, IfErr, codes};
-ghost use Rattle.std.specs.List.{list_all, list_any};
+ghost use Rattle.std.specs.Prelude.{◌≡◌, true, IfOk, IfErr};
+ghost use Rattle.std.specs.List.{list_all};
 ghost use Rattle.cs_schema.specs.Document.{is_from_to};
 ghost use Rattle.cs_catalog.specs.Tree.{texts};
-ghost use Rattle.std.specs.Prelude.{true};
-ghost use Rattle.cs_schema.specs.Rules.{safety_holds, has_cuts, cuts_hold, document_rules, least_broken, are_names, names_hold, has_columns, has_codes, has_sort, has_differences, has_sites, has_joins, is_stored, may_have_code, leading, same_text, is_among, are_distinct, is_column, is_int_column, is_projection, is_lowercase, is_name_byte, is_name, sizes_hold, is_kind, kinds_hold, key_holds, columns_hold, codes_hold, sorts_hold, all_may, differences_hold, sites_hold, joins_hold, columns_are_stored, number};
+ghost use Rattle.cs_schema.specs.Rules.{sizes_hold, is_kind, kinds_hold, key_holds, is_column, is_among, is_projection, number};
+ghost use Rattle.cs_schema.specs.Rules.{has_columns, columns_hold, has_codes, codes_hold, has_sort, sorts_hold};
+ghost use Rattle.cs_schema.specs.Rules.{may_have_code, all_may, has_differences, differences_hold, has_sites, sites_hold};
+ghost use Rattle.cs_schema.specs.Rules.{has_joins, joins_hold, is_stored, columns_are_stored, safety_holds};
+ghost use Rattle.cs_schema.specs.Rules.{document_rules, least_broken};
 
 use crate::CatalogFault;
 use crate::cuts::cuts_hold;
-use crate::document::{ColumnEntry, Document, ProjectionEntry, is_from_to};
+use crate::document::{ColumnEntry, Document, ProjectionEntry};
+use crate::keys::is_from_to;
 use crate::lookups::{are_distinct, is_among, is_column, is_int_column, is_projection, leading};
 use crate::names::names_hold;
+use cs_schema::limits::{COLUMNS, PROJECTIONS, SITES, SORT_COLUMNS};
 use std::alloc::{AllocError, Global};
 
 pub fn sizes_hold(document: &Document) -> bool
     ensures { result ≡ sizes_hold document.now }
 {
-    is_from_to(1, 16, document.sites)
-        && (1 <= document.columns.len() && document.columns.len() <= 32)
-        && (1 <= document.projections.len() && document.projections.len() <= 8)
+    is_from_to(1, SITES, document.sites)
+        && (1 <= document.columns.len() && document.columns.len() <= COLUMNS)
+        && (1 <= document.projections.len() && document.projections.len() <= PROJECTIONS)
 }
 
 pub fn is_kind(kind: &str) -> bool
@@ -104,7 +109,7 @@ fn are_among(names: &[&str], all: &[&str]) -> bool
 fn has_sort(projection: &ProjectionEntry) -> bool
     ensures { result ≡ has_sort projection.now }
 {
-    (1 <= projection.sort.len() && projection.sort.len() <= 4)
+    (1 <= projection.sort.len() && projection.sort.len() <= SORT_COLUMNS)
         && are_among(&projection.sort, &projection.columns)
         && are_distinct(&projection.sort)
 }

@@ -1,4 +1,4 @@
--- How many positions the bitmaps of a list's values name.
+-- The number of positions that the bitmaps of a list's values mark.
 use Rattle.std.proofs.Common.{◌≡◌, ℕ, suc, ◌+◌, ◌*◌, ◌<◌, ◌≤◌, Bool, true, false, cond, not, List, [], ◌∷◌, ◌++◌, length, drop, get_or, map, refl, sym, ap, subst, ◌∙◌, arith, inl, inr, ◌⊎◌}
 use Rattle.std.specs.List.{AllByRecursion}
 use Rattle.std.specs.List.Sorted.{IsStrictlySortedBy}
@@ -13,7 +13,7 @@ use Rattle.cs_codec.specs.Texts.{distinct_values, run_lengths, bitmap_lengths}
 use Rattle.cs_codec.specs.Bitmaps.{total, ones_of}
 use Rattle.cs_codec.proofs.BitmapKeys.{In, sorted_distinct, to_distinct}
 
--- how many bits are set
+-- the number of set bits
 abbrev pub trues : List Bool → ℕ
 trues [] = 0
 trues (true ∷ bits) = suc (trues bits)
@@ -35,15 +35,15 @@ few_lengths true n (false ∷ bits) = omega (arith, few_lengths false 1 bits)
 few_lengths false n (true ∷ bits) = omega (arith, few_lengths true 1 bits)
 few_lengths false n (false ∷ bits) = omega (arith, few_lengths false (suc n) bits)
 
--- at how many positions a value stands
+-- the number of positions of a value
 abbrev pub stands : {C : Type 0} → (C → C → Bool) → List C → C → ℕ
 stands eq xs x = trues (map (eq x) xs)
 
--- the positions that the bitmaps of these values name, over all of them
+-- the total number of positions that the bitmaps of these values mark
 abbrev pub ones_in : {C : Type 0} → (C → C → Bool) → List C → List C → ℕ
 ones_in eq xs values = total (map (λ x. ones_of false (bitmap_lengths eq x xs)) values)
 
--- at how many positions these values stand, over all of them
+-- the total number of positions of these values
 abbrev pub stand_in : {C : Type 0} → (C → C → Bool) → List C → List C → ℕ
 stand_in eq xs values = total (map (stands eq xs) values)
 
@@ -59,7 +59,7 @@ pub ones_in-within : {C : Type 0} (eq : C → C → Bool) (xs done rest : List C
 ones_in-within eq xs [] rest = omega arith
 ones_in-within eq xs (y ∷ done) rest = omega (arith, ones_in-within eq xs done rest)
 
--- how many of the values are this cell
+-- the number of values that equal this cell
 abbrev hits : {C : Type 0} → (C → C → Bool) → C → List C → ℕ
 hits eq x values = trues (map (λ d. eq d x) values)
 
@@ -101,14 +101,14 @@ each_in : {C : Type 0} (P : C → Type 0) (xs : List C) → ((q : C) → In q xs
 each_in P [] h = tt
 each_in P (x ∷ xs) h = (h x (inl refl), each_in P xs (λ q m. h q (inr m)))
 
--- each position is named once
+-- each position is marked exactly once
 pub all_named : {C : Type 0} (eq : C → C → Bool) (t : IsTest eq) (cmp : C → C → Ordering) (o : IsTotalOrder cmp) (ties : (x y : C) → eq x y ≡ is_eq (cmp x y)) (xs : List C) → stand_in eq xs (distinct_values cmp xs) ≡ length xs
 all_named {C} eq t cmp o ties xs =
     all_stand eq t cmp o ties (distinct_values cmp xs) (sorted_distinct cmp o xs) xs (each_in (λ x. In x (distinct_values cmp xs)) xs (λ q m. to_distinct cmp (λ x y e. t.exact x y (ties x y ∙ ap is_eq e)) q xs m))
 
 -- ---- entries that were counted
 
--- so many positions are named by the values that were read
+-- the values that were read mark n positions
 abbrev pub Counted : {C : Type 0} → (C → C → Bool) → ℕ → List C → List C → Type 0
 Counted eq n done xs = n ≡ ones_in eq xs done
 

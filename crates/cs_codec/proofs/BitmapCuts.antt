@@ -1,11 +1,11 @@
--- The bitmaps of two lists, one after the other.
+-- The bitmaps of a list that is the concatenation of two.
 use Rattle.std.proofs.Common.{◌≡◌, ℕ, suc, ◌+◌, ◌-◌, ◌<◌, ◌≤◌, ◌==◌, ◌&&◌, Bool, true, false, cond, List, [], ◌∷◌, ◌++◌, length, map, refl, sym, ap, ◌∙◌, arith, add-zero}
 use Rattle.std.proofs.lemmas.Bool.{ne_eqb, eqb-true}
 use Rattle.std.proofs.lemmas.List.{append-nil, length-append, map-append, length-map}
 use Rattle.cs_codec.specs.Texts.{run_lengths, bitmap_lengths}
 use Rattle.cs_codec.specs.Bitmaps.{total, is_some_list, longer_last, merged, glued}
 
--- how many zeros come after the last one, where so many equal bits were counted before
+-- the number of zeros after the last one, if the current run has n bits already
 abbrev pub after_last : Bool → ℕ → List Bool → ℕ
 after_last true n [] = 0
 after_last false n [] = n
@@ -14,7 +14,7 @@ after_last true n (false ∷ bits) = after_last false 1 bits
 after_last false n (true ∷ bits) = after_last true 1 bits
 after_last false n (false ∷ bits) = after_last false (suc n) bits
 
--- all positions are in a run or after the last one
+-- each position is in a run or after the last one
 pub all_counted : (b : Bool) (n : ℕ) (bits : List Bool) → total (run_lengths b n bits) + after_last b n bits ≡ n + length bits
 all_counted true n [] = omega arith
 all_counted false n [] = omega arith
@@ -23,7 +23,7 @@ all_counted true n (false ∷ bits) = omega (arith, all_counted false 1 bits)
 all_counted false n (true ∷ bits) = omega (arith, all_counted true 1 bits)
 all_counted false n (false ∷ bits) = omega (arith, all_counted false (suc n) bits)
 
--- the first length is so much more
+-- the first length is greater by n
 abbrev longer_first : ℕ → List ℕ → List ℕ
 longer_first n [] = []
 longer_first n (x ∷ xs) = (n + x) ∷ xs
@@ -45,7 +45,7 @@ some_ones n [] = refl
 some_ones n (true ∷ bits) = some_ones (suc n) bits
 some_ones n (false ∷ bits) = refl
 
--- where no one comes, the zeros that were counted stay
+-- if no one follows, the zeros that were counted are still counted
 none_after : (n : ℕ) (bits : List Bool) → is_some_list (run_lengths false n bits) ≡ false → n ≤ after_last false n bits
 none_after n [] e = omega arith
 none_after n (true ∷ bits) e = absurd cc
@@ -67,7 +67,7 @@ none_glued n (z ∷ ns) = by_test (n + z == 0)
     by_test true = refl
     by_test false = refl
 
--- one more run before others
+-- one more run in front
 glued_behind : (n : ℕ) (left : List ℕ) (gap : ℕ) (right : List ℕ) → (is_some_list left ≡ false → 0 < gap) → glued (n ∷ left) gap right ≡ n ∷ glued left gap right
 glued_behind n left gap [] h = refl
 glued_behind n [] gap (z ∷ ns) h = rw (not_zero (gap + z) (omega (arith, h refl))) refl
@@ -88,7 +88,7 @@ ones_go_on n bits = more_counted true n 1 bits ∙ by_list (run_lengths true 1 b
     by_list [] e = absurd cc
     by_list (x ∷ ls) e = refl
 
--- the lengths of bits, and after them others
+-- the lengths of the concatenation of two lists of bits
 pub lengths_glued : (b : Bool) (n : ℕ) (bits more : List Bool) → run_lengths b n (bits ++ more) ≡ glued (run_lengths b n bits) (after_last b n bits) (run_lengths false 0 more)
 lengths_glued true n [] [] = refl
 lengths_glued true n [] (true ∷ more) =

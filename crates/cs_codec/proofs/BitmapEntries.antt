@@ -1,4 +1,4 @@
--- The values that have a bitmap, and the text of their bitmaps.
+-- The values that have a bitmap, and the bytes of their bitmaps.
 use Rattle.std.proofs.Common.{◌≡◌, ℕ, suc, Bool, true, false, cond, List, [], ◌∷◌, ◌++◌, length, map, Option, Some, None, refl, sym, ap, ◌∙◌, inl, inr, ◌⊎◌}
 use Rattle.std.specs.Prelude.{flat_map}
 use Rattle.std.specs.List.{AllByRecursion}
@@ -18,7 +18,7 @@ use Rattle.cs_codec.specs.Bitmaps.{entry_text, if_some}
 use Rattle.cs_codec.specs.BitmapParts.{AreBitmaps}
 use Rattle.cs_codec.proofs.BitmapKeys.{In, same_sorted, sorted_distinct, from_distinct, to_distinct}
 
--- ---- a value stands in the list exactly where its bitmap has a one
+-- ---- a value occurs in the list exactly if its bitmap has a one
 
 pub not_there : {C : Type 0} (eq : C → C → Bool) (t : IsTest eq) (q : C) (n : ℕ) (xs : List C) → run_lengths false n (map (eq q) xs) ≡ [] → In q xs → ⊥
 not_there eq t q n [] e m = m
@@ -84,7 +84,7 @@ all_found cmp o (e ∷ es) s =
     let itself : is_eq (cmp e.0 e.0) ≡ true = ap is_eq (tied_itself o e.0) in
     (rw itself refl, found_still cmp o e es es (sorted_head cmp e.0 (keys_of es) s) (all_found cmp o es (sorted_tail cmp e.0 (keys_of es) s)))
 
--- ---- the text of bitmaps
+-- ---- the bytes of bitmaps
 
 by_option : {P X : Type 0} (o : Option X) → (o ≡ None → P) → ((b : X) → o ≡ Some b → P) → P
 by_option None f g = f refl

@@ -14,7 +14,7 @@ pub by_test : {P : Type 0} (b : Bool) → (b ≡ true → P) → (b ≡ false �
 by_test true f g = f refl
 by_test false f g = g refl
 
--- q is one of the list
+-- q is in the list
 abbrev pub In : {C : Type 0} → C → List C → Type 0
 In q [] = ⊥
 In q (x ∷ xs) = (q ≡ x) ⊎ In q xs
@@ -34,7 +34,7 @@ not_itself cmp o x e =
     let f = tied_itself o x in
     absurd cc
 
--- two ascending lists with the same values are one
+-- two ascending lists with the same values are equal
 pub same_sorted : {C : Type 0} (cmp : C → C → Ordering) (o : IsTotalOrder cmp) (xs ys : List C) → IsStrictlySortedBy cmp xs → IsStrictlySortedBy cmp ys → ((q : C) → In q xs → In q ys) → ((q : C) → In q ys → In q xs) → xs ≡ ys
 same_sorted cmp o [] [] sx sy f g = refl
 same_sorted cmp o [] (y ∷ ys) sx sy f g = absurd (g y (inl refl))

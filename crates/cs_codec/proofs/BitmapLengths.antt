@@ -1,4 +1,4 @@
--- Lengths of a bitmap, as they are written.
+-- The lengths of a bitmap, as the code computes them.
 use Rattle.std.proofs.Common.{◌≡◌, ◌≢◌, ℕ, zero, suc, ◌+◌, ◌-◌, ◌<◌, ◌≤◌, ◌==◌, ◌&&◌, Bool, true, false, cond, List, [], ◌∷◌, ◌++◌, length, get_or, set, drop, refl, sym, ap, ◌∙◌, append_assoc, arith}
 use Rattle.std.proofs.lemmas.Bool.{ne_eqb}
 use Rattle.cs_codec.specs.Bitmaps.{total, is_some_list, longer_last, merged, glued, with_run, IsBitmap}
@@ -43,7 +43,7 @@ two_first [] h = absurd (omega arith)
 two_first (x ∷ []) h = absurd (omega arith)
 two_first (x ∷ y ∷ ns) h = refl
 
--- the run at the cut, and the other lengths
+-- the run at the boundary of both bitmaps, and the other lengths
 pub followed_lengths : (left other mid new : List ℕ) (offset gap end zeros : ℕ) → 2 ≤ length other → total left ≡ end → zeros ≡ offset - end + get_or other 0 0 → mid ≡ with_run left zeros (get_or other 1 0) → new ≡ mid ++ drop 2 other → new ≡ glued left (offset - total left) other
 followed_lengths left other mid new offset gap end zeros some size ez em en =
     let place : zeros ≡ (offset - total left) + get_or other 0 0 = ez ∙ ap (λ (k : ℕ). offset - k + get_or other 0 0) (sym size) in

@@ -1,4 +1,4 @@
--- One more cell, and one more value's bitmap of the other part.
+-- Adding one more cell, or one more value's bitmap of the other part.
 use Rattle.std.proofs.Common.{◌≡◌, ℕ, suc, ◌+◌, ◌-◌, ◌<◌, ◌≤◌, ◌==◌, ◌&&◌, get_or, take, Bool, true, false, cond, List, [], ◌∷◌, ◌++◌, length, map, Option, Some, None, refl, sym, ap, subst, ◌∙◌, arith, inl, inr, ◌⊎◌}
 use Rattle.std.specs.Ordering.{is_eq}
 use Rattle.std.specs.declared.cmp.Ordering.{Ordering}
@@ -22,7 +22,7 @@ or_empty-if_some (x ∷ xs) = refl
 
 -- ---- one more cell
 
--- each value of the list has its bitmap
+-- the map has the bitmap of each value of the list
 abbrev pub Each : {C : Type 0} → (C → C → Bool) → (C → C → Ordering) → BTreeMap C (List ℕ) → List C → Type 0
 Each {C} eq cmp m cells = (x : C) → get cmp m x ≡ if_some (bitmap_lengths eq x cells)
 
@@ -82,14 +82,14 @@ abbrev pub joined_at : ℕ → Option (List ℕ) → Option (List ℕ) → Optio
 joined_at n left None = left
 joined_at n left (Some ls) = Some (glued (or_empty left) (n - total (or_empty left)) ls)
 
--- a value is still in the right map, or its bitmap is joined in the left one
+-- a value is still in the right map, or its bitmap was joined to that in the left one
 pub record JoinsAt {C : Type 0} (cmp : C → C → Ordering) (n : ℕ) (left0 right0 left right : BTreeMap C (List ℕ)) : Type 0 where
   pub at : (x : C) → ((get cmp right x ≡ get cmp right0 x) × (get cmp left x ≡ get cmp left0 x)) ⊎ ((get cmp right x ≡ None) × (get cmp left x ≡ joined_at n (get cmp left0 x) (get cmp right0 x)))
 
 pub joins_begin : {C : Type 0} (cmp : C → C → Ordering) (n : ℕ) (left right : BTreeMap C (List ℕ)) → JoinsAt cmp n left right left right
 joins_begin cmp n left right = record { at = λ x. inl (refl, refl) }
 
--- what is still in the right map, and what the left one has beside it, is as it was
+-- for a value that is still in the right map, both maps are unchanged
 pub still_there : {C : Type 0} (cmp : C → C → Ordering) (n : ℕ) (left0 right0 left right : BTreeMap C (List ℕ)) (v : C) (b : List ℕ) → JoinsAt cmp n left0 right0 left right → get cmp right v ≡ Some b → (get cmp right0 v ≡ Some b) × (get cmp left v ≡ get cmp left0 v)
 still_there cmp n left0 right0 left right v b j e = by_case (j.at v)
   where
@@ -166,7 +166,7 @@ each_joined eq cmp n left0 right0 left right front back j none hf hb size = λ x
     ∙ ap (λ (k : ℕ). if_some (glued (bitmap_lengths eq x front) (k - total (bitmap_lengths eq x front)) (bitmap_lengths eq x back))) size
     ∙ ap if_some (sym (bitmap_glued eq x front back))
 
--- ---- what is known of a value's bitmaps in both parts
+-- ---- a value's bitmaps in both parts
 
 some_pairs : (n : ℕ) (bits : List Bool) → (run_lengths false n bits ≡ [] → ⊥) → 2 ≤ length (run_lengths false n bits)
 some_pairs n [] h = absurd (h refl)

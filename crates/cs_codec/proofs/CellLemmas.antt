@@ -1,4 +1,4 @@
--- The laws of the two kinds of cells, and of numbers.
+-- Reading numbers and cells from bytes.
 use Rattle.std.proofs.Common.{◌≡◌, ℕ, ◌+◌, ◌^◌, ◌<◌, ◌≤◌, List, ◌++◌, length, get_or, take, drop, refl, sym, ap, subst, ◌∙◌, arith, rules, inl, inr, ℤ}
 use Rattle.std.specs.Prelude.{Option, Some, None, IfSome, IfNone, MatchOption}
 use Rattle.std.specs.Int.{w32, w64, from_be_bytes, to_be_bytes, cast_unsigned, cast_signed}

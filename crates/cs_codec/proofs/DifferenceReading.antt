@@ -1,4 +1,4 @@
--- Numbers in groups, and lists of values that never fall.
+-- Reading and writing numbers in groups, and lists of values that never fall.
 use Rattle.std.proofs.Common.{◌≡◌, ◌≢◌, ℕ, zero, suc, ◌+◌, ◌-◌, ◌*◌, ◌/◌, ◌%◌, ◌^◌, ◌<◌, ◌≤◌, false, eqb, List, [], ◌∷◌, ◌++◌, length, get_or, drop, refl, sym, ap, subst, ◌∙◌, append_assoc, arith, add-zero, ℤ, inl, inr}
 use Rattle.std.specs.Prelude.{pos, ◌≤ℤ◌, ◌-ℤ◌, ◌+ℤ◌}
 use Rattle.std.specs.Int.RustNames.{unsigned_abs}
@@ -54,7 +54,7 @@ none_too_long text start lt large = λ n rest _ few e.
     let head : get_or text start 0 ≡ n = cc in
     omega arith
 
--- a first group that isn't the last
+-- the first group of a number that has more
 record LongGroups (more byte n : ℕ) (tail rest : List ℕ) : Type 0 where
   large : 128 ≤ n
   byte_is : byte ≡ n % 128 + 128
@@ -69,7 +69,7 @@ long_groups more byte n tail rest h e =
           record { large = ge; byte_is = cc; tail_is = cc }
     ]
 
--- what the groups after the first have to be
+-- what the groups after the first are
 after_first : (more k : ℕ) (text : List ℕ) (start n : ℕ) (rest : List ℕ) → more ≡ suc k → start < length text → 128 ≤ get_or text start 0 → drop start text ≡ groups more n ++ rest → LongGroups k (get_or text start 0) n (drop (start + 1) text) rest
 after_first more k text start n rest is lt large e =
     long_groups k (get_or text start 0) n (drop (start + 1) text) rest large (sym (drop_more text start 0 lt) ∙ e ∙ ap (λ (m : ℕ). groups m n ++ rest) is)
@@ -84,7 +84,7 @@ none_after more k text start is lt large none = λ n rest fits few e.
     let long = after_first more k text start n rest is lt large e in
     none (n / 128) rest (omega arith) (limit_more more k n is few) long.tail_is
 
--- a first group, and what stands after it
+-- the first group fixes the low bits, the groups after it the rest
 pub high_is : (more k : ℕ) (text : List ℕ) (start high end n : ℕ) (rest : List ℕ) → more ≡ suc k → start < length text → 128 ≤ get_or text start 0 → GroupsStandAt k text (start + 1) high end → n < 2 ^ 64 → n < group_limit more → drop start text ≡ groups more n ++ rest → (high ≡ n / 128) × (get_or text start 0 ≡ n % 128 + 128) × (128 ≤ n)
 high_is more k text start high end n rest is lt large found fits few e =
     let long = after_first more k text start n rest is lt large e in
@@ -141,7 +141,7 @@ item_as_gap before p x h = rw (not_one (p % 128) h) refl
     not_one : (n : ℕ) → n ≢ 1 → eqb n 1 ≡ false
     not_one n h = grind (arith, nat_tests)
 
--- the text of a value in full goes on after the position
+-- the bytes of a value in full are its position, and then its int cell
 full_parts : (before : ℤ) (p : ℕ) (x : ℤ) (text : List ℕ) (start : ℕ) (rest : List ℕ) → p % 128 ≡ 1 → drop start text ≡ item before p x ++ rest → drop start text ≡ number p ++ (int_cell x ++ rest)
 full_parts before p x text start rest h e = e ∙ ap (λ (w : List ℕ). w ++ rest) (item_in_full before p x h) ∙ append_assoc (number p) (int_cell x) rest
 
@@ -206,7 +206,7 @@ gap_stands before p text start gap end x h found fits e = record {
 }
 
 -- ---- reading a column
--- what was read so far
+-- what has been read so far
 pub record ValuesSoFar (text : List ℕ) (at : ℕ) (before : ℤ) (cells : List ℤ) : Type 0 where
   pub so_far : text ≡ differences_text_from least 1 cells ++ drop at text
   pub hold : AllByRecursion IsInt cells
@@ -269,7 +269,7 @@ values_column text rows at before cells short far len ended = record {
   cells_hold = far.hold;
 }
 
--- one more value is written
+-- one more value has been written
 pub one_more_written : (cells : List ℤ) (i position : ℕ) (before x : ℤ) (out new whole : List ℕ) → i < length cells → x ≡ get_or cells i x → position ≡ 1 + i → out ++ differences_text_from before position (drop i cells) ≡ whole → new ≡ out ++ item before position x → new ++ differences_text_from x (position + 1) (drop (i + 1) cells) ≡ whole
 one_more_written cells i position before x out new whole lt e place so_far ne =
     let next : drop i cells ≡ x ∷ drop (i + 1) cells = drop_more cells i x lt ∙ ap (λ (z : ℤ). z ∷ drop (i + 1) cells) (sym e) in

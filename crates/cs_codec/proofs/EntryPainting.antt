@@ -1,4 +1,4 @@
--- Rows that get the numbers of their values, entry by entry.
+-- Giving each row the number of its value, entry by entry.
 use Rattle.std.proofs.Common.{◌≡◌, ℕ, zero, suc, ◌+◌, ◌-◌, ◌<◌, ◌≤◌, Bool, true, false, cond, List, [], ◌∷◌, ◌++◌, length, get_or, map, take, drop, replicate, length-append, length-take, length-drop, refl, sym, ap, subst, ◌∙◌, arith, inl, inr}
 use Rattle.std.specs.List.{AllByRecursion}
 use Rattle.std.specs.Ordering.{is_eq}
@@ -12,7 +12,7 @@ use Rattle.cs_codec.specs.Bitmaps.{bits_from}
 use Rattle.cs_codec.specs.Painting.{Painted}
 use Rattle.cs_codec.proofs.BitmapKeys.{In, to_distinct}
 
--- the cells whose values were read are those of the column
+-- the cells whose values have been read are those of the column
 abbrev pub Filled : {C : Type 0} → List C → List C → List C → Type 0
 Filled {C} cells done xs = (k : ℕ) (d : C) → k < length xs → In (get_or xs k d) done → get_or cells k d ≡ get_or xs k d
 
@@ -42,18 +42,18 @@ among_cells [] k d lt = absurd (omega arith)
 among_cells (y ∷ ys) zero d lt = inl refl
 among_cells (y ∷ ys) (suc k) d lt = inr (among_cells ys k d (omega arith))
 
--- all values were read
+-- all values have been read
 filled_all : {C : Type 0} (eq : C → C → Bool) (t : IsTest eq) (cmp : C → C → Ordering) (ties : (x y : C) → eq x y ≡ is_eq (cmp x y)) (cells xs : List C) → length cells ≡ length xs → Filled cells (distinct_values cmp xs) xs → cells ≡ xs
 filled_all {C} eq t cmp ties cells xs size filled =
     same_lists cells xs size (λ k d lt. filled k d (omega (arith, size)) (to_distinct cmp (λ x y e. t.exact x y (ties x y ∙ ap is_eq e)) (get_or xs k d) xs (among_cells xs k d (omega (arith, size)))))
 
 -- ---- numbers of values
 
--- the value that each number names
+-- the value of each number
 abbrev named : {C : Type 0} → List C → List ℕ → C → List C
 named values numbers d = map (λ n. get_or values n d) numbers
 
--- The values that were read stand in their order, and a row whose value was read has its number.
+-- the values are those that have been read, in order, and a row whose value has been read has its number
 pub record Numbered {C : Type 0} (values : List C) (numbers : List ℕ) (done xs : List C) : Type 0 where
   pub values_are : values ≡ done
   pub filled : (d : C) → Filled (named values numbers d) done xs
@@ -61,7 +61,7 @@ pub record Numbered {C : Type 0} (values : List C) (numbers : List ℕ) (done xs
 pub numbered_begins : {C : Type 0} (values : List C) (numbers : List ℕ) (xs : List C) → values ≡ [] → Numbered values numbers [] xs
 numbered_begins values numbers xs e = record { values_are = e; filled = λ d k q lt m. absurd m }
 
--- each number is that of some value, once there are some
+-- each number is that of some value, if there are any
 abbrev pub AreBelow : List ℕ → ℕ → Type 0
 AreBelow numbers count = (k : ℕ) → k < length numbers → get_or numbers k 0 ≤ count - 1
 
@@ -103,7 +103,7 @@ last_value : {C : Type 0} (values : List C) (v d : C) → get_or (values ++ v �
 last_value [] v d = refl
 last_value (x ∷ values) v d = last_value values v d
 
--- one more value changes no other
+-- one more value changes no other row's value
 named_still : {C : Type 0} (values : List C) (v d : C) (numbers : List ℕ) → ((k : ℕ) → k < length numbers → get_or numbers k 0 < length values) → named (values ++ v ∷ []) numbers d ≡ named values numbers d
 named_still values v d [] h = refl
 named_still {C} values v d (n ∷ numbers) h =
@@ -124,7 +124,7 @@ numbered_more {C} eq t values v number lengths old new p place below xs done x s
       (filled_still values v d old done xs (subst (λ (n : ℕ). AreBelow old n) place below) so_far.values_are (so_far.filled d));
 }
 
--- ---- the cells at the numbers
+-- ---- the cells that the numbers pick
 
 pub one_cell : {C : Type 0} (xs : List C) (n : ℕ) (d : C) → n < length xs → take 1 (drop n xs) ≡ get_or xs n d ∷ []
 one_cell [] n d lt = absurd (omega arith)
@@ -155,7 +155,7 @@ pub cells_hold : {C : Type 0} (P : C → Type 0) (values : List C) (numbers : Li
 cells_hold P values [] h = tt
 cells_hold P values (n ∷ numbers) h = all_append P (take 1 (drop n values)) (cells_at values numbers) (all_one P values n h) (cells_hold P values numbers h)
 
--- all values were read
+-- all values have been read
 pub cells_are : {C : Type 0} (eq : C → C → Bool) (t : IsTest eq) (cmp : C → C → Ordering) (ties : (x y : C) → eq x y ≡ is_eq (cmp x y)) (values : List C) (numbers : List ℕ) (xs : List C) → length numbers ≡ length xs → ((k : ℕ) → k < length numbers → get_or numbers k 0 < length values) → Numbered values numbers (distinct_values cmp xs) xs → cells_at values numbers ≡ xs
 cells_are {C} eq t cmp ties values numbers xs size h n =
     filled_all eq t cmp ties (cells_at values numbers) xs (cells_count values numbers h ∙ size) (λ k d lt m. ap (λ (z : List C). get_or z k d) (cells_named values d numbers h) ∙ n.filled d k d lt m)

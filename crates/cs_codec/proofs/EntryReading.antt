@@ -1,4 +1,4 @@
--- Reading the entries of bitmaps: what every column with the text has in common.
+-- Reading the entries of bitmaps: what all columns with the same body have in common.
 use Rattle.std.proofs.Common.{◌≡◌, ℕ, suc, ◌+◌, ◌^◌, ◌<◌, ◌≤◌, Bool, List, [], ◌∷◌, ◌++◌, length, drop, Option, Some, None, refl, sym, ap, subst, ◌∙◌, append_assoc, arith, inl}
 use Rattle.std.specs.Prelude.{flat_map}
 use Rattle.std.specs.List.{AllByRecursion}
@@ -16,7 +16,7 @@ use Rattle.cs_codec.specs.BitmapLaws.{bitmap_lengths_fit, bitmap_count_fits, hol
 use Rattle.cs_codec.specs.BitmapReading.{ReadsNumbers, ReadsLengths, EntryAt, ReadsEntry, AddsEntry, NoBitmaps}
 use Rattle.cs_codec.proofs.BitmapKeys.{In, to_distinct}
 
--- there are no more values than cells
+-- there are at most as many distinct values as cells
 length_distinct : {C : Type 0} (cmp : C → C → Ordering) (xs : List C) → length (distinct_values cmp xs) ≤ length xs
 length_distinct cmp [] = omega arith
 length_distinct {C} cmp (x ∷ xs) = omega (arith, inserted (distinct_values cmp xs), length_distinct cmp xs)
@@ -30,7 +30,7 @@ length_distinct {C} cmp (x ∷ xs) = omega (arith, inserted (distinct_values cmp
     inserted [] = omega arith
     inserted (y ∷ ys) = placed (cmp x y) y ys (insert_value cmp x ys) (inserted ys)
 
--- the values that were read, those still to be read, and what is known of the first ones
+-- the values that have been read, those still to be read, and what is known about the former
 pub record EntriesAt {C : Type 0} (bytes : C → List ℕ) (is_cell : C → Type 0) (eq : C → C → Bool) (cmp : C → C → Ordering) (text : List ℕ) (at : ℕ) (Known : List C → List C → Type 0) (xs : List C) : Type 0 where
   pub done : List C
   pub rest : List C
@@ -39,14 +39,14 @@ pub record EntriesAt {C : Type 0} (bytes : C → List ℕ) (is_cell : C → Type
   pub hold : AllByRecursion is_cell rest
   pub known : Known done xs
 
--- so it is with every column that has the text
+-- this holds of each column that has this body
 abbrev pub EntriesSoFar : {C : Type 0} → (C → List ℕ) → (C → Type 0) → (C → C → Bool) → (C → C → Ordering) → List ℕ → ℕ → ℕ → (List C → List C → Type 0) → Type 0
 EntriesSoFar {C} bytes is_cell eq cmp text rows at Known = (xs : List C) → IsColumn (bitmaps_text bytes eq cmp) IsShort is_cell text rows xs → EntriesAt bytes is_cell eq cmp text at Known xs
 
 pub entries_begin : {C : Type 0} (bytes : C → List ℕ) (is_cell : C → Type 0) (eq : C → C → Bool) (cmp : C → C → Ordering) (text : List ℕ) (rows : ℕ) (Known : List C → List C → Type 0) → ((xs : List C) → Known [] xs) → EntriesSoFar bytes is_cell eq cmp text rows 0 Known
 entries_begin bytes is_cell eq cmp text rows Known none = λ xs h. record { done = []; rest = distinct_values cmp xs; all = refl; parts = h.text_is; hold = holds_distinct is_cell cmp xs h.cells_hold; known = none xs }
 
--- the value that comes next
+-- the value of the next entry
 pub record NextEntry {C : Type 0} (bytes : C → List ℕ) (is_cell : C → Type 0) (eq : C → C → Bool) (cmp : C → C → Ordering) (text : List ℕ) (at : ℕ) (done xs : List C) : Type 0 where
   pub x : C
   pub rest : List C
@@ -76,20 +76,20 @@ module _ {C : Type 0} (bytes : C → List ℕ) (is_cell : C → Type 0) (eq : C 
           }
 
   module _ (so_far : EntriesSoFar bytes is_cell eq cmp text rows at Known) where
-    -- some text is left and no entry stands there
+    -- bytes are left, and no entry is there
     pub no_entry : (numbers : List ℕ) → at < length text → ReadsEntry bytes is_cell text at numbers None → NoBitmaps bytes is_cell eq cmp text rows
     no_entry numbers lt none xs h =
         let next = next_entry xs h.list_fits lt (so_far xs h) in
         none next.x (bitmap_lengths eq next.x xs) (flat_map (bitmap_text bytes eq xs) next.rest) next.entry
 
-    -- some text is left, though there are as many values as rows
+    -- bytes are left, though there are as many values as rows
     pub no_more : at < length text → ((xs done : List C) → Known done xs → rows ≤ length done) → NoBitmaps bytes is_cell eq cmp text rows
     no_more lt full xs h =
         let now = so_far xs h in
         let next = next_entry xs h.list_fits lt now in
         omega (arith, ap (λ (z : List C). length z) next.all, length-append now.done (next.x ∷ next.rest), length_distinct cmp xs, h.rows_are, full xs now.done now.known)
 
-    -- one more entry is read
+    -- one more entry has been read
     pub one_more_entry : (numbers : List ℕ) (found : C × ℕ) (Now : List C → List C → Type 0) → at < length text → ReadsEntry bytes is_cell text at numbers (Some found) → ((xs done : List C) (x : C) → IsColumn (bitmaps_text bytes eq cmp) IsShort is_cell text rows xs → found.0 ≡ x → numbers ≡ bitmap_lengths eq x xs → Known done xs → Now (done ++ x ∷ []) xs) → EntriesSoFar bytes is_cell eq cmp text rows found.1 Now
     one_more_entry numbers found Now lt reads step = λ xs h.
         let now = so_far xs h in
@@ -104,7 +104,7 @@ module _ {C : Type 0} (bytes : C → List ℕ) (is_cell : C → Type 0) (eq : C 
           known = step xs now.done next.x h same.0 same.1 now.known;
         }
 
-    -- nothing is left, so all values were read
+    -- nothing is left, so all values have been read
     pub all_done : length text ≤ at → (xs : List C) → IsColumn (bitmaps_text bytes eq cmp) IsShort is_cell text rows xs → Known (distinct_values cmp xs) xs
     all_done ge xs h =
         let now = so_far xs h in
@@ -158,12 +158,12 @@ module _ {C : Type 0} (bytes : C → List ℕ) (is_cell : C → Type 0) (one : B
             ((value_is x ls rest e).0, same.0, same.1),
       )
 
--- the entry of the value that was added behind the others
+-- the entry of the value that was appended
 pub entry_added : {C : Type 0} (bytes : C → List ℕ) (is_cell : C → Type 0) (one : BeginsOne bytes is_cell) (some : (x : C) → 0 < length (bytes x)) (text : List ℕ) (at end : ℕ) (before after : List C) → Reads bytes is_cell text at before after end → (numbers : List ℕ) (found : Option ℕ) → ReadsLengths text end numbers found → AddsEntry bytes is_cell text at before after numbers found
 entry_added bytes is_cell one some text at end before after r numbers None none = no_lengths bytes is_cell one text at r.cell end r.stands numbers none
 entry_added bytes is_cell one some text at end before after r numbers (Some stop) reads = record { value = r.cell; added = r.added; reads = entry_read bytes is_cell one text at r.cell end r.stands numbers stop reads (some r.cell) }
 
--- some cells have some value
+-- a list that is not empty has a distinct value
 pub some_value : {C : Type 0} (eq : C → C → Bool) (t : IsTest eq) (cmp : C → C → Ordering) (ties : (x y : C) → eq x y ≡ is_eq (cmp x y)) (xs : List C) → 0 < length xs → 0 < length (distinct_values cmp xs)
 some_value eq t cmp ties [] lt = omega arith
 some_value {C} eq t cmp ties (x ∷ xs) lt = by_values (distinct_values cmp (x ∷ xs)) (to_distinct cmp (λ y z e. t.exact y z (ties y z ∙ ap is_eq e)) x (x ∷ xs) (inl refl))

@@ -17,6 +17,7 @@ pub mod BitmapCounts
 pub mod NumberReading
 pub mod TextSizes
 pub mod PlainLemmas
+pub mod CellSizes
 pub mod CellLemmas
 pub mod RunLemmas
 pub mod DifferenceReading

@@ -1,4 +1,4 @@
--- Reading some numbers in turn.
+-- Reading several numbers in turn.
 use Rattle.std.proofs.Common.{◌≡◌, ℕ, ◌+◌, ◌<◌, ◌≤◌, List, [], ◌∷◌, ◌++◌, length, drop, Some, None, refl, sym, ap, ◌∙◌, append_assoc, arith}
 use Rattle.std.specs.Prelude.{flat_map}
 use Rattle.std.proofs.lemmas.List.{append-nil, length-append}
@@ -13,7 +13,7 @@ pub record NumbersAfter (bytes : List ℕ) (at : ℕ) (numbers ls rest : List �
   pub text : drop at bytes ≡ flat_map number tail ++ rest
   pub fit : AreNumbers tail
 
--- whatever numbers stand there, these are the first of them
+-- if `count` numbers are at offset `start`, these are the first of them
 pub record NumbersSoFar (bytes : List ℕ) (start at count : ℕ) (numbers : List ℕ) : Type 0 where
   pub go_on : (ls rest : List ℕ) → length ls ≡ count → AreNumbers ls → drop start bytes ≡ flat_map number ls ++ rest → NumbersAfter bytes at numbers ls rest
   pub later : start ≤ at

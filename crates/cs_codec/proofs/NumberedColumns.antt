@@ -1,4 +1,4 @@
--- The bitmaps of values by the numbers of the rows.
+-- The bitmaps of a column's values, built from the numbers of its rows.
 use Rattle.std.proofs.Common.{◌≡◌, ℕ, zero, suc, ◌+◌, ◌-◌, ◌<◌, ◌≤◌, Bool, true, false, cond, List, [], ◌∷◌, ◌++◌, length, get_or, set, map, take, drop, Some, append_assoc, refl, sym, ap, subst, ◌∙◌, arith, inl, inr, eq-eqb, get_or-set_same, get_or-set_other, length-take}
 use Rattle.std.specs.Prelude.{flat_map, slice_get, nat_eq}
 use Rattle.std.specs.List.{AllByRecursion}
@@ -25,7 +25,7 @@ use Rattle.cs_codec.proofs.EntryPainting.{one_cell, among_cells, cells_hold}
 
 -- ---- ascending values
 
--- where each value is below the next, all are in order
+-- values are strictly sorted if each is below the next
 pub rises_sorted : {C : Type 0} (cmp : C → C → Ordering) (o : IsTotalOrder cmp) (xs : List C) → ((k : ℕ) (d : C) → suc k < length xs → cmp (get_or xs k d) (get_or xs (suc k) d) ≡ Less) → IsStrictlySortedBy cmp xs
 unfolding IsStrictlySortedBy
 rises_sorted cmp o [] h = tt
@@ -47,14 +47,14 @@ sorted_at cmp (x ∷ xs) k zero d s lt within = absurd (omega arith)
 sorted_at cmp (x ∷ xs) zero (suc m) d s lt within = all_at (λ z. cmp x z ≡ Less) xs m d s.0 (omega arith)
 sorted_at cmp (x ∷ xs) (suc k) (suc m) d s lt within = sorted_at cmp xs k m d s.1 (omega arith) (omega arith)
 
--- two values, one after the other, of ascending ones
+-- neighbouring values of a sorted list ascend
 pub next_above : {C : Type 0} (cmp : C → C → Ordering) (xs : List C) (at : ℕ) (x y : C) → 1 ≤ at → slice_get xs (at - 1) ≡ Some x → slice_get xs at ≡ Some y → IsStrictlySortedBy cmp xs → cmp x y ≡ Less
 next_above {C} cmp xs at x y some here next sorted =
     ap (λ (z : C). cmp z y) (sym (get_or_from_slice_get xs (at - 1) x y here))
     ∙ ap (λ (z : C). cmp (get_or xs (at - 1) y) z) (sym (get_or_from_slice_get xs at y y next))
     ∙ sorted_at cmp xs (at - 1) at y sorted (omega arith) (slice_get_within xs at y next)
 
--- one more value is above the one before it
+-- one more value is above its predecessor
 pub rises_more : {C : Type 0} (cmp : C → C → Ordering) (xs : List C) (at : ℕ) (x y : C) → 1 ≤ at → slice_get xs (at - 1) ≡ Some x → slice_get xs at ≡ Some y → cmp x y ≡ Less → ((k : ℕ) (d : C) → suc k < at → cmp (get_or xs k d) (get_or xs (suc k) d) ≡ Less) → (k : ℕ) (d : C) → suc k < at + 1 → cmp (get_or xs k d) (get_or xs (suc k) d) ≡ Less
 rises_more {C} cmp xs at x y some here next less so_far k d lt =
     elim (cases_lt (suc k) at) [
@@ -79,7 +79,7 @@ not_less Less order e f less = absurd cc
 not_less Equal order e f less = absurd cc
 not_less Greater order e f less = absurd cc
 
--- no value stands twice among ascending ones
+-- a strictly sorted list has no value twice
 same_place : {C : Type 0} (cmp : C → C → Ordering) (o : IsTotalOrder cmp) (xs : List C) (k m : ℕ) (d : C) → IsStrictlySortedBy cmp xs → k < length xs → m < length xs → get_or xs k d ≡ get_or xs m d → k ≡ m
 same_place {C} cmp o xs k m d s here there e =
     elim (cases_lt k m) [
@@ -92,7 +92,7 @@ same_place {C} cmp o xs k m d s here there e =
 
 -- ---- the bitmap of a number
 
--- one number more, in the bitmap of this number
+-- one more row's number has been added, to the bitmap of that number
 pub number_added : (numbers : List ℕ) (i m n place : ℕ) (bitmaps : List (List ℕ)) (old more : List ℕ) → i < length numbers → m ≡ get_or numbers i 0 → m < length bitmaps → place ≡ i → old ≡ bitmap_lengths nat_eq m (take i numbers) → more ≡ glued old (place - total old) (0 ∷ 1 ∷ []) → get_or bitmaps n [] ≡ bitmap_lengths nat_eq n (take i numbers) → get_or (set bitmaps m more) n [] ≡ bitmap_lengths nat_eq n (take (i + 1) numbers)
 number_added numbers i m n place bitmaps old more lt read within at here added so_far =
     let front = take i numbers in
@@ -138,7 +138,7 @@ module _ {C : Type 0} (eq : C → C → Bool) (t : IsTest eq) (cmp : C → C →
       ∙ ap (λ (bs : List Bool). eq v (get_or values m d) ∷ bs) (same_bits sorted n d here numbers (λ k lt. below (suc k) (omega arith)))
       ∙ ap (λ (z : List C). map (eq v) (z ++ cells_at values numbers)) (sym (one_cell values m d there))
 
-  -- values of the cells have ones in their bitmaps
+  -- the bitmaps of values that occur have ones
   pub ones_there : (bitmaps : List (List ℕ)) (cells : List C) → length bitmaps ≡ length values → HaveBitmaps eq values bitmaps cells → values ≡ distinct_values cmp cells → HaveOnes bitmaps
   ones_there bitmaps cells size have distinct = λ n lt none.
       elim (slice_get_cases values n).1 [
@@ -164,7 +164,7 @@ module _ {C : Type 0} (eq : C → C → Bool) (t : IsTest eq) (cmp : C → C →
         all_in [] f = tt
         all_in (x ∷ xs) f = (f x (inl refl), all_in xs (λ z n. f z (inr n)))
 
-    -- where each value has its bitmap, and all have ones, the values are those of the cells
+    -- if each value has its bitmap, and all of them have ones, the values are those of the cells
     pub values_distinct : IsStrictlySortedBy cmp values → length bitmaps ≡ length values → HaveBitmaps eq values bitmaps (cells_at values numbers) → HaveOnes bitmaps → values ≡ distinct_values cmp (cells_at values numbers)
     values_distinct sorted size have ones =
         let cells = cells_at values numbers in
@@ -177,7 +177,7 @@ module _ {C : Type 0} (eq : C → C → Bool) (t : IsTest eq) (cmp : C → C →
         has_place q (x ∷ xs) (inl e) f = f 0 (omega arith) (slice_get-get_or (x ∷ xs) 0 q (omega arith) ∙ ap Some (sym e))
         has_place q (x ∷ xs) (inr m) f = has_place q xs m (λ n lt e. f (suc n) (omega arith) (slice_get-get_or (x ∷ xs) (suc n) q (omega arith) ∙ sym (slice_get-get_or xs n q lt) ∙ e))
 
-    -- so the text of the values is that of the cells
+    -- the bytes of such values and bitmaps are the body of the cells
     pub text_is : (bytes : C → List ℕ) (text : List ℕ) → IsStrictlySortedBy cmp values → length bitmaps ≡ length values → ((n : ℕ) → n < length values → get_or bitmaps n [] ≡ bitmap_lengths nat_eq n numbers) → HaveOnes bitmaps → HaveText bytes eq values bitmaps text → text ≡ bitmaps_text bytes eq cmp (cells_at values numbers)
     text_is bytes text sorted size each ones is =
         let have = bitmaps_are sorted each in
@@ -193,7 +193,7 @@ module _ {C : Type 0} (eq : C → C → Bool) (t : IsTest eq) (cmp : C → C →
 
 module _ {C : Type 0} (bytes : C → List ℕ) (eq : C → C → Bool) (values cells : List C) (text left : List ℕ) (i : ℕ) (so_far : text ≡ flat_map (bitmap_text bytes eq cells) (take i values) ++ left) where
   module _ (x : C) (bitmap : List ℕ) (here : slice_get values i ≡ Some x) (ls : bitmap ≡ bitmap_lengths eq x cells) where
-    -- one entry more is read
+    -- one more entry has been compared
     pub entry_more : (rest : List ℕ) → left ≡ entry_text bytes (x, bitmap) ++ rest → text ≡ flat_map (bitmap_text bytes eq cells) (take (i + 1) values) ++ rest
     entry_more rest e =
         let f = bitmap_text bytes eq cells in
@@ -204,7 +204,7 @@ module _ {C : Type 0} (bytes : C → List ℕ) (eq : C → C → Bool) (values c
         ∙ ap (λ (z : C). flat_map f (take i values ++ z ∷ []) ++ rest) (sym (get_or_from_slice_get values i x x here))
         ∙ ap (λ (zs : List C). flat_map f zs ++ rest) (sym (take_more values i x (slice_get_within values i x here)))
 
-    -- if the text is that of all entries, the next one stands there
+    -- if the text is all entries, the next one is at the front of what is left
     pub entry_next : text ≡ flat_map (bitmap_text bytes eq cells) values → left ≡ entry_text bytes (x, bitmap) ++ flat_map (bitmap_text bytes eq cells) (drop (suc i) values)
     entry_next whole =
         let f = bitmap_text bytes eq cells in
@@ -220,7 +220,7 @@ module _ {C : Type 0} (bytes : C → List ℕ) (eq : C → C → Bool) (values c
     all_read : text ≡ flat_map (bitmap_text bytes eq cells) values ++ left
     all_read = so_far ∙ ap (λ (zs : List C). flat_map (bitmap_text bytes eq cells) zs ++ left) (take_all i values le)
 
-    -- nothing is left
+    -- nothing is left, so the text is all entries
     pub is_whole : left ≡ [] → text ≡ flat_map (bitmap_text bytes eq cells) values
     is_whole e = all_read ∙ ap (λ (z : List ℕ). flat_map (bitmap_text bytes eq cells) values ++ z) e ∙ append-nil (flat_map (bitmap_text bytes eq cells) values)
 

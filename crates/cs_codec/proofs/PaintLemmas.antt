@@ -1,4 +1,4 @@
--- The positions of a value, as the lengths of its bitmap say.
+-- Setting the positions of a value, by the lengths of its bitmap.
 use Rattle.std.proofs.Common.{◌≡◌, ◌≢◌, ℕ, zero, suc, ◌+◌, ◌-◌, ◌<◌, ◌≤◌, Bool, true, false, not, cond, List, [], ◌∷◌, ◌++◌, length, get_or, set, take, replicate, refl, sym, ap, subst, ◌∙◌, append_assoc, arith, inl, inr, ◌⊎◌}
 use Rattle.std.proofs.lemmas.Bool.{cases_lt}
 use Rattle.std.proofs.lemmas.List.{append-nil, length-append, length-replicate, get_or_append_left, get_or-append_right, get_or_past, take_more}
@@ -105,7 +105,7 @@ ones_more {C} v front n start stop old mid new h place end r = record {
   ];
 }
 
--- ---- the lengths that were painted
+-- ---- the lengths that have been painted
 pub record PaintsSoFar {C : Type 0} (v : C) (lengths : List ℕ) (i position : ℕ) (ones : Bool) (old new : List C) : Type 0 where
   pub painted : Painted v (bits_from false (take i lengths)) old new
   pub position_is : position ≡ total (take i lengths)

@@ -1,4 +1,4 @@
--- Lists of cells and their bytes, one after the other.
+-- Lists of cells, and their bytes one after the other.
 use Rattle.std.proofs.Common.{◌≡◌, ℕ, zero, suc, ◌+◌, ◌-◌, ◌<◌, ◌≤◌, Option, Some, None, length-take, List, [], ◌∷◌, ◌++◌, length, get_or, take, drop, refl, sym, ap, subst, ◌∙◌, append_assoc, arith}
 use Rattle.std.specs.List.{AllByRecursion}
 use Rattle.std.specs.Prelude.{slice_get, IfSome}
@@ -29,7 +29,7 @@ all-part : {C : Type 0} (P : C → Type 0) (xs ys : List C) → AllByRecursion P
 all-part P [] ys h = h
 all-part P (x ∷ xs) ys h = all-part P xs ys h.1
 
--- fewer cells than there are rows were read, so a cell stands there
+-- fewer cells than rows have been read, so another cell is there
 pub one_more_stands : {C : Type 0} (bytes : C → List ℕ) (is_cell : C → Type 0) (one : BeginsOne bytes is_cell) (some : (x : C) → 0 < length (bytes x)) (text : List ℕ) (rows at : ℕ) (cells others : List C) → AllByRecursion is_cell cells → text ≡ plain_text bytes cells ++ drop at text → length cells < rows → IsColumn (plain_text bytes) IsShort is_cell text rows others → NoneStandsAt bytes is_cell text at → ⊥
 one_more_stands {C} bytes is_cell one some text rows at cells others hc so_far lt h none =
     let on = cells_go_on bytes is_cell one some cells others (drop at text) hc h.cells_hold (sym h.text_is ∙ so_far) in
@@ -42,7 +42,7 @@ one_more_stands {C} bytes is_cell one some text rows at cells others hc so_far l
         omega arith
     by_rest (r ∷ rest) p t = none r (plain_text bytes rest) (all-part is_cell cells (r ∷ rest) (subst (λ (z : List C). AllByRecursion is_cell z) p h.cells_hold)).0 t
 
--- as many cells as there are rows were read, so nothing is left
+-- as many cells as rows have been read, so nothing is left
 pub nothing_left : {C : Type 0} (bytes : C → List ℕ) (is_cell : C → Type 0) (one : BeginsOne bytes is_cell) (some : (x : C) → 0 < length (bytes x)) (text : List ℕ) (rows at : ℕ) (cells others : List C) → AllByRecursion is_cell cells → text ≡ plain_text bytes cells ++ drop at text → rows ≤ length cells → IsColumn (plain_text bytes) IsShort is_cell text rows others → length text ≤ at
 nothing_left {C} bytes is_cell one some text rows at cells others hc so_far le h =
     let on = cells_go_on bytes is_cell one some cells others (drop at text) hc h.cells_hold (sym h.text_is ∙ so_far) in
@@ -62,7 +62,7 @@ plain_more bytes is_cell text at end cells c so_far found =
     ∙ sym (append_assoc (plain_text bytes cells) (bytes c) (drop end text))
     ∙ ap (λ (w : List ℕ). w ++ drop end text) (sym (plain_text-push bytes cells c))
 
--- what was read is a column, where nothing is left
+-- what has been read is the column, if nothing is left
 pub plain_column : {C : Type 0} (bytes : C → List ℕ) (is_cell : C → Type 0) (text : List ℕ) (rows at : ℕ) (cells : List C) → rows ≤ 1048576 → AllByRecursion is_cell cells → text ≡ plain_text bytes cells ++ drop at text → length cells ≡ rows → length text ≤ at → IsColumn (plain_text bytes) IsShort is_cell text rows cells
 plain_column bytes is_cell text rows at cells short hc so_far len ended = record {
   text_is = so_far ∙ ap (λ (w : List ℕ). plain_text bytes cells ++ w) (drop_all at text ended) ∙ append-nil (plain_text bytes cells);
@@ -71,13 +71,13 @@ plain_column bytes is_cell text rows at cells short hc so_far len ended = record
   cells_hold = hc;
 }
 
--- one more cell is written
+-- one more cell has been written
 pub plain-taken : {C : Type 0} (bytes : C → List ℕ) (cells : List C) (i : ℕ) (c : C) (a b : List ℕ) → i < length cells → c ≡ get_or cells i c → a ≡ plain_text bytes (take i cells) → b ≡ a ++ bytes c → b ≡ plain_text bytes (take (i + 1) cells)
 plain-taken {C} bytes cells i c a b lt e ea eb =
     eb ∙ ap (λ (w : List ℕ). w ++ bytes c) ea ∙ sym (plain_text-push bytes (take i cells) c)
     ∙ ap (λ (z : List C). plain_text bytes z) (sym (take_more cells i c lt ∙ ap (λ (z : C). take i cells ++ z ∷ []) (sym e)))
 
--- ---- the cells from one place up to another
+-- ---- the cells of a range
 pub one_at : {C : Type 0} (xs : List C) (at : ℕ) (c : C) → slice_get xs at ≡ Some c → take 1 (drop at xs) ≡ c ∷ []
 one_at {C} xs at c h = ap (take 1) (drop_more xs at c (slice_get_within xs at c h) ∙ ap (λ (x : C). x ∷ drop (at + 1) xs) (get_or_from_slice_get xs at c c h))
 
@@ -131,7 +131,7 @@ whole_range {C} xs part from to at e h = h ∙ ap (λ (n : ℕ). take (n - from)
 pub length-range : {C : Type 0} (xs part : List C) (from to : ℕ) → from ≤ to → to ≤ length xs → part ≡ take (to - from) (drop from xs) → length part ≡ to - from
 length-range xs part from to o h e = ap length e ∙ omega (arith, length-take (to - from) (drop from xs), length-drop from xs)
 
--- ---- the cells at some places
+-- ---- the cells at some indices
 pub length-cells_at : {C : Type 0} (xs : List C) (places : List ℕ) → ((k : ℕ) → k < length places → get_or places k 0 < length xs) → length (cells_at xs places) ≡ length places
 length-cells_at xs [] h = refl
 length-cells_at xs (p ∷ places) h =

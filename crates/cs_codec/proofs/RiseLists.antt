@@ -1,4 +1,4 @@
--- Lists that never fall, by their differences.
+-- Lists that never fall, as their differences.
 use Rattle.std.proofs.Common.{◌≡◌, ◌≢◌, ℕ, zero, suc, ◌+◌, ◌%◌, ◌<◌, ◌≤◌, List, [], ◌∷◌, ◌++◌, length, get_or, take, drop, refl, sym, ap, subst, ◌∙◌, append_assoc, arith, ℤ}
 use Rattle.std.specs.Prelude.{pos, ◌≤ℤ◌, ◌-ℤ◌, ◌+ℤ◌}
 use Rattle.std.specs.Int.RustNames.{unsigned_abs}
@@ -26,7 +26,7 @@ pub above_first : (b : ℤ) (gs : List ℕ) → b ≤ℤ last_rise b gs
 above_first b [] = omega (arith, ints)
 above_first b (g ∷ gs) = let deeper = above_first (b +ℤ pos g) gs in omega (arith, ints, deeper)
 
--- the values after some that never fall: only the last of those counts
+-- values may follow a list that never falls if they may follow its last value
 pub falls_after : (b : ℤ) (gs : List ℕ) (ys : List ℤ) → NeverFallsFrom (last_rise b gs) ys → NeverFallsFrom b (rises b gs ++ ys)
 falls_after b [] ys h = h
 falls_after b (g ∷ gs) ys h = (omega (arith, ints), falls_after (b +ℤ pos g) gs ys h)
@@ -50,7 +50,7 @@ none_rising (suc n) first gs h = absurd (omega arith)
 pub length-rising : (n : ℕ) (first last : ℤ) (gs : List ℕ) → IsRise n first gs last → (x : List ℤ) → rising n first gs ≡ x → length x ≡ n
 length-rising n first last gs h x e = ap (λ (z : List ℤ). length z) (sym e) ∙ sym h.count_is
 
--- ---- whether other values may come next
+-- ---- whether other values may follow
 
 pub joins_none_first : (m : ℕ) (a : ℤ) (gs : List ℕ) (b : ℤ) (n : ℕ) (c : ℤ) (hs : List ℕ) (d : ℤ) (x y : List ℤ) → IsRise m a gs b → IsRise n c hs d → rising m a gs ≡ x → rising n c hs ≡ y → m ≡ 0 → NeverFallsShort (x ++ y)
 joins_none_first m a gs b n c hs d x y hx hy ex ey e =
@@ -122,7 +122,7 @@ rise_joined m a gs b n c hs d x y g new hx hy ex ey hm hn h e ne =
 
 -- ---- from a list of values
 
--- the differences of the values that were seen
+-- the differences of the values so far
 pub record GapsSoFar (cells : List ℤ) (first : ℤ) (rest : List ℤ) (i : ℕ) (gaps : List ℕ) (last : ℤ) : Type 0 where
   pub seen : rises first gaps ≡ take i rest
   pub last_is : last_rise first gaps ≡ last
@@ -157,7 +157,7 @@ fits_still value last gaps i g lt e far hv hl =
     let below : (value +ℤ pos g) ≤ℤ last = subst (λ (z : ℤ). (value +ℤ pos g) ≤ℤ z) ends above in
     omega (arith, ints)
 
--- what is written, and what is still to be written
+-- what has been written, and what is still to be written
 pub record WritesRise (value : ℤ) (gaps : List ℕ) (i position : ℕ) (last : ℤ) (out whole : List ℕ) : Type 0 where
   pub so_far : out ++ differences_text_from value (position + 1) (rises value (drop i gaps)) ≡ whole
   pub last_is : last_rise value (drop i gaps) ≡ last

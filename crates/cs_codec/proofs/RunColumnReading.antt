@@ -1,4 +1,4 @@
--- Reading runs straight into a column.
+-- Reading runs directly into a column.
 use Rattle.std.proofs.Common.{◌≡◌, ℕ, suc, ◌+◌, ◌-◌, replicate, Some, ◌<◌, ◌≤◌, Bool, true, false, List, [], ◌∷◌, ◌++◌, length, get_or, refl, sym, ap, subst, ◌∙◌, append_assoc, arith}
 use Rattle.std.specs.Prelude.{slice_get}
 use Rattle.std.proofs.lemmas.Option.{slice_get-get_or}
@@ -12,7 +12,7 @@ use Rattle.cs_codec.specs.RunTexts.{NoRunStandsAt, ReadsRun, Differs, HasRead}
 use Rattle.cs_codec.proofs.RunLemmas.{RunsHold-push, IsProper-push, expand-append}
 use Rattle.cs_codec.proofs.RunReading.{IsNext, ReadSoFar, neighbours_differ, next_run, none_stands, stands_next, ended, read_more, runs_of_column, column_of_runs}
 
--- ---- runs that are read into a column
+-- ---- the last run that was read
 
 -- the last run, whose value is the last cell
 pub record LastCell {C : Type 0} (rs : List (Run C)) : Type 0 where

@@ -1,4 +1,4 @@
--- Runs as a column of their values beside a list of their lengths.
+-- Runs as a column of values and a list of lengths, side by side.
 use Rattle.std.proofs.Common.{◌≡◌, ℕ, zero, suc, ◌+◌, ◌-◌, ◌<◌, ◌≤◌, Bool, false, List, [], ◌∷◌, ◌++◌, length, get_or, take, drop, set, Some, refl, sym, ap, subst, ◌∙◌, arith, length-take}
 use Rattle.std.specs.Prelude.{slice_get}
 use Rattle.std.proofs.lemmas.List.{length-append, length-drop, get_or-drop, take_more}
@@ -8,7 +8,7 @@ use Rattle.cs_codec.specs.RunLaws.{cases_bool}
 use Rattle.cs_codec.specs.Runs.{Run, expand, zip_runs, BeginsOther, written_from, AreColumnsOfRuns}
 use Rattle.cs_codec.proofs.RunLemmas.{Grows, Joins, merged, appended, first_added, last_fits, first_fits, joins_at, joins_apart, joins_none, joins_no_more, length-expand-taken, written-taken}
 
--- ---- values beside lengths
+-- ---- values and lengths
 pub zip-append : {C : Type 0} (vs ws : List C) (cs ds : List ℕ) → length vs ≡ length cs → zip_runs (vs ++ ws) (cs ++ ds) ≡ zip_runs vs cs ++ zip_runs ws ds
 zip-append [] ws [] ds e = refl
 zip-append [] ws (n ∷ cs) ds e = absurd (omega arith)
@@ -48,7 +48,7 @@ length-set-kept [] k n = refl
 length-set-kept (x ∷ xs) zero n = refl
 length-set-kept (x ∷ xs) (suc k) n = ap suc (length-set-kept xs k n)
 
--- a list has a cell within its length
+-- a list has a cell at each index below its length
 pub record CellAt {C : Type 0} (xs : List C) (k : ℕ) : Type 0 where
   pub cell : C
   pub is : slice_get xs k ≡ Some cell
@@ -66,7 +66,7 @@ same_cell x y e = cc
 unequal : {C : Type 0} (eq : C → C → Bool) (t : IsTest eq) (v c : C) → (v ≡ c → ⊥) → eq v c ≡ false
 unequal eq t v c other = cases_bool (eq v c) (λ e. absurd (other (t.exact v c e))) (λ e. e)
 
--- ---- a cell is added
+-- ---- a cell is appended
 pub record Pushed {C : Type 0} (eq : C → C → Bool) (vs : List C) (cs : List ℕ) (c : C) (ws : List C) (ds : List ℕ) : Type 0 where
   pub cells : expand (zip_runs ws ds) ≡ expand (zip_runs vs cs) ++ c ∷ []
   pub runs : AreColumnsOfRuns eq ws ds
@@ -121,7 +121,7 @@ first_count_fits {C} eq vs cs n are some read =
     let run : Run C = record { value = first.cell; count = n } in
     first_fits (zip_runs vs cs) run (omega (arith, length-zip vs cs are.aligned)) (get-zip vs cs 0 first.cell n run first.is some read)
 
--- ---- runs are moved behind others
+-- ---- runs are appended to others
 pub record Joined {C : Type 0} (eq : C → C → Bool) (vs ws : List C) (cs ds : List ℕ) (new : List C) (counts : List ℕ) : Type 0 where
   pub cells : expand (zip_runs new counts) ≡ expand (zip_runs vs cs) ++ expand (zip_runs ws ds)
   pub runs : AreColumnsOfRuns eq new counts
@@ -173,7 +173,7 @@ pub joined_no_more : {C : Type 0} (eq : C → C → Bool) (vs ws : List C) (cs d
 joined_no_more eq vs ws cs ds a b len = behind eq vs ws cs ds a b (joins_no_more eq (zip_runs vs cs) (zip_runs ws ds) (length-zip ws ds b.aligned ∙ len))
 
 -- ---- runs are written
--- the run at a place, beside what was written before it
+-- the run at an index has been written, after those before it
 pub written_next : {C : Type 0} (bytes : C → List ℕ) (eq : C → C → Bool) (vs : List C) (cs : List ℕ) (i position : ℕ) (a b c d : List ℕ) → AreColumnsOfRuns eq vs cs → i < length cs → position ≡ 1 + length (expand (take i (zip_runs vs cs))) → a ≡ written_from bytes 1 (take i (zip_runs vs cs)) → ((v : C) → slice_get vs i ≡ Some v → b ≡ a ++ bytes v) → c ≡ b ++ number position → d ≡ c ++ number (get_or cs i 0) → d ≡ written_from bytes 1 (take (i + 1) (zip_runs vs cs))
 written_next {C} bytes eq vs cs i position a b c d are lt p ea eb ec ed =
     let found = cell_at vs i (omega (arith, are.aligned)) in
@@ -186,7 +186,7 @@ taken_longer {C} eq vs cs i are lt =
     let run : Run C = record { value = found.cell; count = get_or cs i 0 } in
     length-expand-taken (zip_runs vs cs) i run (omega (arith, length-zip vs cs are.aligned)) (get-zip vs cs i found.cell (get_or cs i 0) run found.is lt (read_again cs i 0 (get_or cs i 0) lt))
 
--- ---- the cells from one place up to another
+-- ---- the cells of a range
 pub range_more : {C : Type 0} (xs : List C) (from at : ℕ) (c : C) → from ≤ at → slice_get xs at ≡ Some c → take (at - from) (drop from xs) ++ c ∷ [] ≡ take (at + 1 - from) (drop from xs)
 range_more {C} xs from at c o h =
     let lt = slice_get_within xs at c h in

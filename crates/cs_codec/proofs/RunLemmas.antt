@@ -1,4 +1,4 @@
--- Lists of runs: what they stand for, and their text.
+-- Lists of runs: their cells and their bytes.
 use Rattle.std.proofs.Common.{◌≡◌, ℕ, zero, suc, ◌+◌, ◌<◌, ◌≤◌, Bool, true, false, List, [], ◌∷◌, ◌++◌, length, get_or, take, drop, set, replicate, refl, sym, ap, subst, ◌∙◌, append_assoc, arith, add-zero}
 use Rattle.std.specs.List.{AllByRecursion}
 use Rattle.std.proofs.lemmas.List.{get_or_read, take-append-drop, append-nil, length-append, length-replicate, take_more, take_all, set_split, drop_all, replicate-append-replicate}
@@ -20,7 +20,7 @@ expand-longer {C} front old run e =
     let one : replicate (old.count + run.count) old.value ≡ replicate old.count old.value ++ replicate run.count run.value = sym (replicate-append-replicate old.count run.count old.value) ∙ ap (λ (x : C). replicate old.count old.value ++ replicate run.count x) e in
     rw (expand-append front (old ∷ []), expand-append front (record { value = old.value; count = old.count + run.count } ∷ []), one) (simp (append_assoc, append-nil))
 
--- ---- proper lists of runs
+-- ---- lists of maximal runs
 pub IsProper-longer : {C : Type 0} (eq : C → C → Bool) (front : List (Run C)) (old new : Run C) → old.value ≡ new.value → 0 < new.count → IsProper eq (front ++ old ∷ []) → IsProper eq (front ++ new ∷ [])
 IsProper-longer eq [] old new e h p = (h, tt, tt)
 IsProper-longer eq (r ∷ []) old new e h p = (p.0, subst (λ x. eq r.value x ≡ false) e p.1, (h, tt, tt))
@@ -31,7 +31,7 @@ IsProper-push eq [] old run e h p = (p.0, e, (h, tt, tt))
 IsProper-push eq (r ∷ []) old run e h p = (p.0, p.1, IsProper-push eq [] old run e h p.2)
 IsProper-push eq (r ∷ s ∷ front) old run e h p = (p.0, p.1, IsProper-push eq (s ∷ front) old run e h p.2)
 
--- the last of some runs
+-- `last`, at index k, is the last of the runs
 pub record EndsIn {C : Type 0} (rs : List (Run C)) (k : ℕ) (last : Run C) : Type 0 where
   pub front : List (Run C)
   pub parts : rs ≡ front ++ last ∷ []
@@ -65,8 +65,9 @@ pub RunsHold-push : {C : Type 0} (is_cell : C → Type 0) (rs : List (Run C)) (r
 RunsHold-push is_cell [] r h k = (k, tt)
 RunsHold-push is_cell (s ∷ rs) r h k = (h.0, RunsHold-push is_cell rs r h.1 k)
 
--- ---- a run is added
--- what the last run becomes, and what the runs then stand for
+-- ---- a run is appended
+
+-- the new runs have the cells of the old ones and of one more run, and are maximal if the old ones are
 pub record Grows {C : Type 0} (eq : C → C → Bool) (rs new : List (Run C)) (run : Run C) : Type 0 where
   pub cells : expand new ≡ expand rs ++ (replicate run.count run.value ++ [])
   pub proper : IsProper eq rs → IsProper eq new
@@ -100,7 +101,7 @@ pub first_added : {C : Type 0} (eq : C → C → Bool) (rs : List (Run C)) (run 
 first_added eq [] run len h = record { cells = refl; proper = λ p. (h, tt, tt) }
 first_added eq (r ∷ rs) run len h = absurd (omega arith)
 
--- ---- runs are added
+-- ---- runs are appended
 pub proper_apart : {C : Type 0} (eq : C → C → Bool) (front : List (Run C)) (last : Run C) (rest : List (Run C)) → IsProper eq (front ++ last ∷ []) → IsProper eq rest → BeginsOther eq last.value rest → IsProper eq ((front ++ last ∷ []) ++ rest)
 proper_apart eq [] last rest p q b = (p.0, b, q)
 proper_apart eq (r ∷ []) last rest p q b = (p.0, p.1, proper_apart eq [] last rest p.2 q b)
@@ -111,16 +112,16 @@ proper_merged eq [] last new rest e h p b q = (h, b, q)
 proper_merged eq (r ∷ []) last new rest e h p b q = (p.0, subst (λ x. eq r.value x ≡ false) e p.1, (h, b, q))
 proper_merged eq (r ∷ s ∷ front) last new rest e h p b q = (p.0, p.1, proper_merged eq (s ∷ front) last new rest e h p.2 b q)
 
--- what runs become to which others are added
+-- the new runs have the cells of both lists of runs, and are maximal if these are
 pub record Joins {C : Type 0} (eq : C → C → Bool) (rs os new : List (Run C)) : Type 0 where
   pub cells : expand new ≡ expand rs ++ expand os
   pub proper : IsProper eq rs → IsProper eq os → IsProper eq new
 
--- one run read twice
+-- a run that is read twice is the same
 same_read : {C : Type 0} (rs : List (Run C)) (k : ℕ) (a b : Run C) → k < length rs → a ≡ get_or rs k a → b ≡ get_or rs k b → a ≡ b
 same_read rs k a b l x y = get_or_read rs k a l x b ∙ sym y
 
--- the last run goes on in the first of the others
+-- the last run is merged with the first of the others
 goes_on : {C : Type 0} (eq : C → C → Bool) (t : IsTest eq) (rs os : List (Run C)) (k : ℕ) (last first : Run C) → suc k ≡ length rs → last ≡ get_or rs k last → 0 < length os → first ≡ get_or os 0 first → true ≡ eq last.value first.value → Joins eq rs os (take k rs ++ set os 0 (record { value = first.value; count = first.count + last.count }))
 unfolding last_of
 goes_on {C} eq t rs [] k last first len read some at e = absurd (omega arith)
@@ -158,7 +159,7 @@ pub first_fits : {C : Type 0} (os : List (Run C)) (seen : Run C) → 0 < length 
 first_fits [] seen some at = absurd (omega arith)
 first_fits {C} (o ∷ os) seen some at = omega (arith, ap (λ (r : Run C). r.count) at, length-append (replicate o.count o.value) (expand os), length-replicate o.count o.value)
 
--- the others begin with another value, or there are none on a side
+-- the others begin with another value, or one of the lists is empty
 pub joins_apart : {C : Type 0} (eq : C → C → Bool) (rs os : List (Run C)) (k : ℕ) (last : Run C) → suc k ≡ length rs → last ≡ get_or rs k last → BeginsOther eq last.value os → Joins eq rs os (rs ++ os)
 joins_apart {C} eq rs os k last len read b =
     let ends = last_of rs k last len read in

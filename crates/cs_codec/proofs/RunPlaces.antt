@@ -1,4 +1,4 @@
--- The cells at some places of a column, run by run.
+-- The cells at some indices of a column, run by run.
 use Rattle.std.proofs.Common.{◌≡◌, ℕ, zero, suc, ◌+◌, ◌<◌, ◌≤◌, Bool, true, false, List, [], ◌∷◌, ◌++◌, length, get_or, take, drop, zero-add, Option, Some, refl, sym, ap, ◌∙◌, arith}
 use Rattle.std.specs.Prelude.{nat_lt, slice_get, slice_index}
 use Rattle.std.proofs.lemmas.Bool.{false≢true}
@@ -12,7 +12,7 @@ use Rattle.cs_codec.specs.Texts.{kept}
 use Rattle.cs_codec.proofs.EntryPainting.{one_cell}
 use Rattle.cs_codec.proofs.RunColumns.{cell_at}
 
--- each place is one of the list
+-- each index is within the list
 abbrev pub ArePlaces : {C : Type 0} → List C → List ℕ → Type 0
 ArePlaces cells places = (k : ℕ) → k < length places → slice_index places k < length cells
 
@@ -39,24 +39,24 @@ drop_none : {C : Type 0} (n : ℕ) → drop {A = C} n [] ≡ []
 drop_none zero = refl
 drop_none (suc n) = refl
 
--- the run goes on
+-- the run continues
 pub run_longer : {C : Type 0} (eq : C → C → Bool) (t : IsTest eq) (xs : List C) (x : C) (end : ℕ) → slice_get xs end ≡ Some x → end + kept eq x (drop end xs) ≡ end + 1 + kept eq x (drop (end + 1) xs)
 run_longer eq t xs x end e =
     let one : kept eq x (drop end xs) ≡ suc (kept eq x (drop (end + 1) xs)) = ap (kept eq x) (drop_at xs end x e) ∙ rw (t.itself x) refl in
     omega (arith, one)
 
--- another value ends it
+-- another value ends a run
 pub run_over : {C : Type 0} (eq : C → C → Bool) (t : IsTest eq) (xs : List C) (x y : C) (end : ℕ) → slice_get xs end ≡ Some y → (x ≡ y → ⊥) → kept eq x (drop end xs) ≡ 0
 run_over eq t xs x y end e other =
     ap (kept eq x) (drop_at xs end y e) ∙ cases_bool (eq x y) (λ s. absurd (other (t.exact x y s))) (λ s. rw s refl)
 
--- and so does the end of the list
+-- the end of the list ends a run
 pub run_last : {C : Type 0} (eq : C → C → Bool) (xs : List C) (x : C) (end : ℕ) → length xs ≤ end → kept eq x (drop end xs) ≡ 0
 run_last eq [] x end l = ap (kept eq x) (drop_none end)
 run_last eq (y ∷ xs) x zero l = absurd (omega (arith, l))
 run_last eq (y ∷ xs) x (suc end) l = run_last eq xs x end (omega (arith, l))
 
--- no more are kept than there are
+-- a run continues for at most the rest of the list
 pub kept_few : {C : Type 0} (eq : C → C → Bool) (x : C) (xs : List C) → kept eq x xs ≤ length xs
 kept_few eq x [] = omega arith
 kept_few eq x (y ∷ xs) =
@@ -74,7 +74,7 @@ le_of_not : (m n : ℕ) → nat_lt m n ≡ false → n ≤ m
 le_of_not m n e = let no : m < n → ⊥ = λ l. false≢true (sym e ∙ lt-ltb m n l) in omega (arith, no)
 
 module _ {C : Type 0} (eq : C → C → Bool) where
-  -- the next cell of a run that goes on
+  -- the next cell of a run that continues
   pub record GoesOn (xs : List C) (m kept_there : ℕ) : Type 0 where
     pub cell : C
     pub at : slice_get xs m ≡ Some cell
@@ -92,7 +92,7 @@ module _ {C : Type 0} (eq : C → C → Bool) where
           cases_bool (eq y found.cell) (λ s. rw s refl) (λ s. let none : kept eq y (drop m xs) ≡ 0 = ap (kept eq y) here ∙ rw s refl in absurd (omega (arith, none, l))) in
           record { cell = found.cell; at = found.is; less = ap (kept eq y) here ∙ one }
 
-  -- a later cell of a run, from which as many less are kept
+  -- the j-th cell after the first of a run, from which the run continues for j cells fewer
   pub record IsInRun (xs : List C) (start j whole : ℕ) : Type 0 where
     pub cell : C
     pub at : slice_get xs (start + j) ≡ Some cell

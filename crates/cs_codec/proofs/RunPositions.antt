@@ -1,4 +1,4 @@
--- The text of the positions of a run, and of those behind its first.
+-- The bytes of the positions of a run, and of those after its first.
 use Rattle.std.proofs.Common.{◌≡◌, ℕ, suc, ◌+◌, ◌-◌, ◌<◌, ◌≤◌, Bool, true, false, not, if◌then◌else◌, List, [], ◌∷◌, ◌++◌, take, drop, Option, Some, None, sym, ap, ◌∙◌, arith}
 use Rattle.std.specs.Prelude.{slice_get}
 use Rattle.std.proofs.lemmas.List.{append-nil}
@@ -9,12 +9,12 @@ use Rattle.cs_codec.specs.Texts.{differs, kept}
 use Rattle.cs_codec.proofs.RunPlaces.{drop_at, in_run, value_after-take}
 
 module _ {C : Type 0} (bytes : C → List ℕ) (eq : C → C → Bool) (xs : List C) where
-  -- a run of this value goes from one place up to another
+  -- from position `start` on the run of this value goes up to `end`
   pub record GoesTo (start end : ℕ) (x : C) : Type 0 where
     pub at : slice_get xs start ≡ Some x
     pub end_is : end ≡ start + 1 + kept eq x (drop (start + 1) xs)
 
-  -- or further
+  -- from position `start` on the run of this value goes up to `end` or further
   pub record GoesPast (start end : ℕ) (x : C) : Type 0 where
     pub at : slice_get xs start ≡ Some x
     pub end_within : end ≤ start + 1 + kept eq x (drop (start + 1) xs)
@@ -22,11 +22,11 @@ module _ {C : Type 0} (bytes : C → List ℕ) (eq : C → C → Bool) (xs : Lis
   pub past_end : (start end : ℕ) (x : C) → GoesTo start end x → GoesPast start end x
   past_end start end x run = record { at = run.at; end_within = omega (arith, run.end_is) }
 
-  -- its value is another one than that of the place before
+  -- its value differs from that of the position before
   abbrev pub Opens : ℕ → C → Type 0
   Opens start x = differs eq (value_after None (take start xs)) x ≡ true
 
-  -- nothing stands behind the first position of a run
+  -- positions after the first of a run have no bytes
   pub part_within : (start end : ℕ) (x : C) → GoesPast start end x → (m : ℕ) → start < m → m ≤ end → part_text bytes eq xs m end ≡ []
   part_within start end x run m low high =
       let j : ℕ = m - start - 1 in
@@ -38,7 +38,7 @@ module _ {C : Type 0} (bytes : C → List ℕ) (eq : C → C → Bool) (xs : Lis
       ∙ front_within bytes eq there.cell (suc m) (end - m) (drop m xs) (omega (arith, run.end_within, there.left, left, place, low, high))
 
   module _ (start end : ℕ) (x : C) (run : GoesTo start end x) where
-    -- the run itself, where it begins there
+    -- the positions have the bytes of the run, if it begins there
     pub part_run : Opens start x → part_text bytes eq xs start end ≡ bytes x ++ number (start + 1) ++ number (end - start)
     part_run opens =
         let bef = value_after None (take start xs) in
@@ -54,7 +54,7 @@ module _ {C : Type 0} (bytes : C → List ℕ) (eq : C → C → Bool) (xs : Lis
         ∙ ap (λ (n : ℕ). bytes x ++ number n ++ number (suc many)) (sym first)
         ∙ ap (λ (n : ℕ). bytes x ++ number (start + 1) ++ number n) (sym count)
 
-    -- the next value is another one
+    -- the next position has another value
     pub opens_next : (y : C) → slice_get xs end ≡ Some y → Opens end y
     opens_next y e =
         let many : ℕ = kept eq x (drop (start + 1) xs) in

@@ -1,4 +1,4 @@
--- Reading runs: what stands in the text, and why it is no text of runs.
+-- Reading runs: what is encoded in the text, and why a text may not be that of runs.
 use Rattle.std.proofs.Common.{◌≡◌, ℕ, suc, ◌+◌, ◌^◌, ◌<◌, ◌≤◌, Bool, true, false, not, IsTrue, List, [], ◌∷◌, ◌++◌, length, get_or, drop, refl, sym, ap, subst, ◌∙◌, append_assoc, arith, add-zero}
 use Rattle.std.proofs.lemmas.List.{append-nil, length-append, length-drop, drop_all}
 use Rattle.cs_codec.specs.Cells.{number, BeginsOne, StandsAt, NumberStandsAt}
@@ -20,7 +20,7 @@ count_missing bytes is_cell one text start value end position found number_found
     let positions = same_fronts (number position) (number p) (drop (end + 4) text) (number run.count ++ rest) (length-number position ∙ sym (length-number p)) (sym number_found.parts ∙ values.1) in
     none run.count rest positions.1
 
--- ---- whether a run may come next
+-- ---- whether a run may follow
 
 pub count_of-part : {C : Type 0} (eq : C → C → Bool) (rs : List (Run C)) (r : Run C) (rest : List (Run C)) → IsProper eq (rs ++ r ∷ rest) → 0 < r.count
 count_of-part eq [] r rest h = h.0
@@ -48,9 +48,9 @@ may_not_follow {C} eq rs k last run answer len again e said rest p =
     clash true e f = absurd cc
     clash false e f = absurd cc
 
--- ---- what comes after the runs that were read
+-- ---- what follows the runs that have been read
 
--- others begins with rs, and w is the text of what follows
+-- `others` begins with rs, and w is the bytes of its rest
 pub record GoesOn {C : Type 0} (bytes : C → List ℕ) (p : ℕ) (rs others : List (Run C)) (w : List ℕ) : Type 0 where
   pub rest : List (Run C)
   pub parts : others ≡ rs ++ rest
@@ -74,14 +74,14 @@ goes_on_from {C} bytes is_cell one p (r ∷ rs) (o ∷ others) w hr ho lr lo e =
       text_is = deeper.text_is ∙ ap (λ (n : ℕ). written_from bytes n deeper.rest) place;
     }
 
--- what was read so far
+-- what has been read so far
 pub record ReadSoFar {C : Type 0} (bytes : C → List ℕ) (is_cell : C → Type 0) (text : List ℕ) (rows at : ℕ) (rs : List (Run C)) : Type 0 where
   pub written : text ≡ written_from bytes 1 rs ++ drop at text
   pub hold : RunsHold is_cell rs
   pub few : length (expand rs) ≤ rows
   pub short : rows ≤ 1048576
 
--- the run that comes next in any runs with this text
+-- the next run of any runs with this text
 pub record NextRun {C : Type 0} (bytes : C → List ℕ) (is_cell : C → Type 0) (eq : C → C → Bool) (text : List ℕ) (rows at : ℕ) (rs : List (Run C)) : Type 0 where
   pub run : Run C
   pub rest : List (Run C)
@@ -94,7 +94,7 @@ RunsHold-part : {C : Type 0} (is_cell : C → Type 0) (rs rest : List (Run C)) �
 RunsHold-part is_cell [] rest h = h
 RunsHold-part is_cell (r ∷ rs) rest h = RunsHold-part is_cell rs rest h.1
 
--- how a text goes on after `at`, under any runs that have it
+-- what follows offset `at`, for any runs with this text
 after : {C : Type 0} (bytes : C → List ℕ) (is_cell : C → Type 0) (eq : C → C → Bool) (one : BeginsOne bytes is_cell) (text : List ℕ) (rows at : ℕ) (rs others : List (Run C)) → ReadSoFar bytes is_cell text rows at rs → AreRunsOf bytes is_cell eq text rows others → GoesOn bytes 1 rs others (drop at text)
 after bytes is_cell eq one text rows at rs others so_far h =
     let rows_are = h.rows_are in
@@ -102,7 +102,7 @@ after bytes is_cell eq one text rows at rs others so_far h =
     let short = so_far.short in
     goes_on_from bytes is_cell one 1 rs others (drop at text) so_far.hold h.hold (omega arith) (omega arith) (sym h.text_is ∙ so_far.written)
 
--- some text is left, so a run comes next
+-- bytes are left, so a run follows
 pub next_run : {C : Type 0} (bytes : C → List ℕ) (is_cell : C → Type 0) (eq : C → C → Bool) (one : BeginsOne bytes is_cell) (text : List ℕ) (rows at : ℕ) (rs others : List (Run C)) → ReadSoFar bytes is_cell text rows at rs → at < length text → AreRunsOf bytes is_cell eq text rows others → NextRun bytes is_cell eq text rows at rs
 next_run {C} bytes is_cell eq one text rows at rs others so_far lt h =
     let on = after bytes is_cell eq one text rows at rs others so_far h in
@@ -125,14 +125,14 @@ next_run {C} bytes is_cell eq one text rows at rs others so_far lt h =
           few = omega arith;
         }
 
--- no run stands where one comes next
+-- no run is encoded where one has to follow
 pub none_stands : {C : Type 0} (bytes : C → List ℕ) (is_cell : C → Type 0) (eq : C → C → Bool) (text : List ℕ) (rows at : ℕ) (rs : List (Run C)) → ReadSoFar bytes is_cell text rows at rs → NextRun bytes is_cell eq text rows at rs → NoRunStandsAt bytes is_cell text at → ⊥
 none_stands bytes is_cell eq text rows at rs so_far next none =
     let few = next.few in
     let short = so_far.short in
     none next.run (1 + length (expand rs)) (written_from bytes (1 + length (expand rs) + next.run.count) next.rest) next.holds (omega arith) (omega arith) next.parts
 
--- the run that stands there is the one that comes next
+-- the run that is encoded there is the next one
 pub record IsNext {C : Type 0} (eq : C → C → Bool) (rows : ℕ) (rs : List (Run C)) (run : Run C) (position : ℕ) : Type 0 where
   pub position_is : position ≡ 1 + length (expand rs)
   pub few : length (expand rs) + run.count ≤ rows
@@ -152,7 +152,7 @@ stands_next {C} bytes is_cell eq one text rows at rs run position end so_far nex
       proper = subst (λ (z : Run C). IsProper eq (rs ++ z ∷ next.rest)) (sym same.0) next.proper;
     }
 
--- the text has ended, so no run comes next
+-- the text has ended, so no run follows
 pub ended : {C : Type 0} (bytes : C → List ℕ) (is_cell : C → Type 0) (eq : C → C → Bool) (one : BeginsOne bytes is_cell) (text : List ℕ) (rows at : ℕ) (rs others : List (Run C)) → ReadSoFar bytes is_cell text rows at rs → length text ≤ at → AreRunsOf bytes is_cell eq text rows others → length (expand rs) ≡ rows
 ended {C} bytes is_cell eq one text rows at rs others so_far le h =
     let on = after bytes is_cell eq one text rows at rs others so_far h in
@@ -162,7 +162,7 @@ ended {C} bytes is_cell eq one text rows at rs others so_far le h =
     by_rest [] p t = ap (λ (z : List (Run C)). length (expand z)) (sym (p ∙ append-nil rs)) ∙ h.rows_are
     by_rest (r ∷ rest) p t = absurd (not_empty (bytes r.value) (number r.count) (written_from bytes (1 + length (expand rs) + r.count) rest) (1 + length (expand rs)) t)
 
--- one more run is read
+-- one more run has been read
 pub read_more : {C : Type 0} (bytes : C → List ℕ) (is_cell : C → Type 0) (text : List ℕ) (rs : List (Run C)) (run : Run C) (at position end : ℕ) → text ≡ written_from bytes 1 rs ++ drop at text → RunStandsAt bytes is_cell text at run position end → position ≡ 1 + length (expand rs) → text ≡ written_from bytes 1 (rs ++ run ∷ []) ++ drop end text
 read_more bytes is_cell text rs run at position end so_far found e =
     so_far

@@ -1,4 +1,4 @@
--- How long the texts of columns are at most, where no cell has more than 256 bytes.
+-- The greatest length of a column's body, if no cell has more than 256 bytes.
 use Rattle.std.proofs.Common.{◌≡◌, ℕ, zero, suc, ◌+◌, ◌*◌, ◌≤◌, ◌%◌, ◌/◌, Bool, true, false, cond, eqb, List, [], ◌∷◌, ◌++◌, length, map, Option, Some, arith, ℤ}
 use Rattle.std.specs.Prelude.{flat_map, ◌-ℤ◌, pos, nat_lt}
 use Rattle.std.specs.Int.RustNames.{unsigned_abs}
@@ -15,7 +15,7 @@ use Rattle.cs_codec.specs.Texts.{plain_text, differs, kept, runs_text_from, runs
 use Rattle.cs_codec.specs.BitmapLaws.{holds_distinct}
 use Rattle.cs_codec.proofs.BitmapCounts.{stands, stand_in, few_lengths, all_named}
 
--- a cell of at most 256 bytes
+-- the cell has at most 256 bytes
 abbrev pub IsSmall : {C : Type 0} → (C → List ℕ) → C → Type 0
 IsSmall bytes x = length (bytes x) ≤ 256
 

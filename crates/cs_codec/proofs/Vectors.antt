@@ -1,4 +1,4 @@
--- The definitions of texts at lists whose texts were computed by hand.
+-- Test vectors: bodies of small lists, computed by hand.
 use Rattle.std.proofs.Common.{◌≡◌, [], ◌∷◌, replicate, refl}
 use Rattle.std.specs.Prelude.{pos, negsuc}
 use Rattle.std.specs.Ordering.{int_eq, int_cmp}

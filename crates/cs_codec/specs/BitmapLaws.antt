@@ -1,4 +1,4 @@
--- No two lists have one text of bitmaps.
+-- No two lists have the same body under bitmaps.
 use Rattle.std.proofs.Common.{◌≡◌, ℕ, zero, suc, ◌+◌, ◌-◌, ◌^◌, ◌<◌, ◌≤◌, Bool, true, false, List, [], ◌∷◌, ◌++◌, length, get_or, map, replicate, refl, sym, ap, subst, ◌∙◌, append_assoc, arith, inl, inr, ◌⊎◌}
 use Rattle.std.specs.Prelude.{flat_map}
 use Rattle.std.specs.List.{AllByRecursion}
@@ -14,7 +14,7 @@ use Rattle.cs_codec.specs.Cells.{IsTest}
 use Rattle.cs_codec.specs.Texts.{insert_value, place_value, distinct_values, run_lengths, bitmap_lengths, bitmap_text, bitmaps_text}
 use Rattle.cs_codec.specs.Bitmaps.{bits_from, AreNumbers}
 
--- some zeros after the bits of the lengths
+-- the bits are those of the lengths, followed by some zeros
 pub record Decodes (b : Bool) (lengths : List ℕ) (bits : List Bool) : Type 0 where
   pub zeros : ℕ
   pub bits_are : bits_from b lengths ++ replicate zeros false ≡ bits
@@ -51,13 +51,13 @@ zeros_after bits zeros i =
     all_zero (suc n) zero = refl
     all_zero (suc n) (suc k) = all_zero n k
 
--- whether the value stands at the index
+-- the bit at an index says whether the value is there
 pub bit_at : {C : Type 0} (eq : C → C → Bool) (x : C) (xs : List C) (i : ℕ) → get_or (map (eq x) xs) i false ≡ get_or (bits_from false (bitmap_lengths eq x xs)) i false
 bit_at eq x xs i =
     let d = lengths_decode false 0 (map (eq x) xs) in
     ap (λ (t : List Bool). get_or t i false) (sym d.bits_are) ∙ zeros_after (bits_from false (bitmap_lengths eq x xs)) d.zeros i
 
--- some value of the list is this one
+-- some value of the list equals x
 abbrev pub Among : {C : Type 0} → (C → C → Bool) → C → List C → Type 0
 Among eq x [] = ⊥
 Among eq x (y ∷ ys) = (eq x y ≡ true) ⊎ Among eq x ys
@@ -131,7 +131,7 @@ bitmap_lengths_fit eq x xs h = lengths_fit false 0 (map (eq x) xs) (omega (arith
 pub bitmap_count_fits : {C : Type 0} (eq : C → C → Bool) (x : C) (xs : List C) → length xs ≤ 1048576 → length (bitmap_lengths eq x xs) < 2 ^ 32
 bitmap_count_fits eq x xs h = omega (arith, length-run_lengths false 0 (map (eq x) xs), length-map xs (eq x))
 
--- the bitmaps of each of these values are the same in both lists
+-- each of these values has the same bitmap in both lists
 abbrev SameBitmaps : {C : Type 0} → (C → C → Bool) → List C → List C → List C → Type 0
 SameBitmaps eq xs ys values = AllByRecursion (λ x. bitmap_lengths eq x xs ≡ bitmap_lengths eq x ys) values
 
@@ -165,7 +165,7 @@ same_among eq t xs ys (y ∷ values) x h (inr m) = same_among eq t xs ys values 
 true≢false : (b : Bool) → b ≡ true → b ≡ false → ⊥
 true≢false b e f = absurd cc
 
--- a value of the first list stands at the same index of the second
+-- a value of the first list is at the same index of the second
 stands_there : {C : Type 0} (eq : C → C → Bool) (t : IsTest eq) (xs ys : List C) (i : ℕ) (d : C) → i < length xs → bitmap_lengths eq (get_or xs i d) xs ≡ bitmap_lengths eq (get_or xs i d) ys → (i < length ys) × (get_or xs i d ≡ get_or ys i d)
 stands_there {C} eq t xs ys i d lt same =
     let x = get_or xs i d in

@@ -8,7 +8,7 @@ use Rattle.std.proofs.lemmas.Int.{to_z-of_z, ints}
 use Rattle.std.proofs.lemmas.Nat.{from_be_bytes-to_be_bytes_4, from_be_bytes-to_be_bytes_8}
 use Rattle.cs_codec.specs.Cells.{number, int_cell, IsInt, text_cell, IsText, BeginsOne}
 
--- two lists that begin with as much, and are one
+-- equal lists have equal prefixes of equal length, and equal remainders
 pub same_fronts : {X : Type 0} (a b x y : List X) → length a ≡ length b → a ++ x ≡ b ++ y → (a ≡ b) × (x ≡ y)
 same_fronts [] [] x y l e = (refl, e)
 same_fronts [] (d ∷ b) x y l e = absurd cc
@@ -28,7 +28,7 @@ pub length-int_cell : (z : ℤ) → length (int_cell z) ≡ 8
 unfolding int_cell
 length-int_cell z = refl
 
--- numbers with the same four bytes are one
+-- numbers with the same four bytes are equal
 pub number_exact : (m n : ℕ) → m < 2 ^ 32 → n < 2 ^ 32 → number m ≡ number n → m ≡ n
 unfolding number
 number_exact m n lm ln e = sym (from_be_bytes-to_be_bytes_4 m lm) ∙ ap (from_be_bytes w32) e ∙ from_be_bytes-to_be_bytes_4 n ln

@@ -1,4 +1,4 @@
--- The text of a column of values under each code.
+-- The body of a column of values under each code.
 use Rattle.std.specs.Prelude.{◌≡◌, ℕ, ◌≤◌, ℤ, pos, List, [], length, map}
 use Rattle.cs_schema.specs.declared.kinds.Code.{Code}
 use Rattle.cs_schema.specs.declared.kinds.Kind.{Kind}
@@ -24,7 +24,7 @@ column_text Code.Bitmaps v = bitmaps_text cell_bytes value_eq value_cmp v
 column_text Code.Differences v = differences_text (map int_of v)
 column_text Code.Plain v = plain_text cell_bytes v
 
--- what a code asks of the order of a column
+-- what a code requires of a column
 abbrev pub FitsCode : Code → Kind → List Value → Type 0
 FitsCode Code.Differences Kind.Int v = NeverFalls (map int_of v)
 FitsCode Code.Differences Kind.Text v = v ≡ []
@@ -32,7 +32,7 @@ FitsCode Code.Runs k v = Unit {0}
 FitsCode Code.Bitmaps k v = Unit {0}
 FitsCode Code.Plain k v = Unit {0}
 
--- A column has a text: it is not too long, its cells are of the kind, and they are in order where the code asks it.
+-- a column has a body: it is not too long, its cells are of the kind, and it fits the code
 pub record FitsColumn (code : Code) (kind : Kind) (v : List Value) : Type 0 where
   pub count : length v ≤ row_limit
   pub cells : (x : Value) → IsIn x v → IsOfKind kind x

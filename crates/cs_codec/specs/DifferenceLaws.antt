@@ -1,4 +1,4 @@
--- No two lists have one text of differences.
+-- No two lists have the same body under differences.
 use Rattle.std.proofs.Common.{◌≡◌, ℕ, zero, suc, ◌+◌, ◌/◌, ◌%◌, ◌^◌, ◌<◌, ◌≤◌, Bool, true, false, cond, eqb, List, [], ◌∷◌, ◌++◌, length, refl, sym, ap, subst, ◌∙◌, append_assoc, arith, rules, add-zero, ℤ, inl, inr}
 use Rattle.std.specs.Prelude.{pos, negsuc, ◌≤ℤ◌, ◌-ℤ◌}
 use Rattle.std.specs.Int.RustNames.{unsigned_abs}
@@ -13,6 +13,7 @@ use Rattle.cs_codec.specs.Texts.{groups, short, differences_text, differences_te
 use Rattle.cs_codec.specs.Differences.{group_limit, item, NeverFallsShort}
 
 -- ---- groups
+
 pub last_group : (more n : ℕ) → n < 128 → groups more n ≡ n ∷ []
 last_group zero n h = refl
 last_group (suc more) n h = rw (lt-ltb n 128 h) refl
@@ -45,7 +46,8 @@ pub short_begins_one : (m n : ℕ) (x y : List ℕ) → m < 2 ^ 64 → n < 2 ^ 6
 unfolding short
 short_begins_one m n x y hm hn e = groups_begin_one 9 m n x y (omega arith) (omega arith) e
 
--- ---- the item of a position
+-- ---- the bytes of a position
+
 abbrev pub least : ℤ
 least = negsuc 9223372036854775807
 
@@ -55,7 +57,7 @@ gap_fits before x y hx hb = omega (arith, ints)
 same_gap : (before x y : ℤ) → before ≤ℤ x → before ≤ℤ y → unsigned_abs (x -ℤ before) ≡ unsigned_abs (y -ℤ before) → x ≡ y
 same_gap before x y hx hy e = omega (arith, ints)
 
--- two values behind the same one, as that of one position
+-- bytes begin with at most one value of position p after `before`
 pub items_begin_one : (before : ℤ) (p : ℕ) (x y : ℤ) (v w : List ℕ) → IsInt before → IsInt x → IsInt y → before ≤ℤ x → before ≤ℤ y → item before p x ++ v ≡ item before p y ++ w → (x ≡ y) × (v ≡ w)
 items_begin_one before p x y v w hb hx hy rx ry e = by_place (eqb (p % 128) 1) e
   where
@@ -88,12 +90,13 @@ no_item before p x w e =
     omega (arith, length-append (item before p x) w, some_item before p x)
 
 -- ---- lists that never fall
--- the last value, or the one before where there is none
+
+-- the last value, or `before` if there is none
 abbrev pub last_from : ℤ → List ℤ → ℤ
 last_from before [] = before
 last_from before (x ∷ xs) = last_from x xs
 
--- others begins with the values that were read, and w is the text of the rest
+-- `others` begins with the values that were read, and w is the bytes of its rest
 pub record ValuesGoOn (before : ℤ) (p : ℕ) (cells others : List ℤ) (w : List ℕ) : Type 0 where
   pub rest : List ℤ
   pub parts : others ≡ cells ++ rest

@@ -1,17 +1,17 @@
--- No two lists have one text of cells, one after the other.
+-- No two lists have the same body under the plain encoding.
 use Rattle.std.proofs.Common.{◌≡◌, ℕ, ◌<◌, ◌≤◌, List, [], ◌∷◌, ◌++◌, length, refl, sym, ap, ◌∙◌, append_assoc, arith}
 use Rattle.std.specs.List.{AllByRecursion}
 use Rattle.std.proofs.lemmas.List.{append-nil, length-append}
 use Rattle.cs_codec.specs.Cells.{BeginsOne}
 use Rattle.cs_codec.specs.Texts.{plain_text}
 
--- the bytes of a cell are no empty text
+-- the bytes of a cell are not empty
 some_text : {C : Type 0} (bytes : C → List ℕ) (some : (x : C) → 0 < length (bytes x)) (c : C) (w : List ℕ) → [] ≡ bytes c ++ w → ⊥
 some_text bytes some c w e =
     let lens : length {A = ℕ} [] ≡ length (bytes c ++ w) = ap length e in
     omega (arith, length-append (bytes c) w, some c)
 
--- others begins with the cells that were read, and w is the text of the rest
+-- `others` begins with the cells that were read, and w is the bytes of its rest
 pub record CellsGoOn {C : Type 0} (bytes : C → List ℕ) (cells others : List C) (w : List ℕ) : Type 0 where
   pub rest : List C
   pub parts : others ≡ cells ++ rest

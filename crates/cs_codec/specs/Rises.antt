@@ -1,23 +1,23 @@
--- Integers that never fall, from the first one and the differences.
+-- Integers that never fall, by the first one and the differences.
 use Rattle.std.specs.Prelude.{◌≡◌, ℕ, zero, suc, ◌≤◌, List, [], ◌∷◌, length, ℤ, pos, ◌+ℤ◌}
 use Rattle.cs_codec.specs.Cells.{IsInt}
 
--- the values after one, each so much above the one before it
+-- the values after `before`, each above the one before it by its difference
 abbrev pub rises : ℤ → List ℕ → List ℤ
 rises before [] = []
 rises before (g ∷ gs) = (before +ℤ pos g) ∷ rises (before +ℤ pos g) gs
 
--- the last of them
+-- the last of these values
 abbrev pub last_rise : ℤ → List ℕ → ℤ
 last_rise before [] = before
 last_rise before (g ∷ gs) = last_rise (before +ℤ pos g) gs
 
--- the values, of which there are some or none
+-- the values, or none if the count is 0
 abbrev pub rising : ℕ → ℤ → List ℕ → List ℤ
 rising zero first gaps = []
 rising (suc count) first gaps = first ∷ rises first gaps
 
--- what a part of a column keeps of its values
+-- what holds of the fields of a part
 pub record IsRise (count : ℕ) (first : ℤ) (gaps : List ℕ) (last : ℤ) : Type 0 where
   pub count_is : count ≡ length (rising count first gaps)
   pub short : count ≤ 1048576

@@ -1,4 +1,4 @@
--- No two lists have one text of runs.
+-- No two lists have the same body under runs.
 use Rattle.std.proofs.Common.{◌≡◌, ℕ, zero, suc, ◌+◌, ◌^◌, ◌<◌, ◌≤◌, Bool, true, false, cond, not, List, [], ◌∷◌, ◌++◌, length, replicate, Option, Some, None, refl, sym, ap, subst, ◌∙◌, append_assoc, arith, add-zero, zero-add}
 use Rattle.std.specs.List.{AllByRecursion}
 use Rattle.std.proofs.lemmas.List.{length-append, length-replicate}
@@ -9,7 +9,8 @@ use Rattle.cs_codec.specs.Runs.{Run, expand, BeginsOther, IsProper, written_from
 use Rattle.cs_codec.specs.Cells.{IsTest}
 use Rattle.cs_codec.specs.Runs.{RunsHold}
 
--- ---- the text of proper runs
+-- ---- the bytes of maximal runs
+
 kept-replicate : {C : Type 0} (eq : C → C → Bool) (t : IsTest eq) (x : C) (n : ℕ) (ys : List C) → kept eq x (replicate n x ++ ys) ≡ n + kept eq x ys
 kept-replicate eq t x zero ys = sym (zero-add (kept eq x ys))
 kept-replicate eq t x (suc n) ys = rw (t.itself x) (omega (arith, kept-replicate eq t x n ys))
@@ -18,7 +19,7 @@ kept-other : {C : Type 0} (eq : C → C → Bool) (x y : C) (n : ℕ) (ys : List
 kept-other eq x y zero ys h e = absurd (omega arith)
 kept-other eq x y (suc n) ys h e = rw e refl
 
--- nothing of the runs keeps the value that they don't begin with
+-- runs that begin with another value do not continue a run of x
 none_kept : {C : Type 0} (eq : C → C → Bool) (x : C) (rs : List (Run C)) → BeginsOther eq x rs → IsProper eq rs → kept eq x (expand rs) ≡ 0
 none_kept eq x [] b p = refl
 none_kept eq x (r ∷ rs) b p = kept-other eq x r.value r.count (expand rs) p.0 b
@@ -36,7 +37,7 @@ text-run bytes eq t b p x (suc n) ys h d k =
     let step : suc p + n ≡ p + suc n = omega arith in
     rw (d, all) (ap (λ (w : List ℕ). (bytes x ++ number p ++ number (suc n)) ++ w) (text-kept bytes eq t x n (suc p) ys ∙ ap (λ (q : ℕ). runs_text_from bytes eq (Some x) q ys) step))
 
--- the value before, if any, differs from the first run's
+-- the value before, if any, differs from that of the first run
 abbrev pub Opens : {C : Type 0} → (C → C → Bool) → Option C → List (Run C) → Type 0
 Opens eq b [] = Unit {0}
 Opens eq b (r ∷ rs) = differs eq b r.value ≡ true
@@ -55,12 +56,13 @@ Opens-none : {C : Type 0} (eq : C → C → Bool) (rs : List (Run C)) → Opens 
 Opens-none eq [] = tt
 Opens-none eq (r ∷ rs) = refl
 
--- the text of the cells of proper runs
+-- the body of the cells of maximal runs is the bytes of the runs
 pub text-expand : {C : Type 0} (bytes : C → List ℕ) (eq : C → C → Bool) (t : IsTest eq) (rs : List (Run C)) → IsProper eq rs → runs_text bytes eq (expand rs) ≡ written_from bytes 1 rs
 text-expand bytes eq t rs h = text_from-expand bytes eq t None 1 rs h (Opens-none eq rs)
 
 -- ---- the runs of a list
--- a cell before some runs
+
+-- runs with one more cell in front
 abbrev pub before_runs : {C : Type 0} → (C → C → Bool) → C → List (Run C) → List (Run C)
 before_runs eq x [] = record { value = x; count = 1 } ∷ []
 before_runs eq x (r ∷ rs) = cond (eq x r.value) (record { value = x; count = suc r.count } ∷ rs) (record { value = x; count = 1 } ∷ r ∷ rs)
@@ -107,11 +109,12 @@ pub RunsHold-runs_of : {C : Type 0} (eq : C → C → Bool) (is_cell : C → Typ
 RunsHold-runs_of eq is_cell [] h = tt
 RunsHold-runs_of eq is_cell (x ∷ xs) h = RunsHold-before eq is_cell x (runs_of eq xs) h.0 (RunsHold-runs_of eq is_cell xs h.1)
 
--- ---- one list of runs has one text
+-- ---- bytes are those of at most one list of runs
+
 same_run : {C : Type 0} (r s : Run C) → r.value ≡ s.value → r.count ≡ s.count → r ≡ s
 same_run {C} r s v n = ap (λ (x : C). record { value = x; count = r.count }) v ∙ ap (λ (k : ℕ). record { value = s.value; count = k }) n
 
--- what begins with two runs
+-- bytes begin with at most one run, and one remainder follows it
 pub run_begins_one : {C : Type 0} (bytes : C → List ℕ) (is_cell : C → Type 0) (one : BeginsOne bytes is_cell) (r s : Run C) (p q : ℕ) (x y : List ℕ) → is_cell r.value → is_cell s.value → p < 2 ^ 32 → q < 2 ^ 32 → r.count < 2 ^ 32 → s.count < 2 ^ 32 → (bytes r.value ++ number p ++ number r.count) ++ x ≡ (bytes s.value ++ number q ++ number s.count) ++ y → (r ≡ s) × (p ≡ q) × (x ≡ y)
 run_begins_one {C} bytes is_cell one r s p q x y hr hs lp lq lr ls e =
     let regroup : (z : Run C) (n : ℕ) (w : List ℕ) → (bytes z.value ++ number n ++ number z.count) ++ w ≡ bytes z.value ++ (number n ++ (number z.count ++ w)) = λ z n w. simp append_assoc in
@@ -141,7 +144,7 @@ same_runs {C} bytes is_cell one p (r ∷ rs) (s ∷ ss) hr hs lr ls e =
     let deeper = same_runs bytes is_cell one (p + r.count) rs ss hr.1 hs.1 (omega arith) (omega arith) rest in
     ap (λ (z : Run C). z ∷ rs) first.0 ∙ ap (λ (zs : List (Run C)). s ∷ zs) deeper
 
--- no two lists of cells have one text
+-- no two lists of cells have the same body
 pub runs_one_list : {C : Type 0} (bytes : C → List ℕ) (is_cell : C → Type 0) (eq : C → C → Bool) (t : IsTest eq) (one : BeginsOne bytes is_cell) (x y : List C) → length x ≤ 1048576 → length y ≤ 1048576 → AllByRecursion is_cell x → AllByRecursion is_cell y → runs_text bytes eq x ≡ runs_text bytes eq y → x ≡ y
 runs_one_list {C} bytes is_cell eq t one x y lx ly hx hy e =
     let ex = expand-runs_of eq t x in

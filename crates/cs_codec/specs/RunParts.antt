@@ -1,4 +1,4 @@
--- The text of some positions of a list under runs: of the runs that begin there.
+-- A part of a body under runs: the bytes of the runs that begin at some positions.
 use Rattle.std.proofs.Common.{◌≡◌, ℕ, zero, suc, ◌+◌, ◌-◌, ◌<◌, ◌≤◌, Bool, true, false, not, if◌then◌else◌, List, [], ◌∷◌, ◌++◌, length, take, drop, Option, Some, None, refl, sym, ap, ◌∙◌, append_assoc, arith}
 use Rattle.std.specs.Prelude.{slice_get}
 use Rattle.std.proofs.Math.Seq.{take-add}
@@ -6,7 +6,7 @@ use Rattle.std.proofs.lemmas.List.{drop-drop}
 use Rattle.cs_codec.specs.Cells.{number}
 use Rattle.cs_codec.specs.Texts.{differs, kept, runs_text_from, runs_text}
 
--- the value of the last cell, or the one before them where there is none
+-- the value of the last cell, or `before` if there is none
 abbrev pub value_after : {C : Type 0} → Option C → List C → Option C
 value_after before [] = before
 value_after before (x ∷ xs) = value_after (Some x) xs
@@ -16,17 +16,17 @@ value_after-append before [] ys = refl
 value_after-append before (x ∷ xs) ys = value_after-append (Some x) xs ys
 
 module _ {C : Type 0} (bytes : C → List ℕ) (eq : C → C → Bool) where
-  -- what stands for a position: its run, where its value differs from the one before it
+  -- the bytes of a position: those of its run, if its value differs from the one before it
   abbrev pub position_text : Option C → ℕ → C → List C → List ℕ
   position_text before p x xs = if differs eq before x then bytes x ++ number p ++ number (suc (kept eq x xs)) else []
 
-  -- what stands for the first n positions, of which the first is p
+  -- the bytes of the first n positions, if the first of them is p
   abbrev pub front_text : Option C → ℕ → ℕ → List C → List ℕ
   front_text before p zero xs = []
   front_text before p (suc n) [] = []
   front_text before p (suc n) (x ∷ xs) = position_text before p x xs ++ front_text (Some x) (suc p) n xs
 
-  -- what stands for the positions of a list from one place up to another, counted from 0
+  -- the bytes of the positions `start..stop` of a list, counted from 0
   abbrev pub part_text : List C → ℕ → ℕ → List ℕ
   part_text xs start stop = front_text (value_after None (take start xs)) (suc start) (stop - start) (drop start xs)
 
@@ -54,11 +54,11 @@ module _ {C : Type 0} (bytes : C → List ℕ) (eq : C → C → Bool) where
   front_whole before p zero (x ∷ xs) l = absurd (omega (arith, l))
   front_whole before p (suc n) (x ∷ xs) l = ap (λ (w : List ℕ). position_text before p x xs ++ w) (front_whole (Some x) (suc p) n xs (omega (arith, l)))
 
-  -- the text of all positions is that of the list
+  -- the bytes of all positions are the body of the list
   pub whole_part : (xs : List C) → part_text xs 0 (length xs) ≡ runs_text bytes eq xs
   whole_part xs = front_whole None 1 (length xs - 0) xs (omega arith)
 
-  -- where a run goes on nothing stands
+  -- positions that continue a run have no bytes
   pub front_within : (x : C) (p n : ℕ) (xs : List C) → n ≤ kept eq x xs → front_text (Some x) p n xs ≡ []
   front_within x p zero xs l = refl
   front_within x p (suc n) [] l = refl
@@ -87,12 +87,12 @@ module _ {C : Type 0} (bytes : C → List ℕ) (eq : C → C → Bool) where
       ∙ ap (λ (q : List C). part_text xs a b ++ front_text (value_after None (take b xs)) (suc b) (c - b) q) rest
       )
 
-  -- it is the first place, from one up to another, at which a run begins, or the other where none does
+  -- `start` is the first of the positions `from..to` at which a run begins, or `to` if none does
   pub record IsNextStart (xs : List C) (from to start : ℕ) : Type 0 where
     pub within : (from ≤ start) × (start ≤ to)
     pub opens : start < to → (x : C) → slice_get xs start ≡ Some x → differs eq (value_after None (take start xs)) x ≡ true
     pub none : (m : ℕ) → from ≤ m → m ≤ start → part_text xs m start ≡ []
 
-  -- nothing stands for no positions
+  -- an empty range of positions has no bytes
   pub part_none : (xs : List C) (at : ℕ) → part_text xs at at ≡ []
   part_none xs at = let none : at - at ≡ 0 = omega arith in ap (λ (k : ℕ). front_text (value_after None (take at xs)) (suc at) k (drop at xs)) none

@@ -1,8 +1,8 @@
--- Lists of runs, and the lists of cells that they stand for.
+-- Lists of runs, and the cells that they have.
 use Rattle.std.specs.Prelude.{◌≡◌, ℕ, ◌+◌, ◌<◌, ◌≤◌, Bool, false, List, [], ◌∷◌, ◌++◌, length, replicate, Option, Some, None}
 use Rattle.cs_codec.specs.Cells.{number}
 
--- neighbouring cells of one value
+-- neighbouring cells with the same value
 pub record Run (C : Type 0) : Type 0 where
   pub value : C
   pub count : ℕ
@@ -23,27 +23,27 @@ abbrev pub BeginsOther : {C : Type 0} → (C → C → Bool) → C → List (Run
 BeginsOther eq x [] = Unit {0}
 BeginsOther eq x (r ∷ rs) = eq x r.value ≡ false
 
--- no run is empty, and no two neighbours have one value
+-- the runs are maximal: none is empty, and neighbours have different values
 abbrev pub IsProper : {C : Type 0} → (C → C → Bool) → List (Run C) → Type 0
 IsProper eq [] = Unit {0}
 IsProper eq (r ∷ rs) = (0 < r.count) × BeginsOther eq r.value rs × IsProper eq rs
 
--- the runs' values, positions and counts, where the first begins at position p
+-- the runs' values, positions and counts as bytes, if the first begins at position p
 abbrev pub written_from : {C : Type 0} → (C → List ℕ) → ℕ → List (Run C) → List ℕ
 written_from bytes p [] = []
 written_from bytes p (r ∷ rs) = (bytes r.value ++ number p ++ number r.count) ++ written_from bytes (p + r.count) rs
 
--- the cells of the runs, or the one whose number is kept in their place
+-- the cells of the runs, or the one cell whose number is stored instead
 abbrev pub kept_cells : {C : Type 0} → (ℕ → C) → Option ℕ → List (Run C) → List C
 kept_cells of_bits None runs = expand runs
 kept_cells of_bits (Some n) runs = of_bits n ∷ []
 
--- values and lengths are those of proper runs, one beside the other
+-- values and lengths, side by side, are those of maximal runs
 pub record AreColumnsOfRuns {C : Type 0} (eq : C → C → Bool) (values : List C) (counts : List ℕ) : Type 0 where
   pub aligned : length values ≡ length counts
   pub proper : IsProper eq (zip_runs values counts)
 
--- what a part of a column keeps of its runs
+-- what holds of the fields of a part
 pub record AreRuns {C : Type 0} (of_bits : ℕ → C) (eq : C → C → Bool) (lone : Option ℕ) (values : List C) (counts : List ℕ) (count : ℕ) : Type 0 where
   pub runs : AreColumnsOfRuns eq values counts
   pub short : length (kept_cells of_bits lone (zip_runs values counts)) ≤ 1048576

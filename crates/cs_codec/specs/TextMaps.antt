@@ -1,4 +1,4 @@
--- The texts of a list whose values stand for those of another list, and the text of cells as that of a column under a code.
+-- Lists whose cells correspond have the same body, and the body of cells is that of their values under a code.
 use Rattle.std.proofs.Common.{◌≡◌, ℕ, ℤ, zero, suc, ◌-◌, Bool, false, not, if◌then◌else◌, List, [], ◌∷◌, ◌++◌, length, map, take, drop, Option, Some, None, refl, sym, ap, ◌∙◌}
 use Rattle.std.specs.Prelude.{flat_map, nat_eq}
 use Rattle.std.specs.Ordering.{nat_cmp, int_eq, int_cmp}
@@ -14,7 +14,7 @@ use Rattle.std.proofs.lemmas.List.{drop-map, take-map}
 use Rattle.cs_codec.specs.ColumnText.{cell_bytes, int_of, column_text}
 use Rattle.cs_codec.specs.RunParts.{front_text, part_text, value_after}
 
--- bytes, equality and order are the same on both sides
+-- f keeps bytes, equality and order
 pub record IsSame {C D : Type 0} (f : C → D) (bytes : C → List ℕ) (eq : C → C → Bool) (cmp : C → C → Ordering) (bytes' : D → List ℕ) (eq' : D → D → Bool) (cmp' : D → D → Ordering) : Type 0 where
   pub same_bytes : (x : C) → bytes' (f x) ≡ bytes x
   pub same_eq : (x y : C) → eq' (f x) (f y) ≡ eq x y
@@ -108,11 +108,11 @@ module _ {C D : Type 0} (f : C → D) (bytes : C → List ℕ) (eq : C → C →
 
 -- ---- cells as values
 
--- the value of a cell has its bytes, and is equal and in order as the cell is
+-- the value of a cell has the cell's bytes, equality and order
 abbrev pub IsValueOf : {C : Type 0} → (C → Value) → (C → List ℕ) → (C → C → Bool) → (C → C → Ordering) → Type 0
 IsValueOf {C} value bytes eq cmp = IsSame value bytes eq cmp cell_bytes value_eq value_cmp
 
--- the text of a list is that of the column of its values under the code
+-- the body of a list is that of the column of its values under the code
 abbrev pub IsTextOfCode : {C : Type 0} → (C → Value) → Code → (List C → List ℕ) → Type 0
 IsTextOfCode {C} value code text = (cells : List C) → text cells ≡ column_text code (map value cells)
 
@@ -123,7 +123,7 @@ module _ {C : Type 0} (value : C → Value) (bytes : C → List ℕ) (eq : C →
   pub runs_of_code : IsTextOfCode value Code.Runs (runs_text bytes eq)
   runs_of_code cells = sym (runs_text-map value bytes eq cmp cell_bytes value_eq value_cmp s cells)
 
-  -- the text of a part of the positions is that of their values
+  -- the bytes of some positions are those of their values
   pub part_of_values : (cells : List C) (start stop : ℕ) → part_text bytes eq cells start stop ≡ part_text cell_bytes value_eq (map value cells) start stop
   part_of_values cells start stop = sym (part-map value bytes eq cmp cell_bytes value_eq value_cmp s cells start stop)
 

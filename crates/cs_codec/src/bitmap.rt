@@ -7,7 +7,8 @@ use crate::numbers::write_number;
 use std::alloc::{AllocError, Global};
 use std::marker::Model;
 
-/// The lengths of a bitmap's maximal runs, zeros first, up to the last run of ones. Contracts see the lengths.
+/// The lengths of a bitmap's maximal runs, zeros first, up to the last run of ones, and the position after its last
+/// one. Contracts see the lengths.
 #[derive(Drop)]
 pub struct Bitmap {
     pub(crate) lengths: Vec<u32>,
@@ -26,7 +27,7 @@ impl Model for Bitmap {
     ghost invariant = { λ bitmap. IsBitmap bitmap.lengths.items bitmap.end };
 }
 
-/// Appends a run of zeros and then a run of ones to the lengths of a bitmap.
+/// Appends a run of zeros and then a run of ones to the lengths of a bitmap. If memory is refused, nothing changes.
 fn push_run(lengths: &mut Vec<u32>, zeros: u32, ones: u32) -> Result<(), AllocError>
     requires { total lengths.old.items + ones ≤ 1048576 }
     ensures ok { OnOk result (lengths.new.items ≡ with_run lengths.old.items zeros ones) }
@@ -56,7 +57,7 @@ impl Bitmap {
         }
     }
 
-    /// Adds a one at a position after all others.
+    /// Adds a one at a position, from 0, that is after all others.
     pub(crate) fn add(&mut self, position: u32) -> Result<(), AllocError>
         requires below { total self.old ≤ position }
         requires short { position < 1048576 }
@@ -69,8 +70,8 @@ impl Bitmap {
         Ok(())
     }
 
-    /// Appends the bitmap of the next positions to this bitmap of the first `offset` positions. The last of them is
-    /// before `end`.
+    /// Appends the bitmap of the next positions to this bitmap of the first `offset` positions. `end` is the position
+    /// after the last one of both.
     pub(crate) fn follow(&mut self, offset: u32, other: &[u32], end: u32) -> Result<(), AllocError>
         requires below { total self.old ≤ offset }
         requires some { 2 ≤ length other.now }
@@ -102,7 +103,7 @@ impl Bitmap {
     }
 }
 
-/// Appends a value and its bitmap.
+/// Appends the bytes of a value and of its bitmap.
 pub(crate) fn write_bitmap<C: Cell>(
     out: &mut Vec<u8>,
     value: &C,

@@ -1,4 +1,4 @@
-//! Reading a column from the text of its bitmaps.
+//! Reading a column from its bitmaps.
 ghost use Rattle.std.specs.Prelude.{◌≡◌, ◌≤◌, ◌<◌, false, replicate, IsTrue, IfOk, IfSome, IfNone, length};
 ghost use Rattle.cs_codec.specs.Bitmaps.{bits_from, total, ones_of};
 ghost use Rattle.cs_codec.specs.Painting.{PaintsRun, Painted};
@@ -11,7 +11,8 @@ use crate::numbered::NumberedColumn;
 use crate::numbers::read_number;
 use std::alloc::{AllocError, Global};
 
-/// The `count` numbers at offset `at`, and the offset of their end.
+/// Reads the `count` numbers at offset `at` into `numbers`, in place of what it had. Returns the offset after them, or
+/// `None` if there are fewer.
 fn read_numbers(
     numbers: &mut Vec<u32>,
     bytes: &[u8],
@@ -44,7 +45,7 @@ fn paint_run(numbers: &mut Vec<u32>, number: u32, start: usize, stop: usize)
     }
 }
 
-/// Assigns the number to the rows that the lengths of a bitmap mark. Fails if they go past the last row.
+/// Assigns the number to the rows that the lengths of a bitmap mark. Returns `false` if they go past the last row.
 fn paint(numbers: &mut Vec<u32>, number: u32, lengths: &[u32]) -> bool
     ensures painted { IsTrue result → Painted number (bits_from false lengths.now) numbers.old.items numbers.new.items }
     ensures too_long { result ≡ false → length numbers.old.items < total lengths.now }
@@ -66,7 +67,7 @@ fn paint(numbers: &mut Vec<u32>, number: u32, lengths: &[u32]) -> bool
     true
 }
 
-/// The number of ones that the lengths count, if it is at most `limit`.
+/// The number of ones that the lengths of a bitmap count. `None` if it is above `limit`.
 fn count_ones(lengths: &[u32], limit: u32) -> Option<u32>
     ensures found { IfSome result (λ n. n ≡ ones_of false lengths.now) }
     ensures within { IfSome result (λ n. n ≤ limit) }
@@ -86,7 +87,8 @@ fn count_ones(lengths: &[u32], limit: u32) -> Option<u32>
     Some(count)
 }
 
-/// The end of an entry whose value ends at offset `at`. `lengths` becomes the lengths of its bitmap.
+/// Reads the bitmap at offset `at` into `lengths`, in place of what it had. Returns the offset after it, or `None` if
+/// no bitmap is there.
 fn read_lengths(
     lengths: &mut Vec<u32>,
     bytes: &[u8],
@@ -100,7 +102,8 @@ fn read_lengths(
     read_numbers(lengths, bytes, at + 4, count)
 }
 
-/// The value of the entry at offset `at`, and the entry's end. `lengths` becomes the lengths of its bitmap.
+/// Reads the entry at offset `at`, its bitmap into `lengths`. Returns its value and the offset after it, or `None` if
+/// no entry is there.
 fn read_entry<C: Cell>(
     lengths: &mut Vec<u32>,
     bytes: &[u8],
@@ -117,8 +120,8 @@ fn read_entry<C: Cell>(
     Ok(Some((value, stop)))
 }
 
-/// Appends the value of the entry at offset `at` to the values, and answers the entry's end. `lengths` becomes the
-/// lengths of its bitmap.
+/// Reads the entry at offset `at`: appends its value to `values`, and reads its bitmap into `lengths`. Returns the
+/// offset after it, or `None` if no entry is there.
 fn add_entry<C: Cell, L: Column<C>>(
     values: &mut L,
     lengths: &mut Vec<u32>,
@@ -134,7 +137,7 @@ fn add_entry<C: Cell, L: Column<C>>(
     read_lengths(lengths, bytes, end)
 }
 
-/// Whether the entries mark as many positions as there are rows. Checked before anything is reserved for the rows.
+/// Whether the entries mark as many positions as there are rows. It is checked before memory is reserved for the rows.
 pub(crate) fn names_all_rows<C: Cell>(
     alloc: Global,
     bytes: &[u8],
@@ -159,8 +162,8 @@ pub(crate) fn names_all_rows<C: Cell>(
     Ok(named == rows)
 }
 
-/// The only column that the bytes can be the text of, if the entries mark as many positions as there are rows. Values
-/// are numbered in the order of the entries, and each row has the number of its value.
+/// The only column of `rows` cells whose body the bytes can be. Values are numbered in the order of the entries, and
+/// each row has the number of its value. `None` if there is no such column.
 pub(crate) fn candidate<C: Cell, L: Column<C>>(
     alloc: Global,
     bytes: &[u8],

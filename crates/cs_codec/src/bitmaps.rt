@@ -1,4 +1,4 @@
-//! The bitmap encoding: the positions of each value.
+//! The bitmap encoding.
 ghost use Rattle.std.specs.Prelude.{◌≡◌, ◌≤◌, ◌<◌, ◌+◌, ◌-◌, ◌++◌, List, [], ◌∷◌, IfOk, OnOk, length, take, drop, flat_map};
 ghost use Rattle.cs_codec.specs.Encodings.{IsShort};
 ghost use Rattle.cs_codec.specs.Texts.{bitmaps_text};
@@ -17,10 +17,11 @@ use crate::encoding::{CodecFault, ColumnEncoding};
 use crate::few_cells::{FEW, FewCells, copies};
 use crate::numbered::{cells_of, has_text};
 use cs_schema::Code;
+use cs_schema::limits::SEGMENT_ROWS;
 use std::alloc::{AllocError, Global};
 use std::collections::BTreeMap;
 
-/// The encoded form of some cells of a column, and their number.
+/// An encoded part of a column, and its number of cells. A part of at most 16 cells stores them as they are.
 #[derive(Drop)]
 pub struct BitmapsPart<C: Cell> {
     kept: Kept<C>,
@@ -30,13 +31,13 @@ pub struct BitmapsPart<C: Cell> {
 /// How a part stores its cells.
 #[derive(Drop)]
 enum Kept<C: Cell> {
-    /// The cells themselves, while they are few.
+    /// The cells themselves, at most 16.
     Cells(FewCells<C>),
     /// A bitmap for each value, by ascending value.
     Bitmaps(BTreeMap<C, Bitmap>),
 }
 
-/// Adds a one to the bitmap of a value, at a position after all others.
+/// Adds a one to the bitmap of a value, at a position after all others of that value.
 fn add_one<C: Cell>(
     alloc: Global,
     bitmaps: &mut BTreeMap<C, Bitmap>,
@@ -59,7 +60,7 @@ fn add_one<C: Cell>(
     Ok(())
 }
 
-/// Adds the bitmap of a value among the cells that follow the first `offset` ones.
+/// Adds a value's bitmap over the cells that follow the first `offset` cells.
 fn add_bitmap<C: Cell>(
     bitmaps: &mut BTreeMap<C, Bitmap>,
     value: C,
@@ -104,7 +105,7 @@ fn add_cells<C: Cell, L: Column<C>>(
     Ok(())
 }
 
-/// Adds the bitmaps of the cells that follow the first `before` cells.
+/// Adds the bitmaps of cells that follow the first `before` cells.
 fn add_bitmaps<C: Cell>(
     bitmaps: &mut BTreeMap<C, Bitmap>,
     before: u32,
@@ -198,7 +199,7 @@ fn add_kept<C: Cell>(
     }
 }
 
-/// The text: each value followed by its bitmap.
+/// The body: each value, followed by its bitmap.
 fn text_of<C: Cell>(alloc: Global, bitmaps: &BTreeMap<C, Bitmap>) -> Result<Vec<u8>, AllocError>
     ensures { IfOk result (λ out. out.items ≡ flat_map (entry_text C.bytes) bitmaps.now.entries) }
 {
@@ -209,7 +210,7 @@ fn text_of<C: Cell>(alloc: Global, bitmaps: &BTreeMap<C, Bitmap>) -> Result<Vec<
     Ok(out)
 }
 
-/// The text of a column's bitmaps.
+/// The body of a column.
 fn text_of_all<C: Cell, L: Column<C>>(alloc: Global, column: &L) -> Result<Vec<u8>, AllocError>
     requires { IsShort (L.cells column.now) }
     ensures { IfOk result (λ out. out.items ≡ bitmaps_text C.bytes C.eq C.cmp (L.cells column.now)) }
@@ -248,7 +249,7 @@ impl<C: Cell, L: Column<C>> ColumnEncoding<C, L> for Bitmaps {
     }
 
     fn can_join(left: &BitmapsPart<C>, right: &BitmapsPart<C>) -> bool {
-        u64::from(left.count) + u64::from(right.count) <= 1_048_576
+        u64::from(left.count) + u64::from(right.count) <= u64::from(SEGMENT_ROWS)
     }
 
     fn join(left: BitmapsPart<C>, right: BitmapsPart<C>) -> Result<BitmapsPart<C>, AllocError> {

@@ -11,12 +11,12 @@ use cs_schema::Word;
 use std::alloc::AllocError;
 use std::str;
 
-/// A cell of a column: values with an order, each with its bytes.
+/// The type of a column's cells: values that are ordered and have bytes.
 pub trait Cell: Ord + Drop {
     /// The bytes of a cell.
     ghost bytes: { Self → List ℕ };
 
-    /// Holds of each value of the type.
+    /// What holds of each value of the type.
     ghost is_cell: { Self → Type 0 };
 
     /// The cell as a value of a column.
@@ -30,7 +30,7 @@ pub trait Cell: Ord + Drop {
         ensures ok { OnOk result (out.new.items ≡ out.old.items ++ bytes self.now) }
         ensures err { OnErr result (out.new.items ≡ out.old.items) };
 
-    /// The cell at offset `at`, and its end.
+    /// The cell whose bytes are at offset `at`, and the offset after them. `None` if no cell is there.
     fn read(text: &[u8], at: usize) -> Option<(Self, usize)>
         ensures found { IfSome result (λ found. StandsAt bytes is_cell text.now at found.0 found.1) }
         ensures none { IfNone result (NoneStandsAt bytes is_cell text.now at) };
@@ -39,13 +39,13 @@ pub trait Cell: Ord + Drop {
     fn copy(&self) -> Self
         ensures { result ≡ self.now };
 
-    /// The number in the cell's bytes, if the cells are numbers of eight bytes. A part of one such cell stores the
+    /// The number in the cell's bytes, if cells are numbers of eight bytes. A part that has one such cell stores the
     /// number and does not allocate.
     fn as_bits(&self) -> Option<u64>
         ensures cell { IfSome result (λ n. of_bits n ≡ self.now) }
         ensures bytes { IfSome result (λ n. bytes self.now ≡ to_be_bytes w64 n) };
 
-    /// The cell with this number.
+    /// The cell with this number, if cells are numbers: the inverse of `as_bits`.
     fn from_bits(bits: u64) -> Self
         ensures { result ≡ of_bits bits };
 
@@ -55,14 +55,14 @@ pub trait Cell: Ord + Drop {
     /// The bytes of a cell are never empty.
     ghost some_bytes: { (x : Self) → 0 < length (bytes x) };
 
-    /// No text begins with two different cells.
+    /// Bytes begin with at most one cell.
     ghost begins_one: { BeginsOne bytes is_cell };
 
     /// Bytes, equality and order of a cell are those of its value.
     ghost is_value: { IsValueOf value bytes Self.eq Self.cmp };
 }
 
-/// The int at offset `at`, and its end.
+/// The int whose bytes are at offset `at`, and the offset after them. `None` if there are fewer than eight.
 #[inline]
 pub(crate) fn read_int(text: &[u8], at: usize) -> Option<(i64, usize)>
     ensures found { IfSome result (λ found. StandsAt int_cell IsInt text.now at found.0 found.1) }
@@ -116,7 +116,8 @@ impl Cell for i64 {
     ghost is_value = { ints_are_values };
 }
 
-/// The text at offset `at`, and its end.
+/// The text whose length and bytes are at offset `at`, and the offset after them. `None` if bytes are missing or are
+/// not UTF-8.
 #[inline]
 pub(crate) fn read_text(text: &[u8], at: usize) -> Option<(&str, usize)>
     ensures found { IfSome result (λ found. StandsAt text_cell IsText text.now at found.0.now found.1) }
@@ -138,7 +139,7 @@ pub(crate) fn read_text(text: &[u8], at: usize) -> Option<(&str, usize)>
     Some((valid, end))
 }
 
-/// Appends the bytes of a text. If memory is refused, nothing changes.
+/// Appends the length and the bytes of a text. If memory is refused, nothing changes.
 #[inline]
 pub(crate) fn write_text(text: &str, out: &mut Vec<u8>) -> Result<(), AllocError>
     requires { length text.now ≤ 255 }

@@ -1,5 +1,6 @@
 //! Columns: lists of cells that grow at the end.
-ghost use Rattle.std.specs.Prelude.{◌≡◌, ℕ, ◌-◌, ◌<◌, ◌≤◌, List, [], ◌∷◌, ◌++◌, length, take, drop, replicate, slice_get, slice_index, Some, OnOk, IfOk, IfSome, IfNone, IsTrue, ◌↔◌};
+ghost use Rattle.std.specs.Prelude.{◌≡◌, ◌↔◌, ℕ, ◌-◌, ◌*◌, ◌<◌, ◌≤◌, List, [], ◌∷◌, ◌++◌, length, take, drop, replicate};
+ghost use Rattle.std.specs.Prelude.{slice_get, slice_index, Some, OnOk, IfOk, IfSome, IfNone, IsTrue};
 ghost use Rattle.std.specs.Int.{w64, to_be_bytes};
 ghost use Rattle.cs_codec.specs.Cells.{NoneStandsAt};
 ghost use Rattle.cs_codec.specs.Columns.{Reads, cells_at};
@@ -9,7 +10,7 @@ use crate::cell::{Cell, read_text, write_text};
 use cs_schema::{Texts, Word};
 use std::alloc::{AllocError, Global};
 
-/// A list of cells, without an allocation for each.
+/// A list of cells that does not allocate for each cell.
 pub trait Column<C: Cell>: Drop {
     /// The cells of the list.
     ghost cells: { Self → List C };
@@ -26,12 +27,14 @@ pub trait Column<C: Cell>: Drop {
     fn reserve(&mut self, more: usize, bytes: usize) -> Result<(), AllocError>
         ensures { cells self.new ≡ cells self.old };
 
-    /// About how many bytes the cells take when written.
-    fn size(&self) -> usize;
+    /// An estimate of the number of bytes of the cells, at most eight times too high.
+    fn size(&self) -> usize
+        ensures { result ≤ 8 * length (plain_text C.bytes (cells self.now)) };
 
-    /// About how many bytes the cells at these indices take when written.
+    /// An estimate of the number of bytes of the cells at these indices, at most eight times too high.
     fn size_at(&self, places: &[u32]) -> usize
-        requires { (k : ℕ) → k < length places.now → slice_index places.now k < length (cells self.now) };
+        requires { (k : ℕ) → k < length places.now → slice_index places.now k < length (cells self.now) }
+        ensures { result ≤ 8 * length (plain_text C.bytes (cells_at (cells self.now) places.now)) };
 
     /// A copy of the cell at an index.
     fn cell(&self, at: usize) -> C
@@ -71,13 +74,13 @@ pub trait Column<C: Cell>: Drop {
     fn truncate(&mut self, count: usize)
         ensures { cells self.new ≡ take count (cells self.old) };
 
-    /// Appends the cell at offset `at` of a text, and answers its end.
+    /// Appends the cell whose bytes are at offset `at`. Returns the offset after them, or `None` if no cell is there.
     fn read(&mut self, text: &[u8], at: usize) -> Result<Option<usize>, AllocError>
         ensures found { IfOk result (λ read. IfSome read (λ end. Reads C.bytes C.is_cell text.now at (cells self.old) (cells self.new) end)) }
         ensures none { IfOk result (λ read. IfNone read (NoneStandsAt C.bytes C.is_cell text.now at)) };
 }
 
-/// The cell's number, if the range has one cell and the cell has a number.
+/// The number of the cell, if the range has exactly one and cells are numbers.
 #[inline]
 pub(crate) fn lone_bits<C: Cell, L: Column<C>>(column: &L, from: usize, to: usize) -> Option<u64>
     requires order { from ≤ to }
@@ -188,7 +191,7 @@ impl Column<Word> for Texts {
     }
 
     fn size(&self) -> usize {
-        // each text is preceded by one byte with its length
+        // one byte of length precedes each text
         self.size().saturating_add(self.len())
     }
 

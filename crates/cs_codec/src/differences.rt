@@ -1,4 +1,4 @@
-//! The delta encoding of ascending ints.
+//! The delta encoding of ints that never fall.
 ghost use Rattle.std.specs.Prelude.{◌≡◌, ◌↔◌, IsTrue, List, ◌++◌, IfOk, OnOk, IfSome, IfNone};
 ghost use Rattle.cs_codec.specs.Texts.{differences_text};
 ghost use Rattle.cs_codec.specs.Differences.{NeverFallsShort, ValueStandsAt, NoValueStandsAt};
@@ -11,14 +11,15 @@ use crate::encoding::{CodecFault, ColumnEncoding};
 use crate::groups::{read_groups, write_short};
 use crate::numbers::{read_number, write_number};
 use cs_schema::Code;
+use cs_schema::limits::SEGMENT_ROWS;
 use std::alloc::{AllocError, Global};
 use std::marker::Model;
 
-/// The first position of each block has its value in full.
+/// The number of positions of a block, the first of which has its value in full.
 const BLOCK: u32 = 128;
 
-/// The encoded form of some ints of a column, none of which is less than the one before it: the first int, the
-/// differences between neighbours, the last int, and their number. Contracts see the ints.
+/// An encoded part of a column of ints, none of which is less than the one before it: the first int, the differences
+/// between neighbours, the last int, and how many there are. Contracts see the ints.
 #[derive(Drop)]
 pub struct DifferencesPart {
     first: i64,
@@ -40,7 +41,7 @@ impl Model for DifferencesPart {
 }
 
 impl DifferencesPart {
-    /// The part of these ints.
+    /// Encodes these ints.
     #[inline]
     fn of(alloc: Global, cells: &[i64]) -> Result<DifferencesPart, AllocError>
         requires { NeverFallsShort cells.now }
@@ -59,7 +60,7 @@ impl DifferencesPart {
         DifferencesPart::of_many(alloc, cells)
     }
 
-    /// Reserves room for `parts` parts as long as this one.
+    /// Reserves room for joining `parts` further parts as long as this one.
     pub fn reserve(&mut self, parts: u32) -> Result<(), AllocError>
         ensures { self.new ≡ self.old }
     {
@@ -68,7 +69,7 @@ impl DifferencesPart {
             .reserve((self.count as usize).saturating_mul(parts as usize))
     }
 
-    /// The part of these cells. It is a function of its own so that encoding one int stays small.
+    /// Encodes these ints. It is a function of its own so that `of`, which is inlined, stays small.
     #[inline(never)]
     fn of_many(alloc: Global, cells: &[i64]) -> Result<DifferencesPart, AllocError>
         requires { NeverFallsShort cells.now }
@@ -118,11 +119,12 @@ impl DifferencesPart {
         })
     }
 
-    /// Whether the ints of the other part may follow these.
+    /// Whether the ints of the other part may follow these: none is less than the one before it, and there are at most
+    /// 1,048,576 in total.
     fn goes_on(&self, other: &DifferencesPart) -> bool
         ensures { IsTrue result ↔ NeverFallsShort (self.now ++ other.now) }
     {
-        if self.count + other.count > 1_048_576 {
+        if self.count + other.count > SEGMENT_ROWS {
             return false;
         }
         if self.count == 0 || other.count == 0 {
@@ -173,7 +175,7 @@ fn add_gaps(gaps: &mut Vec<u64>, others: &[u64]) -> Result<(), AllocError>
     add_some_gaps(gaps, others)
 }
 
-/// Appends differences. It is a function of its own so that appending none stays small.
+/// Appends differences. It is a function of its own so that `add_gaps`, which is inlined, stays small.
 #[inline(never)]
 fn add_some_gaps(gaps: &mut Vec<u64>, others: &[u64]) -> Result<(), AllocError>
     ensures { OnOk result (gaps.new.items ≡ gaps.old.items ++ others.now) }
@@ -181,7 +183,8 @@ fn add_some_gaps(gaps: &mut Vec<u64>, others: &[u64]) -> Result<(), AllocError>
     gaps.extend_from_slice(others)
 }
 
-/// The value of a position, at offset `at`, given the value before it.
+/// The value of `position`, from its bytes at offset `at`, and the offset after them. `before` is the value of the
+/// position before. `None` if no such value is there.
 fn read_value(bytes: &[u8], at: usize, position: u32, before: i64) -> Option<(i64, usize)>
     ensures found { IfSome result (λ found. ValueStandsAt before position bytes.now at found.0 found.1) }
     ensures none { IfNone result (NoValueStandsAt before position bytes.now at) }
@@ -203,7 +206,8 @@ fn read_value(bytes: &[u8], at: usize, position: u32, before: i64) -> Option<(i6
     }
 }
 
-/// The delta encoding: of each 128 positions the first value in full, the others as differences.
+/// The delta encoding: of each 128 positions the first value in full, the others as differences to the value before
+/// (C-Store's type 3).
 pub struct Differences;
 
 impl ColumnEncoding<i64, Vec<i64>> for Differences {

@@ -1,14 +1,14 @@
-//! A few cells, for which bitmaps would take more than the cells themselves.
+//! Few cells, for which bitmaps would take more memory than the cells themselves.
 ghost use Rattle.std.specs.Prelude.{◌≡◌, ◌-◌, ◌≤◌, length, take, drop, IfOk};
 
 use crate::cell::Cell;
 use crate::column::Column;
 use std::alloc::{AllocError, Global};
 
-/// The maximum number of such cells.
+/// The largest number of cells that are stored as they are.
 pub(crate) const FEW: usize = 16;
 
-/// A few cells.
+/// At most 16 cells.
 #[derive(Drop)]
 pub(crate) struct FewCells<C> {
     pub(crate) cells: Vec<C>,

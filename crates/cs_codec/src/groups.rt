@@ -5,7 +5,7 @@ ghost use Rattle.cs_codec.specs.Differences.{GroupsStandAt, NoGroupsStandAt};
 
 use std::alloc::AllocError;
 
-/// Writes a number in groups of seven bits, least significant group first.
+/// Appends a number in the fewest groups of seven bits, the least significant first.
 pub(crate) fn write_short(out: &mut Vec<u8>, n: u64) -> Result<(), AllocError>
     ensures { OnOk result (out.new.items ≡ out.old.items ++ short n) }
 {
@@ -18,7 +18,8 @@ pub(crate) fn write_short(out: &mut Vec<u8>, n: u64) -> Result<(), AllocError>
     Ok(())
 }
 
-/// The number at offset `at`, of at most `more` + 1 groups, and its end.
+/// The number at offset `at`, and the offset after it. `None` if there is no number of at most `more` + 1 groups, if it
+/// has more groups than it needs, or if it does not fit 64 bits.
 pub(crate) fn read_groups(bytes: &[u8], at: usize, more: u32) -> Option<(u64, usize)>
     ensures found { IfSome result (λ found. GroupsStandAt more bytes.now at found.0 found.1) }
     ensures none { IfNone result (NoGroupsStandAt more bytes.now at) }

@@ -1,6 +1,6 @@
-//! Four encodings of a column's cells: plain, runs, bitmaps and differences. A part of a column is encoded by itself
-//! and joined with the next part; the text that is written is the one text of the whole list, and `read` accepts only
-//! such texts.
+//! Four encodings of a column's cells (C-Store, VLDB 2005): runs, bitmaps, differences and plain. A part of a column is
+//! encoded by itself and joined with the part that follows it. What is written is the one body of the whole column,
+//! however it was cut, and `read` accepts only such bodies.
 #![tactic(auto)]
 
 mod bitmap;

@@ -1,4 +1,4 @@
-//! The encodings over lists of cells, by way of columns.
+//! The encodings of lists of cells. Each copies the list into a column and encodes that.
 ghost use Rattle.std.specs.Prelude.{◌≡◌, IfOk};
 ghost use Rattle.cs_codec.specs.Encodings.{IsShort};
 ghost use Rattle.cs_codec.specs.Texts.{plain_text, runs_text, bitmaps_text, differences_text};
@@ -21,7 +21,7 @@ use crate::runs::{Runs, RunsPart};
 use cs_schema::Code;
 use std::alloc::{AllocError, Global};
 
-/// The column of these cells.
+/// A column with copies of these cells.
 fn column_of<C: Cell>(alloc: Global, cells: &[C]) -> Result<Vec<C>, AllocError>
     ensures { IfOk result (λ column. column.items ≡ cells.now) }
 {

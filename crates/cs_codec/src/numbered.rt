@@ -10,7 +10,7 @@ use crate::cell::Cell;
 use crate::column::Column;
 use std::alloc::{AllocError, Global};
 
-/// A column as its values and, for each row, the number of its value.
+/// A column as its distinct values and, for each row, the number of its value, from 0.
 #[derive(Drop)]
 pub(crate) struct NumberedColumn<L> {
     pub(crate) values: L,
@@ -42,7 +42,7 @@ fn empty_bitmaps(alloc: Global, count: usize) -> Result<Vec<Bitmap>, AllocError>
     Ok(bitmaps)
 }
 
-/// The bitmap of each number below `count`, by one pass over the rows' numbers.
+/// The bitmap of each number below `count`, built in one pass over the rows' numbers.
 fn bitmaps_of_numbers(
     alloc: Global,
     numbers: &[u32],
@@ -63,7 +63,7 @@ fn bitmaps_of_numbers(
 }
 
 /// Whether the bytes are the values and their bitmaps, in turn, and each value occurs in some row. Each entry is
-/// written and compared by itself, so no second text is kept.
+/// written and compared by itself, so no second copy of the body is built.
 fn are_entries<C: Cell, L: Column<C>>(
     alloc: Global,
     values: &L,
@@ -93,7 +93,7 @@ fn are_entries<C: Cell, L: Column<C>>(
     Ok(left.is_empty())
 }
 
-/// Whether the bytes are the text of the column, and its values are exactly those of its rows, ascending.
+/// Whether the bytes are the body of the column, and its values are exactly those of its rows, ascending.
 pub(crate) fn has_text<C: Cell, L: Column<C>>(
     alloc: Global,
     column: &NumberedColumn<L>,

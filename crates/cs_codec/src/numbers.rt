@@ -33,7 +33,7 @@ pub(crate) fn u64_at(text: &[u8], at: usize) -> Option<u64>
     ]))
 }
 
-/// The number in the four bytes at offset `at`.
+/// The big-endian number in the four bytes at offset `at`. `None` if there are fewer.
 #[inline]
 pub fn read_number(text: &[u8], at: usize) -> Option<u32>
     ensures found { IfSome result (NumberStandsAt text.now at) }
@@ -42,7 +42,7 @@ pub fn read_number(text: &[u8], at: usize) -> Option<u32>
     u32_at(text, at)
 }
 
-/// Appends a number in four bytes. If memory is refused, nothing changes.
+/// Appends a number as four bytes, big-endian. If memory is refused, nothing changes.
 #[inline]
 pub fn write_number(out: &mut Vec<u8>, n: u32) -> Result<(), AllocError>
     ensures ok { OnOk result (out.new.items ≡ out.old.items ++ number n) }

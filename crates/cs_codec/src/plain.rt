@@ -1,4 +1,4 @@
-//! The plain encoding: the bytes of each cell in turn.
+//! The plain encoding.
 ghost use Rattle.std.specs.Prelude.{◌≡◌, ℕ, ◌+◌, ◌<◌, ◌≤◌, ◌++◌, length, slice_index, IfOk, OnOk};
 ghost use Rattle.cs_codec.specs.Columns.{cells_at};
 ghost use Rattle.cs_codec.specs.Encodings.{IsShort};
@@ -12,10 +12,11 @@ use crate::cell::Cell;
 use crate::column::{Column, lone_bits};
 use crate::encoding::{CodecFault, ColumnEncoding};
 use cs_schema::Code;
+use cs_schema::limits::SEGMENT_ROWS;
 use std::alloc::{AllocError, Global};
 
-/// The encoded form of some cells of a column: their bytes and their number. For one cell that is a number it is the
-/// number, and does not allocate.
+/// An encoded part of a column: the bytes of its cells, and how many there are. A part that has one int stores the int
+/// and does not allocate.
 #[derive(Drop)]
 pub struct PlainPart {
     bytes: Vec<u8>,
@@ -24,7 +25,7 @@ pub struct PlainPart {
 }
 
 impl PlainPart {
-    /// Reserves room for `parts` parts as long as this one.
+    /// Reserves room for joining `parts` further parts as long as this one.
     pub fn reserve(&mut self, parts: u32) -> Result<(), AllocError>
         ensures bytes { self.new.bytes.items ≡ self.old.bytes.items }
         ensures lone { self.new.lone ≡ self.old.lone }
@@ -34,7 +35,7 @@ impl PlainPart {
             .reserve(self.bytes.len().saturating_mul(parts as usize))
     }
 
-    /// The text of the part's list: its bytes, without a copy.
+    /// The body of the column that the part encodes. Its bytes are moved, not copied.
     #[inline]
     pub fn into_text(self) -> Result<Vec<u8>, AllocError>
         ensures { IfOk result (λ out. out.items ≡ kept_bytes self.lone self.bytes.items) }
@@ -59,10 +60,10 @@ impl PlainPart {
     }
 }
 
-/// The plain encoding: the bytes of each cell in turn.
+/// The plain encoding: the bytes of each cell in turn (C-Store's type 4).
 pub struct Plain;
 
-/// The part of the cells at these indices, in this order, written directly from the column.
+/// Encodes a column's cells at these indices, in this order. They are written directly from the column.
 pub fn encode_at<C: Cell, L: Column<C>>(
     alloc: Global,
     column: &L,
@@ -116,7 +117,7 @@ impl<C: Cell, L: Column<C>> ColumnEncoding<C, L> for Plain {
     }
 
     fn can_join(left: &PlainPart, right: &PlainPart) -> bool {
-        u64::from(left.count) + u64::from(right.count) <= 1_048_576
+        u64::from(left.count) + u64::from(right.count) <= u64::from(SEGMENT_ROWS)
     }
 
     fn join(left: PlainPart, right: PlainPart) -> Result<PlainPart, AllocError> {

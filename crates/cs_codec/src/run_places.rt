@@ -1,4 +1,4 @@
-//! The text of runs, written directly from cells of a column at given indices, a range of these at a time.
+//! Writing runs directly from the cells of a column at given indices, a range of positions at a time.
 ghost use Rattle.std.specs.Prelude.{◌≡◌, ◌+◌, ◌≤◌, ◌<◌, ℕ, drop, length, min, slice_get, slice_index, Some, IfOk};
 ghost use Rattle.cs_codec.specs.Columns.{cells_at};
 ghost use Rattle.cs_codec.specs.RunParts.{IsNextStart, part_text};
@@ -9,12 +9,13 @@ use crate::column::Column;
 use crate::numbers::write_number;
 use std::alloc::{AllocError, Global};
 
-/// The end of the run that begins at an index, or `stop` if it goes further.
+/// The end of the run that the cell at position `start` belongs to, or `stop` if the run goes further.
 fn run_end<C: Cell, L: Column<C>>(column: &L, places: &[u32], start: usize, stop: usize) -> usize
     requires within { (k : ℕ) → k < length places.now → slice_index places.now k < length (L.cells column.now) }
     requires order { (start < stop) × (stop ≤ length places.now) }
     ensures within { (start < result) × (result ≤ stop) }
-    ensures end { (x : C) → slice_get (cells_at (L.cells column.now) places.now) start ≡ Some x → result ≡ min stop (start + 1 + kept C.eq x (drop (start + 1) (cells_at (L.cells column.now) places.now))) }
+    ensures end { (x : C) → slice_get (cells_at (L.cells column.now) places.now) start ≡ Some x
+        → result ≡ min stop (start + 1 + kept C.eq x (drop (start + 1) (cells_at (L.cells column.now) places.now))) }
 {
     let value = places[start] as usize;
     let mut end = start + 1;
@@ -24,7 +25,7 @@ fn run_end<C: Cell, L: Column<C>>(column: &L, places: &[u32], start: usize, stop
     end
 }
 
-/// The first index of a range at which a run begins, or the end of the range if none does. No run is followed further.
+/// The first of the positions `from..to` at which a run begins, or `to` if none does. No cell after `to` is looked at.
 fn run_start<C: Cell, L: Column<C>>(column: &L, places: &[u32], from: usize, to: usize) -> usize
     requires within { (k : ℕ) → k < length places.now → slice_index places.now k < length (L.cells column.now) }
     requires order { (from ≤ to) × (to ≤ length places.now) }
@@ -36,7 +37,8 @@ fn run_start<C: Cell, L: Column<C>>(column: &L, places: &[u32], from: usize, to:
     run_end(column, places, from - 1, to)
 }
 
-/// The text of the runs that begin within a range of the indices, in the column of the cells at all indices.
+/// A part of the body of the column that has the cells at `places` of `column`: the runs that begin at its positions
+/// `from..to`. The last of them may end after `to`.
 pub fn write_part<C: Cell, L: Column<C>>(
     alloc: Global,
     column: &L,

@@ -1,4 +1,4 @@
-//! Reading a column from the text of its runs.
+//! Reading a column from its runs.
 ghost use Rattle.std.specs.Prelude.{◌≡◌, ℕ, ◌-◌, ◌≤◌, ◌<◌, ◌++◌, length, replicate, slice_get, Some, Err, false, IfOk, OnOk, IfSome, IfNone, IsTrue};
 ghost use Rattle.cs_codec.specs.Encodings.{IsColumn, NoColumn, IsShort};
 ghost use Rattle.cs_codec.specs.RunTexts.{NoRunStandsAt, ReadsRun, Differs};
@@ -10,7 +10,8 @@ use crate::encoding::CodecFault;
 use crate::numbers::read_number;
 use std::alloc::{AllocError, Global};
 
-/// The position and length of the run at offset `at`, whose cell is appended, and the run's end.
+/// Appends the cell of the run at offset `at`. Returns the position and the length of the run, and the offset after it.
+/// `None` if no run is there.
 #[inline]
 fn read_run<C: Cell, L: Column<C>>(
     cells: &mut L,
@@ -43,7 +44,8 @@ fn differs<C: Cell, L: Column<C>>(cells: &L, at: usize) -> bool
     at == 0 || !cells.same(at - 1, cells, at)
 }
 
-/// Appends the cell at an index `count` more times. Room for all remaining cells is reserved at the first repetition.
+/// Appends the cell at an index `more` times. Before the first one, room is reserved for `room` cells, all that are
+/// still missing.
 #[inline]
 fn repeat_at<C: Cell, L: Column<C>>(
     cells: &mut L,
@@ -62,10 +64,10 @@ fn repeat_at<C: Cell, L: Column<C>>(
     cells.repeat(&cell, more)
 }
 
-/// The minimum number of bytes of a run's text.
+/// The smallest number of bytes of a run: one for the cell, four for the position, four for the length.
 const LEAST_RUN: usize = 9;
 
-/// The column of `rows` cells whose text the bytes are. Room is reserved for as many cells as the text can have runs,
+/// The column of `rows` cells whose body the bytes are. Room is reserved for as many cells as the bytes can have runs,
 /// and for the rest once a run repeats its cell.
 pub(crate) fn read_column<C: Cell, L: Column<C>>(
     alloc: Global,

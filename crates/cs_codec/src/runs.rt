@@ -13,11 +13,12 @@ use crate::encoding::{CodecFault, ColumnEncoding};
 use crate::numbers::write_number;
 use crate::run_reading::read_column;
 use cs_schema::Code;
+use cs_schema::limits::SEGMENT_ROWS;
 use std::alloc::{AllocError, Global};
 use std::marker::{Model, PhantomData};
 
-/// The encoded form of some cells of a column: the value and length of each run. For one cell that is a number it is
-/// the number, and does not allocate. Contracts see the cells.
+/// An encoded part of a column: the value and the length of each run. A part that has one int stores the int and does
+/// not allocate. Contracts see the cells.
 #[derive(Drop)]
 pub struct RunsPart<C: Cell, L: Column<C>> {
     values: L,
@@ -40,7 +41,7 @@ impl<C: Cell, L: Column<C>> Model for RunsPart<C, L> {
 }
 
 impl<C: Cell, L: Column<C>> RunsPart<C, L> {
-    /// The part of the cells `from..to`.
+    /// Encodes the cells `from..to` of a column.
     fn of(alloc: Global, column: &L, from: usize, to: usize) -> Result<Self, AllocError>
         requires order { from ≤ to }
         requires within { to ≤ length (L.cells column.now) }
@@ -70,7 +71,7 @@ impl<C: Cell, L: Column<C>> RunsPart<C, L> {
         })
     }
 
-    /// Reserves room for `parts` parts with as many runs as this one.
+    /// Reserves room for joining `parts` further parts with as many runs as this one.
     pub fn reserve(&mut self, parts: u32) -> Result<(), AllocError>
         ensures { self.new ≡ self.old }
     {
@@ -100,7 +101,8 @@ impl<C: Cell, L: Column<C>> RunsPart<C, L> {
     fn append_to(self, values: &mut L, counts: &mut Vec<u32>) -> Result<(), AllocError>
         requires short { length (expand (zip_runs (L.cells values.old) counts.old.items)) + length self ≤ 1048576 }
         requires runs { AreColumnsOfRuns C.eq (L.cells values.old) counts.old.items }
-        ensures cells { OnOk result (expand (zip_runs (L.cells values.new) counts.new.items) ≡ expand (zip_runs (L.cells values.old) counts.old.items) ++ self) }
+        ensures cells { OnOk result (expand (zip_runs (L.cells values.new) counts.new.items)
+            ≡ expand (zip_runs (L.cells values.old) counts.old.items) ++ self) }
         ensures runs { OnOk result (AreColumnsOfRuns C.eq (L.cells values.new) counts.new.items) }
     {
         let others = self.values;
@@ -137,7 +139,7 @@ impl<C: Cell, L: Column<C>> RunsPart<C, L> {
     }
 }
 
-/// The text of one cell.
+/// The body of a column of one cell.
 fn write_lone<C: Cell>(alloc: Global, value: &C) -> Result<Vec<u8>, AllocError>
     ensures { IfOk result (λ out. out.items ≡ runs_text C.bytes C.eq (value.now ∷ [])) }
 {
@@ -148,7 +150,7 @@ fn write_lone<C: Cell>(alloc: Global, value: &C) -> Result<Vec<u8>, AllocError>
     Ok(out)
 }
 
-/// The text of some runs.
+/// The body of a column with these runs.
 fn write_runs<C: Cell, L: Column<C>>(
     alloc: Global,
     values: &L,
@@ -170,17 +172,20 @@ fn write_runs<C: Cell, L: Column<C>>(
     Ok(out)
 }
 
-/// Appends runs to others. If the first has the value of the last one before it, the two become one.
+/// Appends runs to others. If the first of them has the value of the last one before it, the two are merged.
 fn append_runs<C: Cell, L: Column<C>>(
     values: &mut L,
     counts: &mut Vec<u32>,
     others: L,
     other_counts: Vec<u32>,
 ) -> Result<(), AllocError>
-    requires short { length (expand (zip_runs (L.cells values.old) counts.old.items)) + length (expand (zip_runs (L.cells others) other_counts.items)) ≤ 1048576 }
+    requires short { length (expand (zip_runs (L.cells values.old) counts.old.items))
+        + length (expand (zip_runs (L.cells others) other_counts.items)) ≤ 1048576 }
     requires runs { AreColumnsOfRuns C.eq (L.cells values.old) counts.old.items }
     requires others { AreColumnsOfRuns C.eq (L.cells others) other_counts.items }
-    ensures cells { OnOk result (expand (zip_runs (L.cells values.new) counts.new.items) ≡ expand (zip_runs (L.cells values.old) counts.old.items) ++ expand (zip_runs (L.cells others) other_counts.items)) }
+    ensures cells { OnOk result (expand (zip_runs (L.cells values.new) counts.new.items)
+        ≡ expand (zip_runs (L.cells values.old) counts.old.items)
+        ++ expand (zip_runs (L.cells others) other_counts.items)) }
     ensures runs { OnOk result (AreColumnsOfRuns C.eq (L.cells values.new) counts.new.items) }
 {
     let mut other_counts = other_counts;
@@ -196,7 +201,7 @@ fn append_runs<C: Cell, L: Column<C>>(
     Ok(())
 }
 
-/// Appends a cell of a column, to the last run if that has its value.
+/// Appends a cell of a column. It extends the last run if that has its value, else it starts a run.
 #[inline]
 fn push_run<C: Cell, L: Column<C>>(
     values: &mut L,
@@ -207,7 +212,9 @@ fn push_run<C: Cell, L: Column<C>>(
     requires at { at < length (L.cells column.now) }
     requires short { length (expand (zip_runs (L.cells values.old) counts.old.items)) + 1 ≤ 1048576 }
     requires runs { AreColumnsOfRuns C.eq (L.cells values.old) counts.old.items }
-    ensures cells { OnOk result ((c : C) → slice_get (L.cells column.now) at ≡ Some c → expand (zip_runs (L.cells values.new) counts.new.items) ≡ expand (zip_runs (L.cells values.old) counts.old.items) ++ c ∷ []) }
+    ensures cells { OnOk result ((c : C) → slice_get (L.cells column.now) at ≡ Some c
+        → expand (zip_runs (L.cells values.new) counts.new.items)
+        ≡ expand (zip_runs (L.cells values.old) counts.old.items) ++ c ∷ []) }
     ensures runs { OnOk result (AreColumnsOfRuns C.eq (L.cells values.new) counts.new.items) }
 {
     let len = counts.len();
@@ -220,7 +227,7 @@ fn push_run<C: Cell, L: Column<C>>(
     Ok(())
 }
 
-/// Appends a cell, to the last run if that has its value.
+/// Appends a cell. It extends the last run if that has its value, else it starts a run.
 #[inline]
 fn push_cell<C: Cell, L: Column<C>>(
     values: &mut L,
@@ -229,7 +236,8 @@ fn push_cell<C: Cell, L: Column<C>>(
 ) -> Result<(), AllocError>
     requires short { length (expand (zip_runs (L.cells values.old) counts.old.items)) + 1 ≤ 1048576 }
     requires runs { AreColumnsOfRuns C.eq (L.cells values.old) counts.old.items }
-    ensures cells { OnOk result (expand (zip_runs (L.cells values.new) counts.new.items) ≡ expand (zip_runs (L.cells values.old) counts.old.items) ++ cell.now ∷ []) }
+    ensures cells { OnOk result (expand (zip_runs (L.cells values.new) counts.new.items)
+        ≡ expand (zip_runs (L.cells values.old) counts.old.items) ++ cell.now ∷ []) }
     ensures runs { OnOk result (AreColumnsOfRuns C.eq (L.cells values.new) counts.new.items) }
 {
     let len = counts.len();
@@ -268,7 +276,7 @@ impl<C: Cell, L: Column<C>> ColumnEncoding<C, L> for Runs {
     }
 
     fn can_join(left: &RunsPart<C, L>, right: &RunsPart<C, L>) -> bool {
-        u64::from(left.count) + u64::from(right.count) <= 1_048_576
+        u64::from(left.count) + u64::from(right.count) <= u64::from(SEGMENT_ROWS)
     }
 
     fn join(left: RunsPart<C, L>, right: RunsPart<C, L>) -> Result<RunsPart<C, L>, AllocError> {

@@ -16,13 +16,11 @@ use crate::fault::CsvFault;
 use crate::header::read_header;
 use crate::record::push_record;
 use crate::source::{next_record, open};
+use cs_schema::limits::TABLE_ROWS;
 use cs_schema::{Catalog, Cells, Column};
 use csv::{ByteRecord, Reader};
 use std::alloc::Global;
 use std::io::Read;
-
-/// The maximum number of rows of a table: a projection has at most 16 segments of at most 1,048,576 rows.
-const MOST_ROWS: u64 = 16_777_216;
 
 /// Appends record `n` after the header to the columns, given the index of each column's field, and says whether there
 /// was one.
@@ -38,12 +36,17 @@ fn read_row<R: Read>(
     requires within { (c : ℕ) → c < length places.now → slice_index places.now c < length places.now }
     ensures count { length cells.new.items ≡ length cells.old.items }
     ensures few { result ≡ Ok true → n < most_rows }
-    ensures more { result ≡ Ok true → (known : Option (List ℕ)) (columns : List ColumnData) (head : Record) (rows : List Record) → RowsRead R.remaining known records.old columns places.now cells.old.items n head rows
+    ensures more { result ≡ Ok true
+        → (known : Option (List ℕ)) (columns : List ColumnData) (head : Record) (rows : List Record)
+        → RowsRead R.remaining known records.old columns places.now cells.old.items n head rows
         → RowsRead R.remaining known records.new columns places.now cells.new.items (n + 1) head (rows ++ fields_of row.new ∷ []) }
-    ensures end { result ≡ Ok false → (known : Option (List ℕ)) (columns : List ColumnData) (head : Record) (rows : List Record) → RowsRead R.remaining known records.old columns places.now cells.old.items n head rows
+    ensures end { result ≡ Ok false
+        → (known : Option (List ℕ)) (columns : List ColumnData) (head : Record) (rows : List Record)
+        → RowsRead R.remaining known records.old columns places.now cells.old.items n head rows
         → IfKnown known (λ all. all ≡ head ∷ rows) }
     ensures same { result ≡ Ok false → cells.new.items ≡ cells.old.items }
-    ensures err { IfErr result (λ fault. (known : Option (List ℕ)) (columns : List ColumnData) (head : Record) (rows : List Record) → RowsRead R.remaining known records.old columns places.now cells.old.items n head rows
+    ensures err { IfErr result (λ fault. (known : Option (List ℕ)) (columns : List ColumnData) (head : Record) (rows : List Record)
+        → RowsRead R.remaining known records.old columns places.now cells.old.items n head rows
         → IfKnown known (λ all. IsFirstFault columns all fault)) }
 {
     match next_record(records, row) {
@@ -51,7 +54,7 @@ fn read_row<R: Read>(
         Ok(false) => return Ok(false),
         Err(fault) => return Err(fault),
     }
-    if n >= MOST_ROWS {
+    if n >= TABLE_ROWS {
         return Err(CsvFault::TooMany);
     }
     if row.len() != places.len() {
@@ -76,12 +79,15 @@ fn read_body<R: Read>(
 ) -> Result<(), CsvFault>
     requires cells { length cells.old.items ≡ length places.now }
     requires within { (c : ℕ) → c < length places.now → slice_index places.now c < length places.now }
-    ensures ok { OnOk result ((known : Option (List ℕ)) (columns : List ColumnData) (head : Record) → RowsRead R.remaining known records.old columns places.now cells.old.items 0 head []
-        → (rows : List Record) × (length rows ≤ most_rows) × HoldsSoFar columns head rows places.now cells.new.items × IfKnown known (λ all. all ≡ head ∷ rows)) }
-    ensures err { IfErr result (λ fault. (known : Option (List ℕ)) (columns : List ColumnData) (head : Record) → RowsRead R.remaining known records.old columns places.now cells.old.items 0 head []
+    ensures ok { OnOk result ((known : Option (List ℕ)) (columns : List ColumnData) (head : Record)
+        → RowsRead R.remaining known records.old columns places.now cells.old.items 0 head []
+        → (rows : List Record) × (length rows ≤ most_rows) × HoldsSoFar columns head rows places.now cells.new.items
+        × IfKnown known (λ all. all ≡ head ∷ rows)) }
+    ensures err { IfErr result (λ fault. (known : Option (List ℕ)) (columns : List ColumnData) (head : Record)
+        → RowsRead R.remaining known records.old columns places.now cells.old.items 0 head []
         → IfKnown known (λ all. IsFirstFault columns all fault)) }
 {
-    for n in 0..=MOST_ROWS {
+    for n in 0..=TABLE_ROWS {
         match read_row(alloc, records, row, n, places, cells) {
             Ok(true) => {}
             Ok(false) => return Ok(()),
@@ -102,7 +108,8 @@ fn read_places<R: Read>(
     requires differ { NamesDiffer columns.now }
     ensures ok { IfOk result (λ places. (head : Record) × IsHeader columns.now head × ArePlaces columns.now head places.items
         × ((known : Option (List ℕ)) → HasRead R.remaining known records.old [] → HasRead R.remaining known records.new (head ∷ []))) }
-    ensures err { IfErr result (λ fault. (known : Option (List ℕ)) → HasRead R.remaining known records.old [] → IfKnown known (λ all. IsFirstFault columns.now all fault)) }
+    ensures err { IfErr result (λ fault. (known : Option (List ℕ)) → HasRead R.remaining known records.old []
+        → IfKnown known (λ all. IsFirstFault columns.now all fault)) }
 {
     match next_record(records, row) {
         Ok(true) => {}
@@ -121,8 +128,11 @@ fn read_table<R: Read>(
 ) -> Result<Vec<Cells>, CsvFault>
     requires some { 0 < length columns.now }
     requires differ { NamesDiffer columns.now }
-    ensures ok { IfOk result (λ cells. (known : Option (List ℕ)) → HasRead R.remaining known records.old [] → (head : Record) × (rows : List Record) × HoldsRows columns.now head rows cells.items × IfKnown known (λ all. all ≡ head ∷ rows)) }
-    ensures err { IfErr result (λ fault. (known : Option (List ℕ)) → HasRead R.remaining known records.old [] → IfKnown known (λ all. IsFirstFault columns.now all fault)) }
+    ensures ok { IfOk result (λ cells. (known : Option (List ℕ)) → HasRead R.remaining known records.old []
+        → (head : Record) × (rows : List Record) × HoldsRows columns.now head rows cells.items
+        × IfKnown known (λ all. all ≡ head ∷ rows)) }
+    ensures err { IfErr result (λ fault. (known : Option (List ℕ)) → HasRead R.remaining known records.old []
+        → IfKnown known (λ all. IsFirstFault columns.now all fault)) }
 {
     let places = match read_places(alloc, columns, records, row) {
         Ok(places) => places,
@@ -146,7 +156,9 @@ fn read_columns<R: Read + Drop>(
 ) -> Result<Vec<Cells>, CsvFault>
     requires some { 0 < length columns.now }
     requires differ { NamesDiffer columns.now }
-    ensures ok { IfOk result (λ cells. (header : Record) × (rows : List Record) × HoldsRows columns.now header rows cells.items × IfKnown (R.remaining reader) (λ records. records ≡ header ∷ rows)) }
+    ensures ok { IfOk result (λ cells. (header : Record) × (rows : List Record)
+        × HoldsRows columns.now header rows cells.items
+        × IfKnown (R.remaining reader) (λ records. records ≡ header ∷ rows)) }
     ensures err { IfErr result (λ fault. IfKnown (R.remaining reader) (λ records. IsFirstFault columns.now records fault)) }
 {
     let mut records = open(alloc, reader);
@@ -167,7 +179,9 @@ pub fn read_rows<R: Read + Drop>(
     catalog: &Catalog,
     reader: R,
 ) -> Result<Vec<Cells>, CsvFault>
-    ensures ok { IfOk result (λ cells. (header : Record) × (rows : List Record) × HoldsRows catalog.now.columns header rows cells.items × IfKnown (R.remaining reader) (λ records. records ≡ header ∷ rows)) }
+    ensures ok { IfOk result (λ cells. (header : Record) × (rows : List Record)
+        × HoldsRows catalog.now.columns header rows cells.items
+        × IfKnown (R.remaining reader) (λ records. records ≡ header ∷ rows)) }
     ensures even { IfOk result (λ cells. AreEven cells.items) }
     ensures err { IfErr result (λ fault. IfKnown (R.remaining reader) (λ records. IsFirstFault catalog.now.columns records fault)) }
 {

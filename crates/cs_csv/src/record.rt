@@ -70,7 +70,8 @@ pub(crate) fn push_record(
     requires count { length cells.old.items ≡ length places.now }
     requires within { (c : ℕ) → c < length places.now → slice_index places.now c < length (fields_of row.now) }
     ensures kinds { kinds_of cells.new.items ≡ kinds_of cells.old.items }
-    ensures ok { OnOk result ((c : ℕ) → c < length places.now → AddsField cells.old.items cells.new.items (field (fields_of row.now) (slice_index places.now c)) c) }
+    ensures ok { OnOk result ((c : ℕ) → c < length places.now
+        → AddsField cells.old.items cells.new.items (field (fields_of row.now) (slice_index places.now c)) c) }
     ensures err { IfErr result (λ fault. IsFirstRefused cells.old.items places.now (fields_of row.now) fault.column fault.why) }
 {
     for column in 0..places.len() {

@@ -6,7 +6,8 @@ ghost use Rattle.csv.specs.Writing.{default_writer, row_text, text_written};
 ghost use Rattle.cs_schema.specs.Values.{values};
 ghost use Rattle.cs_csv.specs.FaultOf.{IsOutside};
 ghost use Rattle.cs_csv.specs.Faults.{cells_at};
-ghost use Rattle.cs_csv.specs.Writing.{AreEven, IsBetween, names_record, records_text, row_count, row_record, rows_records, table_text, value_at, value_text};
+ghost use Rattle.cs_csv.specs.Writing.{AreEven, IsBetween, row_count, table_text, value_at, value_text};
+ghost use Rattle.cs_csv.specs.Writing.{names_record, records_text, row_record, rows_records};
 
 use crate::fault::CsvFault;
 use crate::source::fault_of_error;
@@ -58,7 +59,8 @@ fn fill_names(row: &mut ByteRecord, columns: &[Column]) -> Result<(), AllocError
 
 /// Writes a record.
 fn write_record<W: Write + Drop>(writer: &mut Writer<W>, row: &ByteRecord) -> Result<(), CsvFault>
-    ensures bytes { OnOk result (IsBetween writer.old → Appends (text_written W.contents writer.old) (text_written W.contents writer.new) (row_text default_writer (fields_of row.now))) }
+    ensures bytes { OnOk result (IsBetween writer.old
+        → Appends (text_written W.contents writer.old) (text_written W.contents writer.new) (row_text default_writer (fields_of row.now))) }
     ensures between { OnOk result (IsBetween writer.old → IsBetween writer.new) }
     ensures fails { IfErr result (λ fault. IsOutside fault) }
 {
@@ -76,7 +78,8 @@ fn write_body<W: Write + Drop>(
     rows: usize,
 ) -> Result<(), CsvFault>
     requires { (c : ℕ) → c < length cells.now → length (cells_at cells.now c) ≡ rows }
-    ensures bytes { OnOk result (IsBetween writer.old → Appends (text_written W.contents writer.old) (text_written W.contents writer.new) (records_text (rows_records cells.now rows))) }
+    ensures bytes { OnOk result (IsBetween writer.old
+        → Appends (text_written W.contents writer.old) (text_written W.contents writer.new) (records_text (rows_records cells.now rows))) }
     ensures between { OnOk result (IsBetween writer.old → IsBetween writer.new) }
     ensures fails { IfErr result (λ fault. IsOutside fault) }
 {
@@ -110,7 +113,8 @@ fn write_table<W: Write + Drop>(
     writer: &mut Writer<W>,
 ) -> Result<(), CsvFault>
     requires { AreEven cells.now }
-    ensures bytes { OnOk result (IsBetween writer.old → Appends (text_written W.contents writer.old) (text_written W.contents writer.new) (table_text columns.now cells.now)) }
+    ensures bytes { OnOk result (IsBetween writer.old
+        → Appends (text_written W.contents writer.old) (text_written W.contents writer.new) (table_text columns.now cells.now)) }
     ensures fails { IfErr result (λ fault. IsOutside fault) }
 {
     let mut row = ByteRecord::new(alloc);

@@ -1,4 +1,4 @@
--- Where the cells of a layer are.
+-- The cells of a layer, as they are stored.
 use Rattle.std.proofs.Common.{◌≡◌, ℕ, List, [], ◌∷◌, ◌++◌, map, length, get_or, refl, ap, ◌∙◌}
 use Rattle.std.specs.List.{All}
 use Rattle.std.proofs.lemmas.List.{map_push, get_or_append_left}
@@ -8,7 +8,7 @@ use Rattle.cs_schema.specs.declared.cells.Value.{Value}
 use Rattle.cs_delta.specs.declared.layer_cells.CellPlace.{CellPlace}
 use Rattle.cs_delta.specs.LayerCellsView.{placed, IsThere}
 
--- one more text in the block changes no cell that is there
+-- a text that is appended to the block changes no cell
 kept : (texts : List (List ℕ)) (t : List ℕ) (places : List CellPlace) → All (IsThere texts) places → map (placed (texts ++ t ∷ [])) places ≡ map (placed texts) places
 kept texts t [] h = refl
 kept texts t (CellPlace.Int int ∷ places) h = ap (λ (vs : List Value). Value.Int int ∷ vs) (kept texts t places (All-tail (IsThere texts) (CellPlace.Int int) places h))
@@ -23,6 +23,6 @@ text_pushed texts t places h =
     ∙ ap (λ (b : List ℕ). map (placed (texts ++ t ∷ [])) places ++ Value.Text b ∷ []) (get_or-append_seam texts t [] [])
     ∙ ap (λ (vs : List Value). vs ++ Value.Text t ∷ []) (kept texts t places h)
 
--- a text more in the block, and the cell that it is
+-- a text that is appended to the block, and its cell
 pub text_added : (texts new : List (List ℕ)) (t : List ℕ) (places more : List CellPlace) (cells : List Value) (number : ℕ) → map (placed texts) places ≡ cells → All (IsThere texts) places → number ≡ length texts → new ≡ texts ++ t ∷ [] → more ≡ places ++ CellPlace.Text number ∷ [] → map (placed new) more ≡ cells ++ Value.Text t ∷ []
 text_added texts new t places more cells number v h n et ep = rw (ep, et, n) (text_pushed texts t places h ∙ ap (λ (vs : List Value). vs ++ Value.Text t ∷ []) v)

@@ -1,4 +1,4 @@
--- Edits in order, taken one after the other.
+-- Lists of edits in order, applied one after the other.
 use Rattle.std.proofs.Common.{◌≡◌, ℕ, zero, suc, ◌+◌, ◌-◌, ◌<◌, ◌≤◌, Bool, true, false, cond, ◌||◌, List, [], ◌∷◌, ◌++◌, length, get_or, take, drop, refl, sym, ap, ◌∙◌, arith, append_assoc, add-zero, Some, None, eqb, eqb-true, eq-eqb}
 use Rattle.std.specs.List.{filter_map, list_any, cons_option}
 use Rattle.std.proofs.lemmas.List.{length-drop, drop-drop, drop_more, take_rest}
@@ -99,7 +99,7 @@ module _ {X : Type 0} where
   no_edits i [] = refl
   no_edits i (x ∷ xs) = ap (λ (a : List X). x ∷ a) (no_edits (i + 1) xs)
 
-  -- ---- one step of a merge: `out` is what was made of the elements before `done`
+  -- ---- one step of a merge: `out` is the elements before `done`, edited
 
   to_place : (done at : ℕ) (out base target : List X) (es : List (Edit X)) → AreEdits (length base) at es → done ≤ at → at ≤ length base → target ≡ out ++ edited_from es done (drop done base) → target ≡ (out ++ take (at - done) (drop done base)) ++ edited_from es at (drop at base)
   to_place done at out base target es h l w e =

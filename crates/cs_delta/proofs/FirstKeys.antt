@@ -1,4 +1,4 @@
--- Where the keys 1, 2, 3, .. stand.
+-- The positions of the keys 1, 2, 3, ..
 use Rattle.std.proofs.Common.{◌≡◌, ℕ, zero, suc, ◌+◌, ◌-◌, ◌<◌, ◌≤◌, ◌==◌, ◌≢◌, ◌⊎◌, ⊎_elim, Bool, true, false, cond, map, Some, None, refl, sym, ◌∙◌, arith, eqb-true, eq-eqb}
 use Rattle.std.specs.List.{range_with_len, position}
 use Rattle.std.proofs.lemmas.Bool.{false≢true}
@@ -6,7 +6,7 @@ use Rattle.cs_delta.specs.Places.{first_place}
 use Rattle.cs_delta.specs.KindedImage.{base_keys}
 use Rattle.cs_delta.proofs.KeyPlaces.{is_key, place_none, place_some}
 
--- a key among a + 1, a + 2, ..
+-- a key among a + 1, .., a + m
 in_range : (key i a m : ℕ) → a < key → key ≤ a + m → first_place key i (map (λ x. x + 1) (range_with_len a m)) ≡ i + (key - a)
 in_range key i a zero low high = absurd (omega arith)
 in_range key i a (suc m) low high = go (a + 1 == key) refl (λ (l : a + 1 < key). in_range key (i + 1) (a + 1) m l (omega arith))
@@ -19,7 +19,7 @@ in_range key i a (suc m) low high = go (a + 1 == key) refl (λ (l : a + 1 < key)
         let same : i + 1 + (key - (a + 1)) ≡ i + (key - a) = omega arith in
         h above ∙ same
 
--- a key that isn't among them
+-- a key below them
 below_range : (key i a m : ℕ) → key ≤ a → first_place key i (map (λ x. x + 1) (range_with_len a m)) ≡ 0
 below_range key i a zero h = refl
 below_range key i a (suc m) h = go (a + 1 == key) refl (below_range key (i + 1) (a + 1) m (omega arith))

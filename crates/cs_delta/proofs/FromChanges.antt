@@ -1,4 +1,4 @@
--- The items of a delta are edits in order of each column and of the keys.
+-- The items of a delta, as edits of each column and of the keys, are in order.
 use Rattle.std.proofs.Common.{◌≡◌, ℕ, suc, ◌+◌, ◌<◌, ◌≤◌, ◌==◌, Bool, true, false, cond, List, [], ◌∷◌, refl, sym, ap, subst, ◌∙◌, arith, Some, None, eqb-true, inl, inr}
 use Rattle.std.specs.Prelude.{nat_lt, nat_le, IsTrue, if◌then◌else◌}
 use Rattle.std.specs.List.{cons_option}
@@ -22,19 +22,19 @@ use Rattle.cs_delta.specs.Layers.{HasWidth, IsLayerOf}
 use Rattle.cs_delta.specs.Edits.{Edit, AreEdits}
 use Rattle.cs_delta.specs.ItemView.{cell_edits, key_edits, HasKind}
 
--- positions within n rows
+-- the position of the item is within n rows
 abbrev pub IsWithin : ℕ → Change → Type 0
 IsWithin n (Change.insert at key row) = at ≤ n
 IsWithin n (Change.delete at) = at < n
 IsWithin n (Change.modify at k v) = at < n
 
--- the place from which items may change column j after an item
+-- the lowest position at which an item may change column j after this one
 abbrev pub next_place : ℕ → Change → ℕ
 next_place j (Change.insert at key row) = at
 next_place j (Change.delete at) = at + 1
 next_place j (Change.modify at k v) = if nat_le j k then at + 1 else at
 
--- items in order, by recursion
+-- the items are in order, and the first may follow c
 abbrev pub InOrder : Change → List Change → Type 0
 InOrder c [] = Unit {0}
 InOrder c (e ∷ es) = IsTrue (may_follow c e) × InOrder e es
@@ -45,7 +45,7 @@ weaken n low lower (Edit.put at x ∷ es) l h = (let a = h.0 in omega arith, h.1
 weaken n low lower (Edit.cut at ∷ es) l h = (let a = h.0 in omega arith, h.1, h.2)
 weaken n low lower (Edit.change at x ∷ es) l h = (let a = h.0 in omega arith, h.1, h.2)
 
--- what the order of two items says of places
+-- what the order of two items says of these positions
 abbrev Reaches : ℕ → Change → Change → Type 0
 Reaches j c e = (next_place j c ≤ position_of_change e + 1) × (next_place j c ≤ next_place j e)
 
@@ -64,7 +64,7 @@ next_bounds j (Change.modify at k v) = go (nat_le j k)
     go true = (omega arith, omega arith)
     go false = (omega arith, omega arith)
 
--- an item of another kind than a change of a cell is not before the place that the item before it leaves
+-- an insertion or a deletion is not below the lowest position after the item before it
 reaches_put : (j : ℕ) (c : Change) (to key : ℕ) (row : List Value) → IsTrue (may_follow c (Change.insert to key row)) → next_place j c ≤ to
 reaches_put j (Change.insert at k r) to key row h = le_of at to h
 reaches_put j (Change.delete at) to key row h = omega (arith, lt_of at to h)
@@ -90,7 +90,7 @@ reaches_change j (Change.modify at m w) to k v h = go (at == to) refl h
         same e l false ex false ey = (λ q. omega arith, omega arith)
     go false e h = let l = lt_of at to h in let b = next_bounds j (Change.modify at m w) in let d = next_bounds j (Change.modify to k v) in (λ q. omega (arith, b.1), omega (arith, b.1, d.0))
 
--- the edits of column j that come after an item
+-- the edits of column j after an item are in order
 pub cell_edits_after : (n j : ℕ) (c : Change) (es : List Change) → InOrder c es → ((e : Change) → IsIn e es → IsWithin n e) → AreEdits n (next_place j c) (cell_edits j es)
 cell_edits_after n j c [] o w = tt
 cell_edits_after n j c (Change.insert at key row ∷ es) o w = (reaches_put j c at key row o.0, w (Change.insert at key row) (inl refl), cell_edits_after n j (Change.insert at key row) es o.1 (λ e m. w e (inr m)))
@@ -115,7 +115,7 @@ key_below j (Change.insert at key row) = omega arith
 key_below j (Change.delete at) = omega arith
 key_below j (Change.modify at k v) = (next_bounds j (Change.modify at k v)).0
 
--- the edits of the keys that come after an item
+-- the edits of the keys after an item are in order
 key_edits_after : (n : ℕ) (c : Change) (es : List Change) → InOrder c es → ((e : Change) → IsIn e es → IsWithin n e) → AreEdits n (key_place c) (key_edits es)
 key_edits_after n c [] o w = tt
 key_edits_after n c (Change.insert at key row ∷ es) o w = (omega (arith, key_below 0 c, reaches_put 0 c at key row o.0), w (Change.insert at key row) (inl refl), key_edits_after n (Change.insert at key row) es o.1 (λ e m. w e (inr m)))
@@ -162,7 +162,7 @@ kinds_hold C p d n j kind (Change.insert at key row) e l h = let w = h.3.0 in (o
 kinds_hold C p d n j kind (Change.delete at) e l h = tt
 kinds_hold C p d n j kind (Change.modify at k v) e l h = λ q. kind_is (kind_at C p k) v h.2 ∙ ap (kind_at C p) q ∙ sym e
 
--- the items of a layer are edits of each column and of the keys
+-- a valid layer is a list of edits of each column and of the keys
 pub layer_of : (C : CatalogData) (p : ℕ) (d : DeltaData) (n : ℕ) (l : List Change) → IsLayer C p d n l → IsLayerOf (kinds_at C p) n l
 layer_of C p d n l h = record {
   keys = key_edits_after n (Change.insert 0 0 []) l (from_first l h.order) (λ c m. within C p d n c (h.items c m));

@@ -1,4 +1,4 @@
--- The head of a delta's file, and the file as a whole.
+-- The header of a delta's file, and the file as a whole.
 use Rattle.std.proofs.Common.{◌≡◌, ℕ, ◌^◌, ◌<◌, ◌≤◌, ◌==◌, List, [], ◌∷◌, ◌++◌, map, length, get_or, eq-eqb, refl, sym, ap, subst, ◌∙◌, arith, inl, inr}
 use Rattle.std.proofs.lemmas.Bool.{false≢true}
 use Rattle.std.specs.Prelude.{codes}
@@ -17,7 +17,7 @@ use Rattle.cs_delta.specs.Laws.{OneDelta}
 use Rattle.cs_delta.proofs.Sequences.{same_sequence}
 use Rattle.cs_delta.proofs.ItemTexts.{one_layer, layers_along}
 
--- what follows the name and the place of a delta
+-- what follows the magic bytes and the numbers of projection and segment
 abbrev pub counts_text : ℕ → ℕ → List ℕ → List ℕ
 counts_text rows top rest = be32 rows ++ be32 top ++ rest
 
@@ -27,7 +27,7 @@ one_counts rows top rows2 top2 x y lr lt lr2 lt2 e =
     let second = be32_begins top top2 x y (omega arith) (omega arith) first.1 in
     (first.0, second.0, second.1)
 
--- what stands behind the numbers of a projection and a segment
+-- what follows the number of the projection
 pub placed_is : (p s : ℕ) (bytes front placed : List ℕ) (rows top : ℕ) (rest : List ℕ) → front ≡ be16 p → bytes ≡ front ++ placed → BeginsWithCounts p s bytes rows top rest → placed ≡ be16 s ++ counts_text rows top rest
 placed_is p s bytes front placed rows top rest f e h = append_cancel_left (be16 p) placed (be16 s ++ counts_text rows top rest) (ap (λ (a : List ℕ). a ++ placed) (sym f) ∙ sym e ∙ h.text)
 
@@ -73,7 +73,7 @@ not_both x y e =
     let h : 49 ≡ 50 = ap (λ (l : List ℕ). get_or l 0 0) tails in
     false≢true (eq-eqb 49 50 h)
 
--- bytes begin with one head, and one text follows it
+-- bytes begin with at most one header, and one remainder follows it
 pub one_head : (p s : ℕ) (bytes : List ℕ) (version layers rows top version2 layers2 rows2 top2 : ℕ) (x y : List ℕ) → BeginsWithHead p s bytes version layers rows top x → BeginsWithHead p s bytes version2 layers2 rows2 top2 y → SameHead version layers rows top x version2 layers2 rows2 top2 y
 one_head p s bytes version layers rows top version2 layers2 rows2 top2 x y h k = go h.version_is k.version_is
   where
@@ -96,7 +96,7 @@ one_head p s bytes version layers rows top version2 layers2 rows2 top2 x y h k =
         let same = same_second p s layers layers2 rows top rows2 top2 x y h.count h.top_limit k.count k.top_limit e in
         record { same_version = a.0 ∙ sym b.0; same_layers = same.same_layers; same_rows = same.same_rows; same_top = same.same_top; same_rest = same.same_rest }
 
--- where no counts stand behind a name, no head stands there
+-- if no counts follow the magic bytes, there is no header
 pub no_first : (p s : ℕ) (bytes named : List ℕ) (version layers rows top : ℕ) (rest : List ℕ) → bytes ≡ codes "CSDEL001" ++ named → NoCounts p s named → BeginsWithHead p s bytes version layers rows top rest → ⊥
 no_first p s bytes named version layers rows top rest e none h = go h.version_is
   where
@@ -159,7 +159,7 @@ file_head C p s bytes body d e file =
       top_limit = file.delta.top_limit;
     }
 
--- the layers of the file stand behind the head that was found
+-- the layers of the file follow the header that was found
 pub file_layers : (C : CatalogData) (p s : ℕ) (bytes body parts : List ℕ) (version layers rows top : ℕ) (d : DeltaData) → bytes ≡ sealed body → BeginsWithHead p s body version layers rows top parts → IsDeltaFile C p s bytes d → AreLayersOf C p rows top layers parts d.layers
 file_layers C p s bytes body parts version layers rows top d e h file =
     let same = one_head p s body version layers rows top d.version (length d.layers) d.rows d.top parts (concat (map layer_text d.layers)) h (file_head C p s bytes body d e file) in
@@ -170,7 +170,7 @@ file_layers C p s bytes body parts version layers rows top d e h file =
       count_is = sym same.same_layers;
     }
 
--- the delta that was read is the file's
+-- the delta that was read is that of the file
 pub read_is : (C : CatalogData) (p s : ℕ) (bytes body parts : List ℕ) (d e : DeltaData) (layers : ℕ) → bytes ≡ sealed body → d.p ≡ p → d.s ≡ s → BeginsWithHead p s body d.version layers d.rows d.top parts → AreLayersOf C p d.rows d.top layers parts d.layers → IsDeltaFile C p s bytes e → e ≡ d
 read_is C p s bytes body parts d e layers q pe se h ls file =
     let same = one_head p s body d.version layers d.rows d.top e.version (length e.layers) e.rows e.top parts (concat (map layer_text e.layers)) h (file_head C p s bytes body e q file) in
@@ -210,7 +210,7 @@ file_found C p s bytes body parts d layers q pe se h ls keys = record {
       ∙ ap (λ (x : List ℕ). version_text d.version ++ be16 d.p ++ be16 d.s ++ be32 d.rows ++ be32 d.top ++ number_text d.version (length d.layers) ++ x) ls.text);
 }
 
--- bytes are the file of one delta
+-- bytes are the file of at most one delta
 pub one_delta : OneDelta
 one_delta C p s bytes d e f g =
     read_is C p s bytes (delta_body e) (concat (map layer_text e.layers)) e d (length e.layers) g.text g.p_is g.s_is (file_head C p s bytes (delta_body e) e g.text g)

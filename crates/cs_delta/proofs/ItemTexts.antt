@@ -1,4 +1,4 @@
--- Bytes begin with one cell, row, item or layer.
+-- Bytes begin with at most one cell, row, item or layer.
 use Rattle.std.proofs.Common.{◌≡◌, ℕ, zero, suc, ◌+◌, ◌^◌, ◌<◌, List, [], ◌∷◌, ◌++◌, map, length, get_or, refl, sym, ap, subst, ◌∙◌, arith, inl, inr, pos}
 use Rattle.std.specs.List.{concat}
 use Rattle.std.proofs.lemmas.List.{append_cancel_left}
@@ -150,7 +150,7 @@ pub layers_of : (C : CatalogData) (p rows top n : ℕ) (ls : List (List Change))
 layers_of C p rows top n [] h = tt
 layers_of C p rows top n (l ∷ ls) h = (h.0, layers_of C p rows top (rows_after n l) ls h.1)
 
--- ---- what stands behind the count of a layer
+-- ---- what follows the count of a layer
 
 pub behind_count : (C : CatalogData) (p rows top n count : ℕ) (bytes behind : List ℕ) (l : List Change) (rest : List ℕ) → bytes ≡ be32 count ++ behind → count < 2 ^ 32 → BeginsWithLayer C p rows top n bytes l rest → (count ≡ length l) × (behind ≡ concat (map change_bytes l) ++ rest)
 behind_count C p rows top n count bytes behind l rest e lc h = be32_begins count (length l) behind (concat (map change_bytes l) ++ rest) lc h.layer.number (sym e ∙ h.text)

@@ -1,4 +1,4 @@
--- The keys that items give, and whether a key stands twice.
+-- The keys that items give, and whether a key occurs twice.
 use Rattle.std.proofs.Common.{◌≡◌, ℕ, ◌+◌, ◌-◌, ◌<◌, ◌≤◌, ◌==◌, Bool, true, false, cond, List, [], ◌∷◌, ◌++◌, length, get_or, take, sym, ap, ◌∙◌, arith, eq-eqb, append_assoc, nat_cmp}
 use Rattle.std.specs.Prelude.{IsTrue, slice_get, Some}
 use Rattle.std.specs.List.{filter_map, IsDistinct, AllAdjacentBelow, count_by}
@@ -20,7 +20,7 @@ taken_more xs i x e = take_more xs i x (slice_get_within xs i x e) ∙ ap (λ (y
 keys_more : (xs : List Change) (i : ℕ) (x : Change) → slice_get xs i ≡ Some x → filter_map inserted_key (take (i + 1) xs) ≡ filter_map inserted_key (take i xs) ++ filter_map inserted_key (x ∷ [])
 keys_more xs i x e = ap (filter_map inserted_key) (taken_more xs i x e) ∙ filter_map-append inserted_key (take i xs) (x ∷ [])
 
--- one item more among those counted
+-- one more item is counted
 pub count_more : (test : Change → Bool) (xs : List Change) (i : ℕ) (x : Change) → slice_get xs i ≡ Some x → count_by test (take (i + 1) xs) ≡ count_by test (take i xs) + count_by test (x ∷ [])
 count_more test xs i x e = ap (count_by test) (taken_more xs i x e) ∙ sum_by-append (λ c. cond (test c) 1 0) (take i xs) (x ∷ [])
 
@@ -30,7 +30,7 @@ flips x y = grind (arith, nat_tests)
 differ : (x y : ℕ) → x < y → (x == y) ≡ false
 differ x y l = grind (arith, nat_tests)
 
--- keys that a sort brought in order, no two neighbours the same
+-- keys are distinct if no two neighbours are equal after sorting
 pub distinct_sorted : (xs ys : List ℕ) → IsPermutation xs ys → IsSorted nat_cmp ys → ((k : ℕ) → k + 1 < length ys → get_or ys k 0 ≡ get_or ys (k + 1) 0 → ⊥) → IsDistinct ◌==◌ xs
 distinct_sorted xs ys shuffled sorted apart =
     IsDistinct-IsPermutation ◌==◌ flips ys xs (IsPermutation-sym xs ys shuffled) (IsDistinct-from_apart ◌==◌ ys (λ i j d ij jl. differ (get_or ys i d) (get_or ys j d) (below_from_sorted ys i j d (sorted_from_strictly_increasing ys rises) ij jl)))

@@ -1,4 +1,4 @@
--- Where keys stand.
+-- The index of a list of keys.
 use Rattle.std.proofs.Common.{◌≡◌, ℕ, suc, ◌+◌, ◌-◌, ◌<◌, ◌==◌, Bool, true, false, cond, not, List, [], ◌∷◌, length, get_or, drop, refl, sym, ap, ◌∙◌, arith, Some, None, eqb-true, eq-eqb}
 use Rattle.std.specs.Prelude.{slice_set, nat_lt}
 use Rattle.std.specs.List.{position, position_or_len}
@@ -16,7 +16,7 @@ is_key key k = k == key
 less_suc : (m n : ℕ) → nat_lt (1 + m) (suc n) ≡ nat_lt m n
 less_suc m n = search rules
 
--- one key more in front
+-- one more key, in front of the others, is indexed
 pub place_more : (keys places : List ℕ) (i at value key : ℕ) → i < length keys → at ≡ get_or keys i 0 → at < length places → value ≡ i + 1 → get_or places key 0 ≡ first_place key (i + 1) (drop (i + 1) keys) → get_or (slice_set places at value) key 0 ≡ first_place key i (drop i keys)
 place_more keys places i at value key l e lt v h = go (at == key) refl ∙ sym (ap (first_place key i) (drop_more keys i 0 l ∙ ap (λ (k : ℕ). k ∷ drop (i + 1) keys) (sym e)))
   where

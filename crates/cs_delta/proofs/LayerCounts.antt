@@ -1,4 +1,4 @@
--- How many rows a layer leaves, and what may be merged.
+-- The number of rows after a layer, and what may be merged.
 use Rattle.std.proofs.Common.{◌≡◌, ℕ, ◌+◌, ◌-◌, ◌<◌, ◌≤◌, Bool, cond, List, [], ◌∷◌, ◌++◌, length, take, drop, refl, sym, ap, subst, ◌∙◌, arith}
 use Rattle.std.specs.List.{count_by}
 use Rattle.std.proofs.lemmas.List.{length-append, length-take, length-drop}
@@ -34,7 +34,7 @@ deleted_sum all n from at m d i dels ins k e1 e2 e3 e4 e5 low high = omega arith
 changed_sum : (all d i dels ins n : ℕ) → dels ≡ 0 + d → ins ≡ 0 + i → all + d ≡ n + i → all + dels ≡ n + ins
 changed_sum all d i dels ins n e1 e2 e3 = omega arith
 
--- each row from `from` on, and those inserted, without those deleted
+-- the rows from `from` on, and those inserted, without those deleted
 keys_left : (keys : List ℕ) (from : ℕ) (l : List Change) → from ≤ length keys → AreEdits (length keys) from (key_edits l) → length (edited_from (key_edits l) from (drop from keys)) + count_by is_delete l ≡ (length keys - from) + count_by is_insert l
 keys_left keys from [] low h =
     let all : edited_from [] from (drop from keys) ≡ take (length keys - from) (drop from keys) = end_step from [] keys (edited_from [] from (drop from keys)) low refl in

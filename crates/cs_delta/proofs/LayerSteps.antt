@@ -1,4 +1,4 @@
--- One layer after others.
+-- Applying one layer after others.
 use Rattle.std.proofs.Common.{◌≡◌, ℕ, suc, ◌+◌, ◌<◌, ◌≤◌, List, [], ◌∷◌, ◌++◌, map, length, get_or, take, drop, refl, sym, ap, subst, ◌∙◌, arith}
 use Rattle.std.specs.Prelude.{All}
 use Rattle.std.proofs.lemmas.List.{length-map, take-append-drop}
@@ -50,7 +50,7 @@ made_more keys ks new columns cs vs ls l m wide ek ev few = record {
   keys_are = λ xs e. ap (map key_of) (layered-push ls l xs) ∙ keys_after ks l (layered ls xs) (m.keys_are xs e) ∙ sym ek;
 }
 
--- the columns after a layer are as long as its keys
+-- after a layer, each column has as many cells as there are keys
 pub lengths_after : (keys new : List ℕ) (columns vs : List (List Value)) (l : List Change) → HaveLength (length keys) columns → ((c : Change) → IsIn c l → HasWidth (length columns) c) → new ≡ edited_from (key_edits l) 0 keys → vs ≡ edited_columns l 0 columns → HaveLength (length new) vs
 lengths_after keys new columns vs l h wide ek ev =
     let one = lengths_of (edited_from (key_edits l) 0 keys) (edited_columns l 0 columns) _ (pairs_applied keys columns _ l wide (kept_pairs keys columns h)) in
@@ -77,7 +77,7 @@ too_many keys ks columns cs all ls ms l xs s m e many fit =
 pub widths_of : (kinds : List Kind) (n : ℕ) (l : List Change) (w : ℕ) → length kinds ≡ w → IsLayerOf kinds n l → (c : Change) → IsIn c l → HasWidth w c
 widths_of kinds n l w e h c m = let P : ℕ → Type 0 = λ k. HasWidth k c in subst P e (h.widths c m)
 
--- a layer with no items leaves keys and columns as they are
+-- a layer without items leaves the keys as they are
 pub same_keys : (l : List Change) (keys : List ℕ) → l ≡ [] → keys ≡ edited_from (key_edits l) 0 keys
 same_keys l keys e = sym (no_edits 0 keys) ∙ ap (λ (a : List Change). edited_from (key_edits a) 0 keys) (sym e)
 
@@ -88,7 +88,7 @@ no_columns_edited j (v ∷ vs) = ap (λ (x : List Value). x ∷ edited_columns [
 pub same_columns : (l : List Change) (columns : List (List Value)) → l ≡ [] → columns ≡ edited_columns l 0 columns
 same_columns l columns e = sym (no_columns_edited 0 columns) ∙ ap (λ (a : List Change). edited_columns a 0 columns) (sym e)
 
--- what the layers that are done have made of keys and columns, of which more layers are left
+-- the layers that are done give these keys and columns, and others are left to apply
 pub record AreMade (keys : List ℕ) (columns : List (List Value)) (kinds : List Kind) (done left : List (List Change)) (new_keys : List ℕ) (new_columns : List (List Value)) (new_kinds : List Kind) : Type 0 where
   pub made_is : IsMadeBy keys columns done new_keys new_columns
   pub layers_left : AreLayers new_kinds new_keys left
@@ -110,7 +110,7 @@ made_next keys ks new columns cs vs kinds before next done l left m ek ev eb few
       width = ap length eb ∙ m.width ∙ sym (ap length ev ∙ length-edited_columns l 0 cs);
     }
 
--- a layer with no items leaves pairs as they are
+-- a layer without items leaves the pairs as they are
 nothing_applied : (i : ℕ) (xs : List Pair) → applied_from [] i xs ≡ xs
 nothing_applied i [] = refl
 nothing_applied i (x ∷ xs) = ap (λ (ys : List Pair). x ∷ ys) (nothing_applied (i + 1) xs)
@@ -133,7 +133,7 @@ nothing_fits (l ∷ ls) xs h few =
     let same : applied l xs ≡ xs = ap (λ (m : List Change). applied m xs) h.0 ∙ nothing_applied 0 xs in
     rw same (few, nothing_fits ls xs h.1 few)
 
--- layers with no items leave keys and columns as they are
+-- layers without items leave keys and columns as they are
 pub made_of_nothing : (keys : List ℕ) (columns : List (List Value)) (ls : List (List Change)) → length keys ≤ 1048576 → All (λ l. l ≡ []) ls → IsMadeBy keys columns ls keys columns
 made_of_nothing keys columns ls few h =
     let none = are_empty ls h in

@@ -1,4 +1,4 @@
--- Worked rows of layered deltas, by computation.
+-- Worked examples of images of one and two layers, checked by computation.
 use Rattle.std.proofs.Common.{◌≡◌, List, [], ◌∷◌, refl, pos}
 use Rattle.cs_schema.specs.declared.cells.Value.{Value}
 use Rattle.cs_segment.specs.SegmentFile.{Base}

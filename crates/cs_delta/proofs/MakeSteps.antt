@@ -26,11 +26,11 @@ module _ {X : Type 0} (base target out new : List X) (done at : ℕ) where
     parts = change_step done at x out base target es d m.edits m.parts ∙ ap (λ (a : List X). a ++ edited_from es (at + 1) (drop (at + 1) base)) (sym e);
   }
 
--- the list is made where no edit is left
+-- if no edit is left, copying the rest makes the target
 pub made_all : {X : Type 0} (base target out : List X) (done : ℕ) (es : List (Edit X)) → done ≤ length base → es ≡ [] → Makes base target out done es → out ++ take (length base - done) (drop done base) ≡ target
 made_all {X} base target out done es l e m = sym (end_step done out base target l (m.parts ∙ ap (λ (a : List (Edit X)). out ++ edited_from a done (drop done base)) e))
 
--- the element that stands at a place, and what is behind it
+-- the list from position i on is the element there and the elements after it
 pub drop_item : {X : Type 0} (xs : List X) (i : ℕ) (x : X) → i < length xs → x ≡ get_or xs i x → drop i xs ≡ x ∷ drop (i + 1) xs
 drop_item {X} xs i x l e = drop_more xs i x l ∙ ap (λ (y : X). y ∷ drop (i + 1) xs) (sym e)
 
@@ -39,7 +39,7 @@ stands_in [] i x l e = absurd (omega arith)
 stands_in (y ∷ xs) zero x l e = inl e
 stands_in (y ∷ xs) (suc i) x l e = inr (stands_in xs i x (omega arith) e)
 
--- the first of some edits, where an item makes one
+-- the first edit of a list, if an item gives one
 pub first_edit : {X : Type 0} (n from : ℕ) (e : Option (Edit X)) (es : List (Edit X)) → AreEdits n from (cons_option e es) → AreEdits n from (cons_option e [])
 first_edit n from None es h = tt
 first_edit n from (Some (Edit.put at x)) es h = (h.0, h.1, tt)

@@ -1,4 +1,4 @@
--- What a merge makes of a base.
+-- A base and a delta merge to the image.
 use Rattle.std.proofs.Common.{◌≡◌, ℕ, ◌+◌, ◌<◌, List, [], ◌∷◌, ◌++◌, map, length, get_or, sym, ap, ◌∙◌, arith, pos}
 use Rattle.std.proofs.lemmas.List.FromFn.{get_or-map-range_with_len, length-map-range_with_len, map-range_with_len_more}
 use Rattle.cs_schema.specs.declared.kinds.Kind.{Kind}
@@ -31,7 +31,7 @@ merged_is b d kinds made_kinds keys columns top h m et ek =
 pub can_merge : (b : Base) (d : DeltaData) (keys : List ℕ) (columns : List (List Value)) → HaveLength b.rows b.columns → b.rows ≡ d.rows → IsMadeBy (base_keys b.rows) b.columns d.layers keys columns → CanMerge b d
 can_merge b d keys columns h e m = record { rows = e; few = m.few (base_pairs b) (base_are b h).keys_are }
 
--- what an image's fields say
+-- the columns, keys and rows of an image that is stored as keys and columns
 pub column_is : (keys : List ℕ) (columns : List (List Value)) (m : ImageData) (j : ℕ) → m.pairs ≡ pairs_of keys columns → HaveLength (length keys) columns → j < length columns → image_column m j ≡ get_or columns j []
 column_is keys columns m j e h l = ap (map (cell_of j)) e ∙ (kept_pairs keys columns h).cells_are j l
 

@@ -1,4 +1,4 @@
--- The columns of what items make of pairs.
+-- Applying items to pairs is applying them to the keys and to each column.
 use Rattle.std.proofs.Common.{◌≡◌, ℕ, zero, suc, ◌+◌, ◌<◌, ◌==◌, Bool, true, false, cond, ◌||◌, List, [], ◌∷◌, ◌++◌, map, length, get_or, take, refl, sym, ap, subst, ◌∙◌, arith, add-zero, Some, None, eqb-true, eq-eqb, pos, inl, inr}
 use Rattle.std.specs.Prelude.{slice_set}
 use Rattle.std.specs.List.{filter_map, list_any, cons_option, AllByRecursion}
@@ -190,7 +190,7 @@ pairs_applied keys columns xs items h p = record {
         ∙ ap (λ n. edited_from (cell_edits n items) 0 (get_or columns j [])) (sym (zero_j j))
         ∙ sym (edited_column items 0 j columns l)
 
--- one more column
+-- one more column is edited
 pub columns_more : {A : Type 0} (f : A → List Value) (items : List Change) (xs : List A) (j : ℕ) (x : A) (done : List (List Value)) (v : List Value) → j < length xs → x ≡ get_or xs j x → done ≡ edited_columns items 0 (map f (take j xs)) → v ≡ edited_from (cell_edits j items) 0 (f x) → done ++ v ∷ [] ≡ edited_columns items 0 (map f (take (j + 1) xs))
 columns_more {A} f items xs j x done v l e ed ev =
     ap (λ (a : List (List Value)). a ++ v ∷ []) ed

@@ -1,4 +1,4 @@
--- Pairs that are kept as keys and columns.
+-- Pairs that are stored as keys and columns.
 use Rattle.std.proofs.Common.{◌≡◌, ℕ, zero, suc, ◌+◌, ◌<◌, List, [], ◌∷◌, map, length, get_or, refl, sym, ap, ◌∙◌, arith, pos}
 use Rattle.std.specs.List.{AllByRecursion, range_with_len}
 use Rattle.std.proofs.lemmas.List.{length-map, get_or-map, ext_get_or}
@@ -47,7 +47,7 @@ module _ (n : ℕ) (key : ℕ → ℕ) (columns : List (List Value)) where
           get_or-map (cell_of j) made i no_pair no_value (omega (arith, length-made)) ∙ ap (cell_of j) (made_at i m)
           ∙ get_or-map (λ v. cell v i) columns j [] no_value l
 
--- pairs are those of their keys and columns
+-- keys and columns store the pairs that have them
 pub pairs_are : (keys : List ℕ) (columns : List (List Value)) (xs : List Pair) → ArePairs keys columns xs → xs ≡ pairs_of keys columns
 pairs_are keys columns xs p = ext_get_or no_pair xs (pairs_of keys columns) (count ∙ sym (length-map-range_with_len (λ i. (get_or keys i 0, map (λ v. cell v i) columns)) 0 (length keys))) (λ i l. at i l)
   where
@@ -75,7 +75,7 @@ pairs_are keys columns xs p = ext_get_or no_pair xs (pairs_of keys columns) (cou
         ap (λ (k : ℕ). (k, (get_or xs i no_pair).1)) key ∙ ap (λ (r : List Value). (get_or keys i 0, r)) (row_is i l)
         ∙ sym (get_or-map-range_with_len (λ i. (get_or keys i 0, map (λ v. cell v i) columns)) 0 (length keys) i i no_pair lt (omega arith))
 
--- the columns of pairs have as many cells as there are keys
+-- each column of pairs has as many cells as there are keys
 pub lengths_of : (keys : List ℕ) (columns : List (List Value)) (xs : List Pair) → ArePairs keys columns xs → (j : ℕ) → j < length columns → length (get_or columns j []) ≡ length keys
 lengths_of keys columns xs p j l = sym (ap length (p.cells_are j l)) ∙ length-map xs (cell_of j) ∙ sym (length-map xs key_of) ∙ ap length p.keys_are
 

@@ -1,4 +1,4 @@
--- Texts that stand one after the other, each judged by what those before it leave.
+-- Encodings one after the other, each valid in a state that those before it leave.
 use Rattle.std.proofs.Common.{◌≡◌, ℕ, ◌<◌, List, [], ◌∷◌, ◌++◌, map, length, refl, sym, ap, subst, ◌∙◌, arith, append_assoc}
 use Rattle.std.specs.List.{concat}
 use Rattle.std.proofs.lemmas.List.{append-nil}
@@ -24,7 +24,7 @@ pub texts-push : {X : Type 0} (f : X → List ℕ) (xs : List X) (x : X) → con
 texts-push f [] x = append-nil (f x)
 texts-push f (y ∷ xs) x = ap (λ (a : List ℕ). f y ++ a) (texts-push f xs x) ∙ sym (append_assoc (f y) (concat (map f xs)) (f x))
 
--- the texts of what was read, and then the rest
+-- the bytes are the encodings of `done`, each valid in its state, then `rest`
 pub record IsReadSoFar {X : Type 0} (f : X → List ℕ) (next : ℕ → X → ℕ) (P : ℕ → X → Type 0) (n : ℕ) (bytes : List ℕ) (done : List X) (rest : List ℕ) : Type 0 where
   pub text : bytes ≡ concat (map f done) ++ rest
   pub all : AllAlong next P n done
@@ -35,7 +35,7 @@ read_more f next P n bytes done rest x behind h e k = record {
   all = all-push next P n done x h.all k;
 }
 
--- where others go on, one of them stands next
+-- if a longer sequence has the same bytes, its next encoding comes next
 pub stands_next : {X : Type 0} (f : X → List ℕ) (next : ℕ → X → ℕ) (P : ℕ → X → Type 0) (one : (n : ℕ) → BeginsOne f (P n)) (n : ℕ) (done : List X) (rest : List ℕ) (others : List X) (end : List ℕ) → AllAlong next P n done → AllAlong next P n others → concat (map f done) ++ rest ≡ concat (map f others) ++ end → length done < length others
     → ((x : X) (behind : List ℕ) → rest ≡ f x ++ behind → P (along next n done) x → ⊥) → ⊥
 stands_next f next P one n [] rest [] end hd ho e l none = absurd (omega arith)
@@ -46,7 +46,7 @@ stands_next {X} f next P one n (x ∷ done) rest (y ∷ ys) end hd ho e l none =
     let A : X → Type 0 = λ z. AllAlong next P (next n z) ys in
     stands_next f next P one (next n x) done rest ys end hd.1 (subst A (sym both.0) ho.1) both.1 (omega arith) none
 
--- as many others are the same, and the same follows them
+-- a sequence of equal length with the same bytes is equal, and the same bytes follow it
 pub same_sequence : {X : Type 0} (f : X → List ℕ) (next : ℕ → X → ℕ) (P : ℕ → X → Type 0) (one : (n : ℕ) → BeginsOne f (P n)) (n : ℕ) (done : List X) (rest : List ℕ) (others : List X) (end : List ℕ) → AllAlong next P n done → AllAlong next P n others → concat (map f done) ++ rest ≡ concat (map f others) ++ end → length done ≡ length others → (done ≡ others) × (rest ≡ end)
 same_sequence f next P one n [] rest [] end hd ho e l = (refl, e)
 same_sequence f next P one n [] rest (y ∷ ys) end hd ho e l = absurd (omega arith)

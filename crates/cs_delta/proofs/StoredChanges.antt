@@ -1,4 +1,4 @@
--- What the items of a layer change, while cells are added to it.
+-- The changes of a layer's items stay the same while cells are added to it.
 use Rattle.std.proofs.Common.{◌≡◌, ℕ, ◌≤◌, List, [], ◌∷◌, ◌++◌, map, length, take, drop, refl, ap, ◌∙◌, arith, pos}
 use Rattle.std.specs.List.{All}
 use Rattle.std.proofs.lemmas.List.{map_push, length-append, length-drop, get_or_append_left, take-append-le, drop-append-le}
@@ -12,14 +12,14 @@ use Rattle.cs_delta.specs.StoredItems.{stored_change, AreAmong}
 use Rattle.cs_delta.proofs.Sequences.{IsReadSoFar}
 use Rattle.cs_delta.proofs.ItemTexts.{next_column, IsCellAt}
 
--- the cells of a row that are added so far
+-- the cells of a row that have been added so far
 pub record IsRowSoFar (C : CatalogData) (p : ℕ) (bytes : List ℕ) (old new : List Value) (rest : List ℕ) (j : ℕ) : Type 0 where
   pub row : List Value
   pub added : new ≡ old ++ row
   pub so_far : IsReadSoFar cell_bytes next_column (IsCellAt C p) 0 bytes row rest
   pub count : length row ≡ j
 
--- cells behind those of an item change nothing of it
+-- cells that are appended after those of an item do not change it
 same_change : (cells more : List Value) (width : ℕ) (item : StoredItem) → AreAmong (length cells) width item → stored_change (cells ++ more) width item ≡ stored_change cells width item
 same_change cells more width (StoredItem.Insert at key from) h =
     let front : drop from (cells ++ more) ≡ drop from cells ++ more = drop-append-le from cells more (omega arith) in
@@ -33,7 +33,7 @@ same_changes cells more width (item ∷ items) h =
     ap (λ (c : Change). c ∷ map (stored_change (cells ++ more) width) items) (same_change cells more width item (All-head (AreAmong (length cells) width) item items h))
     ∙ ap (λ (l : List Change). stored_change cells width item ∷ l) (same_changes cells more width items (All-tail (AreAmong (length cells) width) item items h))
 
--- one item more, and the cells that it gives
+-- one more item, and its cells
 pub changes_more : (cells new more : List Value) (width : ℕ) (items next : List StoredItem) (item : StoredItem) → new ≡ cells ++ more → next ≡ items ++ item ∷ [] → All (AreAmong (length cells) width) items → map (stored_change new width) next ≡ map (stored_change cells width) items ++ stored_change new width item ∷ []
 changes_more cells new more width items next item e n h =
     ap (map (stored_change new width)) n ∙ map_push (stored_change new width) items item

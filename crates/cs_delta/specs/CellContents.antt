@@ -1,4 +1,4 @@
--- What stands in a cell as a plain one.
+-- The content of a cell as a plain value.
 use Rattle.std.specs.Prelude.{◌≤◌, length}
 use Rattle.cs_schema.specs.declared.cells.Value.{Value}
 use Rattle.cs_delta.specs.declared.layer_cells.CellContent.{CellContent}

@@ -1,4 +1,4 @@
--- The files of deltas, of both versions, and the image that a base and a delta merge to.
+-- The files of deltas, of both versions, and the image that a base has under a delta.
 use Rattle.std.specs.Prelude.{◌≡◌, ℕ, ◌+◌, ◌-◌, ◌<◌, ◌≤◌, ◌==◌, nat_lt, nat_le, Bool, true, false, if◌then◌else◌, List, [], ◌∷◌, ◌++◌, map, length, codes, Option, Some, None, IsTrue, ◌^◌, ◌⊎◌, count_by}
 use Rattle.std.specs.List.{concat, filter_map, flat_map, IsDistinct, AllAdjacentBelow}
 use Rattle.cs_schema.specs.declared.cells.Value.{Value}
@@ -12,7 +12,8 @@ use Rattle.cs_segment.specs.Bytes.{be16, be32}
 use Rattle.cs_segment.specs.SegmentFile.{sealed, Base}
 use Rattle.cs_delta.specs.Image.{Change, Pair, ImageData, applied, layered, base_pairs}
 
--- A delta: its version, the rows of its base, the highest key that was ever given, and its layers, lowest first.
+-- a delta: its version, the number of rows of its base, the highest key ever given in the segment, and its layers, the
+-- lowest first
 pub record DeltaData : Type 0 where
   pub p : ℕ
   pub s : ℕ
@@ -31,17 +32,18 @@ position_of_change (Change.insert at key row) = at
 position_of_change (Change.delete at) = at
 position_of_change (Change.modify at j v) = at
 
--- a cell of its column's kind for each column of the projection
+-- the row has a cell for each column of the projection, of the column's kind
 abbrev pub IsCellsOf : CatalogData → ℕ → List Value → Type 0
 IsCellsOf C p row = (length row ≡ length (projection C p).columns) × ((j : ℕ) → j < length row → IsOfKind (kind_at C p j) (cell row j))
 
--- an item on n rows; its key is above the base's rows
+-- a valid item on n rows; the key of an inserted row is above those of the base, and at most `top`
 abbrev pub IsChange : CatalogData → ℕ → DeltaData → ℕ → Change → Type 0
 IsChange C p d n (Change.insert at key row) = (at ≤ n) × (d.rows < key) × (key ≤ d.top) × IsCellsOf C p row
 IsChange C p d n (Change.delete at) = at < n
 IsChange C p d n (Change.modify at j v) = (at < n) × (j < length (projection C p).columns) × IsOfKind (kind_at C p j) v
 
--- at one position insertions come first, then one deletion or modifications of ascending columns
+-- whether an item may come right after another: items ascend by position, and at one position insertions come first,
+-- then one deletion or modifications of ascending columns
 abbrev pub may_follow : Change → Change → Bool
 may_follow (Change.insert at key row) c = nat_le at (position_of_change c)
 may_follow (Change.delete at) c = nat_lt at (position_of_change c)
@@ -66,23 +68,23 @@ is_delete (Change.insert at key row) = false
 is_delete (Change.delete at) = true
 is_delete (Change.modify at j v) = false
 
--- how many rows a layer leaves of n
+-- the number of rows after a layer on n rows
 abbrev pub rows_after : ℕ → List Change → ℕ
 rows_after n l = n + count_by is_insert l - count_by is_delete l
 
--- A layer on n rows. Its count of items, and the positions, stand in four bytes.
+-- a valid layer on n rows; its number of items, and each position, fit 4 bytes
 pub record IsLayer (C : CatalogData) (p : ℕ) (d : DeltaData) (n : ℕ) (l : List Change) : Type 0 where
   pub number : length l < 2 ^ 32
   pub below : n < 2 ^ 32
   pub items : (c : Change) → IsIn c l → IsChange C p d n c
   pub order : AllAdjacentBelow (λ c e. IsTrue (may_follow c e)) l (length l)
 
--- each layer is one on the rows of the image below it
+-- each layer is valid on the rows that the layers below it leave
 abbrev pub AreLayersFrom : CatalogData → ℕ → DeltaData → ℕ → List (List Change) → Type 0
 AreLayersFrom C p d n [] = Unit {0}
 AreLayersFrom C p d n (l ∷ ls) = IsLayer C p d n l × AreLayersFrom C p d (rows_after n l) ls
 
--- version 1 has one layer, version 2 from 1 to 3
+-- version 1 has one layer, version 2 has one to three
 abbrev pub HasVersion : ℕ → ℕ → Type 0
 HasVersion version layers = (version ≡ 1) × (layers ≡ 1) ⊎ (version ≡ 2) × (1 ≤ layers) × (layers ≤ 3)
 
@@ -94,7 +96,7 @@ pub record IsDelta (C : CatalogData) (p : ℕ) (d : DeltaData) : Type 0 where
   pub layers : AreLayersFrom C p d d.rows d.layers
   pub keys : IsDistinct ◌==◌ (flat_map (filter_map inserted_key) d.layers)
 
--- ---- texts
+-- ---- bytes
 
 abbrev pub change_bytes : Change → List ℕ
 change_bytes (Change.insert at key row) = 1 ∷ be32 at ++ be32 key ++ concat (map cell_bytes row)
@@ -119,22 +121,22 @@ pub record IsDeltaFile (C : CatalogData) (p s : ℕ) (bytes : List ℕ) (d : Del
   pub delta : IsDelta C p d
   pub text : bytes ≡ delta_text d
 
--- the delta with no items on n rows
+-- the empty delta on n rows
 abbrev pub no_changes : ℕ → ℕ → ℕ → DeltaData
 no_changes p s n = record { p = p; s = s; version = 1; rows = n; top = n; layers = [] ∷ [] }
 
 -- ---- merging
 
--- the image of a base under a delta's layers
+-- the image: a base with a delta's layers applied
 abbrev pub merged : Base → DeltaData → ImageData
 merged b d = record { pairs = layered d.layers (base_pairs b); top = d.top }
 
--- every layer's image has few enough rows
+-- no layer leaves more rows than a segment may have
 abbrev pub AllFit : List (List Change) → List Pair → Type 0
 AllFit [] xs = Unit {0}
 AllFit (l ∷ ls) xs = (length (applied l xs) ≤ row_limit) × AllFit ls (applied l xs)
 
--- the base counts agree, and the image of each layer has few enough rows
+-- the delta is for a base of this many rows, and no layer leaves too many rows
 pub record CanMerge (b : Base) (d : DeltaData) : Type 0 where
   pub rows : b.rows ≡ d.rows
   pub few : AllFit d.layers (base_pairs b)

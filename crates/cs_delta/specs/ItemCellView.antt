@@ -1,4 +1,4 @@
--- An item's cell as a plain one.
+-- An item's cell as a plain value.
 use Rattle.std.specs.Prelude.{◌<◌, length}
 use Rattle.cs_schema.specs.declared.cells.Value.{Value}
 use Rattle.cs_schema.specs.Rows.{cell}

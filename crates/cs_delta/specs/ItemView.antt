@@ -1,4 +1,4 @@
--- Items as plain data, and the edits that they are of a column and of the keys.
+-- Items as plain changes, and as edits of a column and of the keys.
 use Rattle.std.specs.Prelude.{◌≡◌, ℕ, ◌<◌, ◌==◌, if◌then◌else◌, List, length, Option, Some, None}
 use Rattle.std.specs.List.{filter_map}
 use Rattle.cs_schema.specs.declared.kinds.Kind.{Kind}
@@ -30,7 +30,7 @@ cell_edits j items = filter_map (cell_edit j) items
 abbrev pub key_edits : List Change → List (Edit ℕ)
 key_edits items = filter_map key_edit items
 
--- what the item has for a column has the column's kind
+-- the cell that the item has for column j, if any, has the column's kind
 abbrev pub HasKind : Kind → ℕ → Change → Type 0
 HasKind kind j (Change.insert at key row) = (j < length row) × (value_kind (cell row j) ≡ kind)
 HasKind kind j (Change.delete at) = Unit {0}

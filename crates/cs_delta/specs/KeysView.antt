@@ -7,6 +7,6 @@ use Rattle.cs_delta.specs.Places.{IsIndex}
 abbrev pub key_list : Inside → List ℕ
 key_list a = base_keys a.first ++ a.listed.items
 
--- few keys, listed with their places; where there are first ones, none is listed
+-- few keys, with an index of the listed ones; if there are first ones, none is listed
 abbrev pub AreKeys : Inside → Type 0
 AreKeys a = (length (key_list a) ≤ 1048576) × IsIndex a.places.items a.listed.items × ((a.first ≡ 0) ⊎ (a.listed.items ≡ []))

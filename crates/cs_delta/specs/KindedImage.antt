@@ -1,4 +1,4 @@
--- Images with the kinds of their columns, and when a segment and a delta may be merged.
+-- Images with the kinds of their columns, and when a delta may be applied to a segment.
 use Rattle.std.specs.Prelude.{◌≡◌, ℕ, ◌+◌, ◌<◌, ◌≤◌, List, map, length}
 use Rattle.cs_schema.specs.declared.kinds.Kind.{Kind}
 use Rattle.cs_schema.specs.declared.cells.Value.{Value}
@@ -13,7 +13,7 @@ use Rattle.cs_delta.specs.Image.{Pair, ImageData}
 use Rattle.cs_delta.specs.DeltaFile.{DeltaData, IsDelta, merged}
 use Rattle.cs_delta.specs.Layers.{AreLayers}
 
--- an image with the kinds of its columns, which an image of no rows does not show
+-- an image with the kinds of its columns, which an image without rows does not show
 pub record KindedImage : Type 0 where
   pub kinds : List Kind
   pub image : ImageData
@@ -25,7 +25,7 @@ base_keys n = map (λ i. i + 1) (numbers_below n)
 abbrev pub merged_image : SegmentData → DeltaData → KindedImage
 merged_image segment d = record { kinds = segment.kinds; image = merged segment.base d }
 
--- a segment and a delta of one projection of some catalog
+-- the segment and the delta are of one projection of some catalog
 pub record AreOfOneCatalog (segment : SegmentData) (d : DeltaData) : Type 0 where
   pub catalog : CatalogData
   pub p : ℕ
@@ -35,12 +35,12 @@ pub record AreOfOneCatalog (segment : SegmentData) (d : DeltaData) : Type 0 wher
   pub kinds_are : segment.kinds ≡ kinds_at catalog p
   pub delta : IsDelta catalog p d
 
--- the segment is a base, and the delta is one for its columns
+-- the segment's columns have its number of rows, and the delta's layers suit their kinds
 pub record MayMerge (segment : SegmentData) (d : DeltaData) : Type 0 where
   pub count : segment.base.rows ≤ row_limit
   pub lengths : (j : ℕ) → j < length segment.base.columns → length (base_column segment.base j) ≡ segment.base.rows
   pub layers : AreLayers segment.kinds (base_keys d.rows) d.layers
 
--- the cells of an image's column
+-- the cells of an image's j-th column
 abbrev pub image_column : ImageData → ℕ → List Value
 image_column m j = map (λ (x : Pair). cell x.1 j) m.pairs

@@ -1,4 +1,4 @@
--- A layer as the changes that its items are.
+-- A layer as a list of changes.
 use Rattle.std.specs.Prelude.{List, map, length}
 use Rattle.std.specs.List.{All}
 use Rattle.cs_delta.specs.Image.{Change}

@@ -1,4 +1,4 @@
--- A layer of items on columns, and lists of pairs kept by columns.
+-- Layers applied column by column, and lists of pairs that are stored as keys and columns.
 use Rattle.std.specs.Prelude.{◌≡◌, ℕ, ◌+◌, ◌<◌, slice_index, List, [], ◌∷◌, map, length, slice_index_or}
 use Rattle.std.specs.List.{AllByRecursion}
 use Rattle.cs_schema.specs.declared.kinds.Kind.{Kind}
@@ -16,7 +16,7 @@ HasWidth width (Change.insert at key row) = length row ≡ width
 HasWidth width (Change.delete at) = Unit {0}
 HasWidth width (Change.modify at j v) = Unit {0}
 
--- items in order on n rows of these kinds
+-- the items are a layer on n rows with columns of these kinds
 pub record IsLayerOf (kinds : List Kind) (n : ℕ) (items : List Change) : Type 0 where
   pub keys : AreEdits n 0 (key_edits items)
   pub cells : (j : ℕ) → j < length kinds → AreEdits n 0 (cell_edits j items)
@@ -29,31 +29,32 @@ key_of x = x.0
 abbrev pub cell_of : ℕ → Pair → Value
 cell_of j x = cell x.1 j
 
--- the pairs have these keys, and these columns of cells
+-- the pairs have these keys, and their cells are these columns
 pub record ArePairs (keys : List ℕ) (columns : List (List Value)) (xs : List Pair) : Type 0 where
   pub keys_are : map key_of xs ≡ keys
   pub cells_are : (j : ℕ) → j < length columns → map (cell_of j) xs ≡ slice_index_or columns j []
   pub widths : AllByRecursion (λ x. length x.1 ≡ length columns) xs
 
--- the columns with the items applied, from number j on
+-- the columns, the first of which has number j, with the items applied
 abbrev pub edited_columns : List Change → ℕ → List (List Value) → List (List Value)
 edited_columns items j [] = []
 edited_columns items j (v ∷ vs) = edited_from (cell_edits j items) 0 v ∷ edited_columns items (j + 1) vs
 
--- each layer is in order on the rows that the layers below it leave of rows with these keys
+-- each is a layer on the rows that those below it leave; the lowest is on rows with these keys
 abbrev pub AreLayers : List Kind → List ℕ → List (List Change) → Type 0
 AreLayers kinds keys [] = Unit {0}
 AreLayers kinds keys (l ∷ ls) = IsLayerOf kinds (length keys) l × AreLayers kinds (edited_from (key_edits l) 0 keys) ls
 
--- the pairs that are kept as keys and columns
+-- the pairs that these keys and columns store
 abbrev pub pairs_of : List ℕ → List (List Value) → List Pair
 pairs_of keys columns = map (λ i. (slice_index keys i, map (λ v. cell v i) columns)) (numbers_below (length keys))
 
--- all columns have n cells
+-- each column has n cells
 abbrev pub HaveLength : ℕ → List (List Value) → Type 0
 HaveLength n columns = (j : ℕ) → j < length columns → length (slice_index_or columns j []) ≡ n
 
--- the layers make these keys and columns of whatever pairs have the old ones, and few enough rows each
+-- the layers, applied to any pairs with the old keys and columns, give pairs with the new ones, and none leaves too
+-- many rows
 pub record IsMadeBy (keys : List ℕ) (columns : List (List Value)) (layers : List (List Change)) (new_keys : List ℕ) (new_columns : List (List Value)) : Type 0 where
   pub pairs : (xs : List Pair) → ArePairs keys columns xs → ArePairs new_keys new_columns (layered layers xs)
   pub few : (xs : List Pair) → map key_of xs ≡ keys → AllFit layers xs

@@ -1,4 +1,4 @@
-//! All columns with the items of a layer applied.
+//! Applying the layers of a delta to all columns of a segment.
 ghost use Rattle.std.specs.Prelude.{◌≡◌, ◌≤◌, ◌<◌, ℕ, List, map, length, IfOk};
 ghost use Rattle.cs_schema.specs.Values.{values, kind_of};
 ghost use Rattle.cs_delta.specs.Image.{Pair};
@@ -10,22 +10,20 @@ ghost use Rattle.cs_delta.specs.DeltaFile.{AllFit};
 use crate::layer::Layer;
 use crate::merging::{merge_column, merge_keys};
 use cs_schema::Cells;
+use cs_schema::limits::SEGMENT_ROWS;
 use cs_segment::fault::FileFault;
 use std::alloc::Global;
 use std::mem::replace;
 
-/// The keys of rows, and their cells by columns.
+/// The storage keys of rows, and the cells of each column.
 #[derive(Drop)]
 pub struct Rows {
     pub keys: Vec<u32>,
     pub columns: Vec<Cells>,
 }
 
-/// The most rows of an image.
-const ROW_LIMIT: usize = 1_048_576;
-
-/// The rows with the items of a layer applied, in the room of spent columns. A column is spent as soon as it is merged: so
-/// the next one of its kind is made in its room.
+/// Applies the items of a layer to rows. A column is added to `spent` once it is merged, so that the next one of its
+/// kind reuses its memory. `Damaged` if the layer leaves more than 1,048,576 rows.
 pub fn apply_layer(
     alloc: Global,
     spent: &mut Vec<Cells>,
@@ -42,14 +40,14 @@ pub fn apply_layer(
     ensures many { result ≡ Err FileFault.Damaged → 1048576 < length (edited_from (key_edits layer.now) 0 keys.now) }
 {
     let merged_keys = merge_keys(alloc, keys, layer)?;
-    if merged_keys.len() > ROW_LIMIT {
+    if merged_keys.len() > SEGMENT_ROWS as usize {
         return Err(FileFault::Damaged);
     }
     let rows = merged_keys.len();
     let mut merged = Vec::new(alloc);
     let mut columns = columns;
     for j in 0..columns.len() {
-        // they are few: so it takes no time that those behind move up
+        // a projection has at most 32 columns, so moving the others up costs little
         let column = columns.remove(0);
         merged.push(merge_column(alloc, spent, rows, &column, layer, j)?)?;
         spent.push(column)?;
@@ -60,8 +58,8 @@ pub fn apply_layer(
     })
 }
 
-/// The rows with the items of layers applied, the lowest first. A layer above the lowest that has no items makes no
-/// columns anew.
+/// Applies layers to rows, the lowest first. A layer above the lowest is skipped if it has no items. `Damaged` if a
+/// layer leaves more than 1,048,576 rows.
 pub fn apply_layers(
     alloc: Global,
     keys: &[u32],

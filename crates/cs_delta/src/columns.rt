@@ -1,4 +1,4 @@
-//! Columns that grow by cells of other columns.
+//! Columns that are built from the cells of other columns.
 ghost use Rattle.std.specs.Prelude.{◌≡◌, ◌++◌, ◌∷◌, [], length, IsTrue, OnOk};
 ghost use Rattle.cs_schema.specs.Values.{values, kind_of, value_kind};
 
@@ -7,7 +7,7 @@ use crate::layer_cells::CellContent;
 use cs_schema::Cells;
 use std::alloc::{AllocError, Global};
 
-/// A column of no cells, of the kind of another one.
+/// An empty column of the kind of another one.
 pub fn empty_like(alloc: Global, cells: &Cells) -> Cells
     ensures values { values result ≡ [] }
     ensures kind { kind_of result ≡ kind_of cells.now }
@@ -15,7 +15,7 @@ pub fn empty_like(alloc: Global, cells: &Cells) -> Cells
     Cells::new(alloc, cells.kind())
 }
 
-/// Whether cells are of one kind.
+/// Whether two columns are of the same kind.
 fn are_alike(cells: &Cells, others: &Cells) -> bool
     ensures { IsTrue result → kind_of cells.now ≡ kind_of others.now }
 {
@@ -26,7 +26,7 @@ fn are_alike(cells: &Cells, others: &Cells) -> bool
     }
 }
 
-/// No cells, in the room of these.
+/// An empty column that reuses the memory of this one.
 fn emptied(cells: Cells) -> Cells
     ensures values { values result ≡ [] }
     ensures kind { kind_of result ≡ kind_of cells }
@@ -36,7 +36,7 @@ fn emptied(cells: Cells) -> Cells
     cells
 }
 
-/// A column of no cells, of the kind of another one, in the room of a spent column where one is of this kind.
+/// An empty column of the kind of `cells`. It takes over the memory of a column in `spent` if one is of that kind.
 pub fn empty_in(alloc: Global, spent: &mut Vec<Cells>, cells: &Cells) -> Cells
     ensures values { values result ≡ [] }
     ensures kind { kind_of result ≡ kind_of cells.now }
@@ -56,7 +56,7 @@ pub fn count(cells: &Cells) -> usize
     cells.len()
 }
 
-/// Appends a cell.
+/// Appends the cell of an item, which is of the column's kind.
 pub fn push(out: &mut Cells, cell: &ItemCell) -> Result<(), AllocError>
     requires { value_kind cell.now ≡ kind_of out.old }
     ensures values { OnOk result (values out.new ≡ values out.old ++ cell.now ∷ []) }

@@ -1,4 +1,4 @@
-//! Images: segments with their deltas merged.
+//! Images: segments with their deltas applied.
 ghost use Rattle.std.specs.Prelude.{◌≡◌, ◌≤◌, ◌<◌, ℕ, List, length, slice_index, slice_index_or, IfOk, IsTrue, All, []};
 ghost use Rattle.cs_schema.specs.declared.kinds.Kind.{Kind};
 ghost use Rattle.cs_schema.specs.Values.{values, kind_of};
@@ -17,7 +17,7 @@ use cs_segment::segment::Segment;
 use std::alloc::{AllocError, Global};
 use std::marker::Model;
 
-/// A segment with its delta merged: live keys, and the cells of their rows by columns.
+/// The live rows of a segment after its delta is applied: their storage keys, and the cells of each column.
 #[derive(Drop)]
 pub struct Image {
     keys: Keys,
@@ -45,14 +45,14 @@ impl Image {
         self.keys.len()
     }
 
-    /// The highest key that was ever given.
+    /// The highest storage key ever given in the segment.
     pub fn top(&self) -> u32
         ensures { result ≡ self.now.image.top }
     {
         self.top
     }
 
-    /// The cells of a column of the projection.
+    /// The cells of the `j`-th column of the projection.
     pub fn column(&self, j: usize) -> &Cells
         requires { j < length self.now.kinds }
         ensures values { values result.now ≡ image_column self.now.image j }
@@ -61,7 +61,7 @@ impl Image {
         &self.columns[j]
     }
 
-    /// The key of a row.
+    /// The storage key of the row at a position, from 0.
     pub fn key_at(&self, i: u32) -> u32
         requires { i < length self.now.image.pairs }
         ensures { result ≡ slice_index (image_keys self.now.image) i }
@@ -69,7 +69,7 @@ impl Image {
         self.keys.at(i)
     }
 
-    /// The position of a live key.
+    /// The position of the row with this key, or `None` if no live row has it.
     pub fn position_of(&self, key: u32) -> Option<u32>
         ensures { result ≡ position_of_key self.now.image key }
     {
@@ -77,7 +77,7 @@ impl Image {
     }
 }
 
-/// The keys 1, 2, 3, .., so many.
+/// The keys 1 to `rows`.
 fn first_keys(alloc: Global, rows: u32) -> Result<Vec<u32>, AllocError>
     requires { rows ≤ 1048576 }
     ensures { IfOk result (λ keys. keys.items ≡ base_keys rows) }
@@ -89,7 +89,8 @@ fn first_keys(alloc: Global, rows: u32) -> Result<Vec<u32>, AllocError>
     Ok(keys)
 }
 
-/// The image of a segment and its delta, made of a copy of the segment.
+/// Applies a delta to a copy of a segment. `Damaged` if the delta is for another number of rows, or if a layer leaves
+/// more than 1,048,576 rows.
 pub fn merge(alloc: Global, segment: &Segment, delta: &Delta) -> Result<Image, FileFault>
     requires { AreOfOneCatalog segment.now delta.now }
     ensures merged { IfOk result (λ image. image ≡ merged_image segment.now delta.now) }
@@ -100,7 +101,8 @@ pub fn merge(alloc: Global, segment: &Segment, delta: &Delta) -> Result<Image, F
     merge_owned(alloc, copy, delta)
 }
 
-/// The image of a segment that isn't wanted any more, and its delta. Where no item changes it, its columns are moved.
+/// Applies a delta to a segment. If the delta has no items, the columns are moved. `Damaged` if the delta is for
+/// another number of rows, or if a layer leaves more than 1,048,576 rows.
 pub fn merge_owned(alloc: Global, segment: Segment, delta: &Delta) -> Result<Image, FileFault>
     requires { AreOfOneCatalog segment delta.now }
     ensures merged { IfOk result (λ image. image ≡ merged_image segment delta.now) }

@@ -6,11 +6,11 @@ use crate::item_cell::ItemCell;
 use crate::layer_cells::LayerCells;
 use std::marker::Model;
 
-/// The cells of an inserted row, among those of its layer. A contract sees what stands in them.
+/// The cells of an inserted row, borrowed from its layer. Contracts see their values.
 #[derive(Drop)]
 pub struct ItemRow<'a> {
     pub(crate) cells: &'a LayerCells,
-    /// The number of the first.
+    /// The index of the row's first cell among the cells of the layer.
     pub(crate) from: usize,
     pub(crate) width: usize,
 }
@@ -29,20 +29,20 @@ impl<'a> Model for ItemRow<'a> {
 }
 
 impl<'a> ItemRow<'a> {
-    /// How many cells these are.
+    /// The number of cells.
     pub fn len(&self) -> usize
         ensures { result ≡ length self.now }
     {
         self.width
     }
 
-    /// The cell in a column of the projection.
+    /// The cell in the `j`-th column of the projection.
     pub fn cell(&self, j: usize) -> ItemCell<'a>
         requires { j < length self.now }
         ensures { result ≡ cell self.now j }
     {
         let cells = self.cells;
-        // their number fits, and so does that of each
+        // the call states that the number of cells fits `usize`, and so does each index
         let _count = cells.len();
         ItemCell {
             cells,
@@ -51,7 +51,8 @@ impl<'a> ItemRow<'a> {
     }
 }
 
-/// A change of rows at a position: a row before it with its key, no such row, or a cell in its place.
+/// A change at position `at`, from 0, of the image of the layers below: a row with a key is inserted before that
+/// position, the row there is deleted, or a cell of that row is replaced.
 #[derive(Drop)]
 pub enum Item<'a> {
     Insert {

@@ -1,11 +1,11 @@
-//! The cells that items give.
+//! The cells of items.
 ghost use Rattle.std.specs.Prelude.{◌≡◌};
 ghost use Rattle.cs_delta.specs.CellContents.{content_value, IsShort};
 
 use crate::layer_cells::{CellContent, LayerCells};
 use std::marker::Model;
 
-/// A cell that an item gives, among those of its layer. A contract sees what stands in it.
+/// A cell of an item, borrowed from its layer. Contracts see its value.
 #[derive(Drop)]
 pub struct ItemCell<'a> {
     pub(crate) cells: &'a LayerCells,
@@ -25,7 +25,7 @@ impl<'a> Model for ItemCell<'a> {
 }
 
 impl<'a> ItemCell<'a> {
-    /// What stands in the cell.
+    /// The content of the cell.
     pub fn content(&self) -> CellContent<'a>
         ensures value { content_value result ≡ self.now }
         ensures fits { IsShort result }

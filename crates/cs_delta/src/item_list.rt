@@ -1,4 +1,4 @@
-//! The items of a layer as a list: their order, and the rows that they leave.
+//! The order of a layer's items, and the number of rows that they leave.
 ghost use Rattle.std.specs.Prelude.{◌≡◌, ◌<◌, ◌↔◌, ◌^◌, length, IsTrue};
 ghost use Rattle.std.specs.List.{AllAdjacentBelow};
 ghost use Rattle.cs_delta.specs.ItemView.{change_of};
@@ -7,7 +7,7 @@ ghost use Rattle.cs_delta.specs.DeltaFile.{may_follow, rows_after};
 use crate::item::Item;
 use crate::layer::Layer;
 
-/// Whether an item may stand behind another.
+/// Whether an item may come right after another.
 fn follows(item: &Item, next: &Item) -> bool
     ensures { result ≡ may_follow (change_of item.now) (change_of next.now) }
 {
@@ -37,7 +37,7 @@ fn follows(item: &Item, next: &Item) -> bool
     }
 }
 
-/// Whether each item may stand behind the one before it.
+/// Whether each item may come right after the one before it.
 pub(crate) fn are_in_order(layer: &Layer) -> bool
     ensures { IsTrue result ↔ AllAdjacentBelow (λ c e. IsTrue (may_follow c e)) layer.now (length layer.now) }
 {
@@ -49,7 +49,7 @@ pub(crate) fn are_in_order(layer: &Layer) -> bool
     true
 }
 
-/// How many rows a layer leaves of so many.
+/// The number of rows after a layer on `below` rows.
 pub(crate) fn rows_left(below: u32, layer: &Layer) -> u64
     requires { length layer.now < 2 ^ 32 }
     ensures value { result ≡ rows_after below layer.now }

@@ -1,4 +1,4 @@
-//! The keys of an image's rows, and where each stands.
+//! The storage keys of an image's rows, and the position of each.
 ghost use Rattle.std.specs.Prelude.{◌≡◌, ◌≤◌, ◌<◌, ◌==◌, length, slice_index, IfOk};
 ghost use Rattle.std.specs.List.{position};
 ghost use Rattle.cs_delta.specs.Places.{IsIndex};
@@ -7,14 +7,14 @@ ghost use Rattle.cs_delta.specs.KindedImage.{base_keys};
 use std::alloc::{AllocError, Global};
 use std::marker::Model;
 
-/// Keys of at most 1,048,576 rows: 1, 2, 3, .., so many, or else those that are listed.
+/// The keys of at most 1,048,576 rows: either 1, 2, 3 and so on without gaps, or a list.
 ///
-/// A segment that no item changes lists none, and so its keys take no memory and are found without a look.
+/// The keys of a segment without changes are not listed, so they take no memory and are found without a search.
 #[derive(Drop)]
 pub struct Keys {
     first: u32,
     listed: Vec<u32>,
-    /// For each listed key one more than its position, and 0 for what is none.
+    /// Indexed by key: one more than the position of a listed key, and 0 for any other number.
     places: Vec<u32>,
 }
 
@@ -30,7 +30,7 @@ impl Model for Keys {
 }
 
 impl Keys {
-    /// The keys of so many rows that no item changes: 1, 2, 3, ..
+    /// The keys 1 to `count`: those of a base that no item changes.
     pub fn first(alloc: Global, count: u32) -> Self
         requires { count ≤ 1048576 }
         ensures { result ≡ base_keys count }
@@ -42,7 +42,7 @@ impl Keys {
         }
     }
 
-    /// These keys.
+    /// These keys, with an index of 4 bytes for each number up to the highest of them.
     pub fn listed(alloc: Global, keys: Vec<u32>) -> Result<Self, AllocError>
         requires { length keys.items ≤ 1048576 }
         ensures { IfOk result (λ listed. listed ≡ keys.items) }
@@ -55,7 +55,7 @@ impl Keys {
         })
     }
 
-    /// How many keys there are.
+    /// The number of keys.
     pub fn len(&self) -> u32
         ensures { result ≡ length self.now }
     {
@@ -73,7 +73,7 @@ impl Keys {
         self.listed[(i - self.first) as usize]
     }
 
-    /// The position of a key.
+    /// The position of a key, or `None` if it is not among them. It takes constant time.
     pub fn position_of(&self, key: u32) -> Option<u32>
         ensures { result ≡ position (λ k. k == key) self.now }
     {
@@ -93,7 +93,7 @@ impl Keys {
     }
 }
 
-/// For each key one more than its position, and 0 for what is no key.
+/// The index of a list of keys: at each key one more than its first position, and 0 at all other numbers.
 fn index_keys(alloc: Global, keys: &[u32]) -> Result<Vec<u32>, AllocError>
     requires { length keys.now ≤ 1048576 }
     ensures { IfOk result (λ places. IsIndex places.items keys.now) }

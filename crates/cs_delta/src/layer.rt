@@ -9,12 +9,12 @@ use crate::layer_cells::LayerCells;
 use crate::stored_item::StoredItem;
 use std::marker::Model;
 
-/// The items of a layer, and the cells that they give, whose texts lie in one block. A contract sees the changes.
+/// The items of a layer, and their cells, whose texts are in one block. Contracts see the changes.
 #[derive(Drop)]
 pub struct Layer {
     items: Vec<StoredItem>,
     cells: LayerCells,
-    /// How many cells a row has.
+    /// The number of cells of a row.
     width: usize,
 }
 
@@ -32,7 +32,7 @@ impl Model for Layer {
 }
 
 impl Layer {
-    /// The layer of items whose cells are among these.
+    /// A layer of these items, whose cells are in `cells`. An inserted row has `width` cells.
     pub(crate) fn new(items: Vec<StoredItem>, cells: LayerCells, width: usize) -> Self
         requires { All (AreAmong (length cells) width) items.items }
         ensures { result ≡ map (stored_change cells width) items.items }
@@ -44,21 +44,21 @@ impl Layer {
         }
     }
 
-    /// How many items it has.
+    /// The number of items.
     pub fn len(&self) -> usize
         ensures { result ≡ length self.now }
     {
         self.items.len()
     }
 
-    /// Whether it has none.
+    /// Whether there are no items.
     pub fn is_empty(&self) -> bool
         ensures { result ≡ (length self.now == 0) }
     {
         self.len() == 0
     }
 
-    /// The item of a number.
+    /// The item at an index, from 0.
     pub fn item(&self, number: usize) -> Item<'_>
         requires { number < length self.now }
         ensures { slice_get self.now number ≡ Some (change_of result) }

@@ -1,4 +1,4 @@
-//! The cells that the items of a layer give, one after the other.
+//! The cells of a layer's items, in order.
 ghost use Rattle.std.specs.Prelude.{◌≡◌, ◌<◌, ◌≤◌, [], ◌∷◌, ◌++◌, length, OnOk, OnErr};
 ghost use Rattle.cs_schema.specs.declared.cells.Value.{Value as ValueData};
 ghost use Rattle.cs_schema.specs.Rows.{cell};
@@ -8,21 +8,21 @@ use cs_schema::Texts;
 use std::alloc::{AllocError, Global};
 use std::marker::Model;
 
-/// What stands in a cell: an int, or a text of at most 255 bytes.
+/// The content of a cell: an int, or a text of at most 255 bytes.
 #[derive(Clone, Copy)]
 pub enum CellContent<'a> {
     Int(i64),
     Text(&'a str),
 }
 
-/// Where a cell is: an int here, a text by its number in the block.
+/// A cell as it is stored: an int, or the index of a text in the block.
 #[derive(Clone, Copy)]
 enum CellPlace {
     Int(i64),
     Text(usize),
 }
 
-/// Cells, whose texts lie in one block. A contract sees what stands in them.
+/// Cells, whose texts are in one block. Contracts see their values.
 #[derive(Drop)]
 pub(crate) struct LayerCells {
     places: Vec<CellPlace>,
@@ -53,14 +53,14 @@ impl LayerCells {
         }
     }
 
-    /// How many cells these are.
+    /// The number of cells.
     pub(crate) fn len(&self) -> usize
         ensures { result ≡ length self.now }
     {
         self.places.len()
     }
 
-    /// What stands in the cell of a number.
+    /// The content of the cell at an index.
     pub(crate) fn content(&self, at: usize) -> CellContent<'_>
         requires { at < length self.now }
         ensures value { content_value result ≡ cell self.now at }
@@ -72,7 +72,7 @@ impl LayerCells {
         }
     }
 
-    /// Adds an int. A refusal changes nothing.
+    /// Appends an int. If memory is refused, nothing changes.
     pub(crate) fn push_int(&mut self, int: i64) -> Result<(), AllocError>
         ensures ok { OnOk result (self.new ≡ self.old ++ ValueData.Int int ∷ []) }
         ensures err { OnErr result (self.new ≡ self.old) }
@@ -81,7 +81,7 @@ impl LayerCells {
         Ok(())
     }
 
-    /// Adds a text. A refusal changes nothing.
+    /// Appends a text. If memory is refused, nothing changes.
     pub(crate) fn push_text(&mut self, text: &str) -> Result<(), AllocError>
         requires { length text.now ≤ 255 }
         ensures ok { OnOk result (self.new ≡ self.old ++ ValueData.Text text.now ∷ []) }

@@ -1,7 +1,7 @@
-//! Deltas and the images that they make of segments.
+//! Deltas, and the images that segments have once deltas are applied: positional updates (Héman et al., SIGMOD 2010).
 //!
-//! A delta's file, of either version, is read exactly: bytes are the file of one delta or `Damaged`. A segment and
-//! its delta are merged into the image that positional updates give: layer over layer, in time linear in rows and items.
+//! A delta's file of either version is read exactly: bytes are the file of exactly one delta, or `Damaged`. The layers
+//! of a delta are applied to a segment one after the other, each in time linear in its rows and items.
 #![tactic(auto)]
 
 mod applying;

@@ -1,4 +1,4 @@
-//! One column, or the keys, with the items of a layer applied.
+//! Applying the items of a layer to one column, or to the keys.
 ghost use Rattle.std.specs.Prelude.{◌≡◌, ◌≤◌, ℕ, List, [], ◌∷◌, length, IfOk};
 ghost use Rattle.cs_schema.specs.Values.{values, kind_of};
 ghost use Rattle.cs_delta.specs.Image.{Change};
@@ -13,7 +13,8 @@ use crate::layer::Layer;
 use cs_schema::Cells;
 use std::alloc::{AllocError, Global};
 
-/// Applies an item to a column of which `done` cells are taken, and tells how many are taken then.
+/// Applies an item to column `j`, whose first `done` cells have been copied or dropped. Returns how many are done after
+/// it.
 fn apply_to_column(
     out: &mut Cells,
     base: &Cells,
@@ -53,7 +54,8 @@ fn apply_to_column(
     }
 }
 
-/// Applies an item to the keys of which `done` are taken, and tells how many are taken then.
+/// Applies an item to the keys, the first `done` of which have been copied or dropped. Returns how many are done after
+/// it.
 fn apply_to_keys(
     out: &mut Vec<u32>,
     base: &[u32],
@@ -81,7 +83,8 @@ fn apply_to_keys(
     }
 }
 
-/// A column with the items of a layer applied, which leave so many rows, in the room of the first spent column.
+/// Column `j` with the items of a layer applied. Room for `rows` cells is reserved. The memory of a column in `spent`
+/// is reused if one is of this kind.
 pub fn merge_column(
     alloc: Global,
     spent: &mut Vec<Cells>,
@@ -96,7 +99,7 @@ pub fn merge_column(
     ensures kind { IfOk result (λ cells. kind_of cells ≡ kind_of base.now) }
 {
     let mut out = empty_in(alloc, spent, base);
-    // items may bring longer texts than they take, so with some room to spare
+    // new texts may be longer than those that they replace, so an eighth more bytes are reserved
     let size = base.text_size();
     out.reserve(rows, size.saturating_add(size / 8))?;
     let mut done = 0;

@@ -1,4 +1,4 @@
-//! The items and layers of a delta, read from its bytes.
+//! Decoding the layers and items of a delta.
 ghost use Rattle.std.specs.Prelude.{◌≡◌, ◌<◌, ◌≤◌, ◌∷◌, ℕ, List, length, IfOk};
 ghost use Rattle.cs_schema.specs.declared.cells.Value.{Value};
 ghost use Rattle.cs_schema.specs.CatalogData.{CatalogData};
@@ -15,7 +15,8 @@ use cs_segment::bytes::{after, number};
 use cs_segment::fault::FileFault;
 use std::alloc::Global;
 
-/// Adds the cell at the front of some bytes, and gives what follows.
+/// Appends the cell at the start of the bytes. Returns the bytes after it. `Damaged` if they do not start with a cell
+/// of this kind.
 fn read_cell<'b>(cells: &mut LayerCells, kind: Kind, bytes: &'b [u8]) -> Result<&'b [u8], FileFault>
     ensures found { IfOk result (λ rest. AddsCell kind bytes.now cells.old cells.new rest.now) }
     ensures refused { result ≡ Err FileFault.Damaged → NoCell kind bytes.now }
@@ -38,9 +39,10 @@ fn read_cell<'b>(cells: &mut LayerCells, kind: Kind, bytes: &'b [u8]) -> Result<
     }
 }
 
-/// The deletion whose tag stands before the bytes, and what follows.
+/// Decodes a deletion, from after its tag, in a layer on `below` rows. Returns it and the bytes after it.
 fn read_deletion(below: u32, bytes: &[u8]) -> Result<(StoredItem, &[u8]), FileFault>
-    ensures found { IfOk result (λ r. (C : CatalogData) (p rows top : ℕ) (cells : List Value) → AddsItem C p rows top below (2 ∷ bytes.now) cells cells r.0 r.1.now) }
+    ensures found { IfOk result (λ r. (C : CatalogData) (p rows top : ℕ) (cells : List Value)
+        → AddsItem C p rows top below (2 ∷ bytes.now) cells cells r.0 r.1.now) }
     ensures refused { result ≡ Err FileFault.Damaged → (C : CatalogData) (p rows top : ℕ) → NoItem C p rows top below (2 ∷ bytes.now) }
 {
     let Some((at, rest)) = number(bytes) else {
@@ -52,22 +54,23 @@ fn read_deletion(below: u32, bytes: &[u8]) -> Result<(StoredItem, &[u8]), FileFa
     Ok((StoredItem::Delete { at }, rest))
 }
 
-/// What reads the items of one delta: its projection says what the cells of a row are, its head which keys are new.
+/// Decodes the items of one delta. The projection gives the kinds of a row's cells, the file's header the range of new
+/// keys.
 #[derive(Clone, Copy)]
 pub(crate) struct DeltaReader<'a> {
     pub(crate) alloc: Global,
     pub(crate) catalog: &'a Catalog,
     pub(crate) p: u16,
-    /// The rows of the base: keys above are new.
+    /// The number of rows of the base. Inserted rows have keys above it.
     pub(crate) rows: u32,
-    /// The highest key that was given.
+    /// The highest key ever given in the segment.
     pub(crate) top: u32,
     ghost inside: { p < length catalog.now.projections },
     ghost top_in_limits: { top ≤ 4194304 },
 }
 
 impl DeltaReader<'_> {
-    /// Adds the cells of a row at the front of some bytes, and gives what follows.
+    /// Appends the cells of the row at the start of the bytes. Returns the bytes after it.
     fn row<'b>(&self, cells: &mut LayerCells, bytes: &'b [u8]) -> Result<&'b [u8], FileFault>
         ensures found { IfOk result (λ rest. AddsRow self.now.catalog.now self.now.p bytes.now cells.old cells.new rest.now) }
         ensures refused { result ≡ Err FileFault.Damaged → NoRow self.now.catalog.now self.now.p bytes.now }
@@ -79,14 +82,16 @@ impl DeltaReader<'_> {
         Ok(rest)
     }
 
-    /// Adds the cells of the insertion whose tag stands before the bytes, and gives it and what follows.
+    /// Decodes an insertion, from after its tag, in a layer on `below` rows, and appends its cells. Returns it and the
+    /// bytes after it.
     fn insertion<'b>(
         &self,
         cells: &mut LayerCells,
         below: u32,
         bytes: &'b [u8],
     ) -> Result<(StoredItem, &'b [u8]), FileFault>
-        ensures found { IfOk result (λ r. AddsItem self.now.catalog.now self.now.p self.now.rows self.now.top below (1 ∷ bytes.now) cells.old cells.new r.0 r.1.now) }
+        ensures found { IfOk result (λ r. AddsItem self.now.catalog.now self.now.p self.now.rows self.now.top below
+            (1 ∷ bytes.now) cells.old cells.new r.0 r.1.now) }
         ensures refused { result ≡ Err FileFault.Damaged → NoItem self.now.catalog.now self.now.p self.now.rows self.now.top below (1 ∷ bytes.now) }
     {
         let Some((at, keyed)) = number(bytes) else {
@@ -103,14 +108,16 @@ impl DeltaReader<'_> {
         Ok((StoredItem::Insert { at, key, from }, rest))
     }
 
-    /// Adds the changed cell whose tag stands before the bytes, and gives the modification and what follows.
+    /// Decodes a modification, from after its tag, in a layer on `below` rows, and appends its cell. Returns it and the
+    /// bytes after it.
     fn modification<'b>(
         &self,
         cells: &mut LayerCells,
         below: u32,
         bytes: &'b [u8],
     ) -> Result<(StoredItem, &'b [u8]), FileFault>
-        ensures found { IfOk result (λ r. AddsItem self.now.catalog.now self.now.p self.now.rows self.now.top below (3 ∷ bytes.now) cells.old cells.new r.0 r.1.now) }
+        ensures found { IfOk result (λ r. AddsItem self.now.catalog.now self.now.p self.now.rows self.now.top below
+            (3 ∷ bytes.now) cells.old cells.new r.0 r.1.now) }
         ensures refused { result ≡ Err FileFault.Damaged → NoItem self.now.catalog.now self.now.p self.now.rows self.now.top below (3 ∷ bytes.now) }
     {
         let Some((at, placed)) = number(bytes) else {
@@ -128,14 +135,16 @@ impl DeltaReader<'_> {
         Ok((StoredItem::Modify { at, column, from }, rest))
     }
 
-    /// Adds the cells of the item on so many rows at the front of some bytes, and gives it and what follows.
+    /// Decodes the item at the start of the bytes, in a layer on `below` rows, and appends its cells. Returns it and
+    /// the bytes after it.
     fn item<'b>(
         &self,
         cells: &mut LayerCells,
         below: u32,
         bytes: &'b [u8],
     ) -> Result<(StoredItem, &'b [u8]), FileFault>
-        ensures found { IfOk result (λ r. AddsItem self.now.catalog.now self.now.p self.now.rows self.now.top below bytes.now cells.old cells.new r.0 r.1.now) }
+        ensures found { IfOk result (λ r. AddsItem self.now.catalog.now self.now.p self.now.rows self.now.top below
+            bytes.now cells.old cells.new r.0 r.1.now) }
         ensures refused { result ≡ Err FileFault.Damaged → NoItem self.now.catalog.now self.now.p self.now.rows self.now.top below bytes.now }
     {
         if let Some(insertion) = after(bytes, &[1]) {
@@ -150,7 +159,7 @@ impl DeltaReader<'_> {
         Err(FileFault::Damaged)
     }
 
-    /// The layer on so many rows at the front of some bytes, and what follows.
+    /// Decodes the layer on `below` rows at the start of the bytes. Returns it and the bytes after it.
     fn layer<'b>(&self, below: u32, bytes: &'b [u8]) -> Result<(Layer, &'b [u8]), FileFault>
         ensures found { IfOk result (λ r. BeginsWithLayer self.now.catalog.now self.now.p self.now.rows self.now.top below bytes.now r.0 r.1.now) }
         ensures refused { result ≡ Err FileFault.Damaged → NoLayer self.now.catalog.now self.now.p self.now.rows self.now.top below bytes.now }
@@ -173,7 +182,8 @@ impl DeltaReader<'_> {
         Ok((layer, rest))
     }
 
-    /// The layers that the bytes are, each on the rows that those below it leave.
+    /// Decodes `count` layers, each on the rows that those below it leave. `Damaged` if the bytes are not exactly
+    /// these.
     pub(crate) fn layers(&self, count: u8, bytes: &[u8]) -> Result<Vec<Layer>, FileFault>
         ensures found { IfOk result (λ layers. AreLayersOf self.now.catalog.now self.now.p self.now.rows self.now.top count bytes.now layers.items) }
         ensures refused { result ≡ Err FileFault.Damaged → NoLayers self.now.catalog.now self.now.p self.now.rows self.now.top count bytes.now }

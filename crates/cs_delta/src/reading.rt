@@ -1,4 +1,4 @@
-//! Deltas read from their files.
+//! Reading a delta's file.
 ghost use Rattle.std.specs.Prelude.{◌≡◌, ◌<◌, ◌↔◌, ◌==◌, ◌++◌, length, IfOk, IfSome, IfNone, OnOk, IsTrue};
 ghost use Rattle.std.specs.List.{IsDistinct, filter_map, flat_map};
 ghost use Rattle.cs_segment.specs.SegmentFile.{sealed};
@@ -10,18 +10,13 @@ use crate::item::Item;
 use crate::layer::Layer;
 use crate::reader::DeltaReader;
 use cs_schema::Catalog;
+use cs_schema::limits::{DELTA_KEYS, SEGMENT_ROWS};
 use cs_segment::bytes::{after, number};
 use cs_segment::fault::FileFault;
 use cs_segment::seal::unseal;
 use std::alloc::{AllocError, Global};
 
-/// The most rows of a base.
-const ROW_LIMIT: u32 = 1_048_576;
-
-/// The highest key.
-const KEY_LIMIT: u32 = 4_194_304;
-
-/// Appends the keys that the items of a layer give.
+/// Appends the keys of the rows that a layer inserts.
 fn push_keys(keys: &mut Vec<u32>, layer: &Layer) -> Result<(), AllocError>
     ensures { OnOk result (keys.new.items ≡ keys.old.items ++ filter_map inserted_key layer.now) }
 {
@@ -35,7 +30,7 @@ fn push_keys(keys: &mut Vec<u32>, layer: &Layer) -> Result<(), AllocError>
     Ok(())
 }
 
-/// The keys that the layers give.
+/// The keys of the rows that the layers insert.
 fn inserted_keys(alloc: Global, layers: &[Layer]) -> Result<Vec<u32>, AllocError>
     ensures { IfOk result (λ keys. keys.items ≡ flat_map (filter_map inserted_key) layers.now) }
 {
@@ -46,7 +41,7 @@ fn inserted_keys(alloc: Global, layers: &[Layer]) -> Result<Vec<u32>, AllocError
     Ok(keys)
 }
 
-/// Whether no key stands twice.
+/// Whether no key occurs twice.
 fn are_distinct(keys: Vec<u32>) -> bool
     ensures { IsTrue result ↔ IsDistinct ◌==◌ keys.items }
 {
@@ -61,7 +56,8 @@ fn are_distinct(keys: Vec<u32>) -> bool
     true
 }
 
-/// The counts at the front of some bytes, and what follows.
+/// Reads the part of a header that follows the magic bytes. Returns the number of rows, the highest key, and the bytes
+/// after them. `None` if the header is cut short or of another segment, or if a number is out of its range.
 fn read_counts(bytes: &[u8], p: u16, s: u16) -> Option<(u32, u32, &[u8])>
     ensures found { IfSome result (λ r. BeginsWithCounts p s bytes.now r.0 r.1 r.2.now) }
     ensures none { IfNone result (NoCounts p s bytes.now) }
@@ -70,13 +66,13 @@ fn read_counts(bytes: &[u8], p: u16, s: u16) -> Option<(u32, u32, &[u8])>
     let counted = after(placed, &s.to_be_bytes())?;
     let (rows, topped) = number(counted)?;
     let (top, rest) = number(topped)?;
-    if rows > ROW_LIMIT || top < rows || top > KEY_LIMIT {
+    if rows > SEGMENT_ROWS || top < rows || top > DELTA_KEYS {
         return None;
     }
     Some((rows, top, rest))
 }
 
-/// What stands before the layers.
+/// The header of a delta's file.
 #[derive(Clone, Copy, Drop)]
 struct Head {
     version: u8,
@@ -85,7 +81,8 @@ struct Head {
     top: u32,
 }
 
-/// The head at the front of some bytes, and what follows.
+/// Decodes the header, of either version, at the start of the bytes. Returns it and the bytes after it. `None` if they
+/// do not start with a header of this segment.
 fn read_head(bytes: &[u8], p: u16, s: u16) -> Option<(Head, &[u8])>
     ensures found { IfSome result (λ r. BeginsWithHead p s bytes.now r.0.version r.0.layers r.0.rows r.0.top r.1.now) }
     ensures none { IfNone result (NoHead p s bytes.now) }
@@ -115,7 +112,8 @@ fn read_head(bytes: &[u8], p: u16, s: u16) -> Option<(Head, &[u8])>
     Some((head, rest))
 }
 
-/// The delta that the text is the file of, in either version, with the digest that the text has. `Damaged` where it is no delta's.
+/// Reads the delta of segment `s` of projection `p`, of either version, from its bytes without the digest, which the
+/// caller verifies. `Damaged` if the bytes with their digest are not a delta of this segment.
 pub fn read_delta_text(
     alloc: Global,
     catalog: &Catalog,
@@ -153,7 +151,8 @@ pub fn read_delta_text(
     })
 }
 
-/// The delta that the bytes are the file of, in either version. `Damaged` where they are no delta's.
+/// Reads the delta of segment `s` of projection `p`, of either version. `Damaged` if the bytes are not a delta of this
+/// segment.
 pub fn read_delta(
     alloc: Global,
     catalog: &Catalog,

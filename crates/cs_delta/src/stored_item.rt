@@ -1,6 +1,6 @@
-//! Items as a layer keeps them.
+//! Items as a layer stores them.
 
-/// An item that names the cells that it gives by the number of the first of them.
+/// An item whose cells are in its layer, from index `from` on.
 #[derive(Clone, Copy)]
 pub(crate) enum StoredItem {
     Insert { at: u32, key: u32, from: usize },

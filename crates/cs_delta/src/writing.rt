@@ -1,11 +1,12 @@
-//! The file of a delta that says nothing yet.
+//! Writing an empty delta.
 ghost use Rattle.std.specs.Prelude.{◌≡◌, IfOk};
 ghost use Rattle.cs_delta.specs.DeltaFile.{delta_text, no_changes};
 
 use cs_segment::seal::seal;
 use std::alloc::{AllocError, Global};
 
-/// The file of the delta with no items, for a segment of so many rows: of version 1, the rows the highest key.
+/// The file, of version 1, of the empty delta of segment `s` of projection `p`, which has `rows` rows. Its highest key
+/// is `rows`.
 pub fn write_empty_delta(alloc: Global, p: u16, s: u16, rows: u32) -> Result<Vec<u8>, AllocError>
     ensures { IfOk result (λ out. out.items ≡ delta_text (no_changes p s rows)) }
 {

@@ -1,4 +1,4 @@
--- Accepted losses grow and have one table each; so what changed sites leave is told.
+-- Accepted losses grow and leave one table each, so the table is found after sites were changed.
 use Rattle.std.proofs.Common.{◌≡◌, ℕ, ◌+◌, ◌*◌, ◌≤◌, List, [], length, sym, subst, ◌∙◌, arith}
 use Rattle.cs_schema.specs.CatalogData.{CatalogData}
 use Rattle.cs_schema.specs.CatalogRules.{IsCatalog}
@@ -23,7 +23,7 @@ module _ (C : CatalogData) (F : FileContents) (L : Sites) (T : List Row) where
   pub as_searched : IsAcceptedLoss C F L T → IsAccepted C (HoldsSurvivors C F) L T
   as_searched a = record { loss = a.loss; safe = a.safe; holds = a.holds }
 
--- a loss is within itself, so the law on growth also says that its table is one
+-- a loss contains itself, so the law of growth also shows that its table is the only one
 pub grow : AcceptedLossesGrow
 grow C cat F = (
   λ L T U a b. sym ((acceptance_grows C cat (layers C cat) F L L T (as_accepted C F L T a) (λ x m. m) a.loss a.safe).1 U (as_accepted C F L U b)),

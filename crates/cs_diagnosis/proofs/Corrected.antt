@@ -1,4 +1,4 @@
--- How many changed sites can be corrected, by the greatest number of sites of which any may fail.
+-- How many changed sites can be corrected, given the maximum number of sites of which any may fail.
 use Rattle.std.proofs.Common.{◌≡◌, ℕ, ◌+◌, ◌-◌, ◌/◌, ◌<◌, ◌≤◌, [], length, refl, arith, inl, inr, Some, None}
 use Rattle.std.specs.List.Sorted.{IsStrictlySortedBy}
 use Rattle.std.proofs.lemmas.Bool.{cases_lt}
@@ -52,7 +52,7 @@ module _ (C : CatalogData) where
   pub none_unsafe : (forced : ℕ) → ¬ IsSafe C [] → (n : ℕ) → ¬ IsCorrected C forced n
   none_unsafe forced bad n d = bad (d.safe [] (no_loss C) (omega arith))
 
--- ---- few sites
+-- ---- k is less than the number of sites
 
 pub some_may_not_fail : (C : CatalogData) → IsCatalog C → (k : ℕ) → IsKSafe C k → k < C.sites
 some_may_not_fail C cat k safe = elim (cases_lt k C.sites) [

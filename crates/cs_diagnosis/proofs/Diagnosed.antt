@@ -1,4 +1,4 @@
--- What the search and the bad files come to is a diagnosis.
+-- The search and the bad files make a diagnosis.
 use Rattle.std.proofs.Common.{◌≡◌, ℕ, ◌+◌, ◌≤◌, ◌⊎◌, inl, inr, ◌↔◌, List, [], length, sym, ap, subst, ◌<◌, ◌∙◌, arith}
 use Rattle.std.specs.Prelude.{IsTrue, Option}
 use Rattle.std.proofs.lemmas.Option.{same_Some}
@@ -32,7 +32,7 @@ use Rattle.cs_diagnosis.specs.Reach.{IsReach}
 use Rattle.cs_diagnosis.specs.Diagnoses.{rows_found, WereChanged, IsDiagnosis}
 use Rattle.cs_diagnosis.specs.declared.diagnosing.Diagnosis.{Diagnosis}
 
--- a file's site is one of the catalog's
+-- the site of a file is a site of the catalog
 pub site_in_range : (C : CatalogData) → IsCatalog C → (n : FileName) → HasName C n → (1 ≤ site_of C n) × (site_of C n ≤ C.sites)
 site_in_range C cat n name = go (segment_exists n name)
   where

@@ -1,4 +1,4 @@
--- What the entries of a join index are looked up by.
+-- What the entries of a join index are looked up with.
 use Rattle.std.proofs.Common.{◌≡◌, ℕ, ◌<◌, ◌==◌, ap, sym, ◌∙◌, subst, length, Option, Some, arith, get_or}
 use Rattle.std.specs.List.{slice_get}
 use Rattle.std.proofs.lemmas.Option.{slice_get-get_or}
@@ -16,7 +16,7 @@ use Rattle.cs_rebuild.proofs.OrderFacts.{row_there, count_there}
 use Rattle.cs_diagnosis.specs.Conflicts.{IsKeyConflict}
 use Rattle.cs_diagnosis.proofs.Keys.{AreKeysPositive}
 
--- the position of a key is one in the image
+-- the position of a key is below the number of rows of the image
 pub position_below : (m : ImageData) (key i : ℕ) → position_of_key m key ≡ Some i → i < length m.pairs
 position_below m key i e =
     let l = (position-Some (λ x. x == key) (image_keys m) i 0 e).0 in
@@ -36,7 +36,7 @@ module _ (e : Entries) where
   pub positive : AreKeysPositive g.catalog.now g.loss (contents_of g.survivors.now) g.walked.rows
   positive q t i h l = (g.keys q t i h l).0
 
--- what is found of an entry is found of it on the same store
+-- the conflict of an entry, for an equal store and an equal entry
 pub same_conflict : (g h : OrderedStore) → h ≡ g → (p s q a b d : ℕ) → a ≡ p → b ≡ s → d ≡ q → (key : ℕ) (x y : Place) → x ≡ y → (o : Option ℕ)
     → IsKeyConflict h.catalog.now h.loss (held_on h) (table_on h) a b d key x o → IsKeyConflict g.catalog.now g.loss (held_on g) (table_on g) p s q key y o
 same_conflict g h same p s q a b d one two three key x y entry o k =

@@ -1,4 +1,4 @@
--- Conflicts by site, gathered pair by pair.
+-- Conflicts by site, gathered one pair after the other.
 use Rattle.std.proofs.Common.{◌≡◌, ℕ, zero, suc, ◌+◌, ◌-◌, ◌<◌, ◌≤◌, List, [], ◌∷◌, refl, sym, ap, subst, ◌∙◌, inl, inr, ◌⊎◌, Some, Bool, true, false, ◌==◌, ◌||◌, eqb-true, eq-eqb, arith, slice_set}
 use Rattle.std.specs.Prelude.{IsTrue, ◌↔◌}
 use Rattle.std.specs.List.{slice_get}
@@ -23,7 +23,7 @@ set_other (x ∷ xs) (suc i) zero a other = refl
 set_other (x ∷ xs) (suc i) (suc n) a other = set_other xs i n a (λ e. other (ap suc e))
 
 module _ (L : Sites) where
-  -- a loss has one of two sites
+  -- a loss contains one of two sites
   abbrev pub HasOne : ℕ → ℕ → Type 0
   HasOne x y = IsTrue (member L x) ⊎ IsTrue (member L y)
 
@@ -34,7 +34,7 @@ module _ (L : Sites) where
   swapped x y (inl a) = inr a
   swapped x y (inr b) = inl b
 
-  -- ---- one pair more
+  -- ---- one more pair
 
   module _ (sets : List Sites) (x y : ℕ) (K more : Sites) (low : 1 ≤ x) (at : slice_get sets (x - 1) ≡ Some K) (members : (s : ℕ) → member more s ≡ (s == y || member K s)) where
     split : IsHit L (x, more) → IsHit L (x, K) × HasOne x y
@@ -70,7 +70,7 @@ module _ (L : Sites) where
 
   -- ---- the pairs of one file
 
-  -- the loss has a site of each pair with one of the others below a number
+  -- the loss contains a site of each pair with one of the other sites below a number
   abbrev pub PairsBelow : ℕ → Sites → ℕ → Type 0
   PairsBelow site others top = (y : ℕ) → y < top → IsTrue (member others y) → HasOne site y
 

@@ -1,4 +1,4 @@
--- Every file beside the sites of the bad ones is sound.
+-- Every file outside the sites of the bad ones is sound.
 use Rattle.std.proofs.Common.{◌≡◌, ◌⊎◌, inl, inr, ◌↔◌, ◌≤◌, ℕ, List, Bool, Some, None, true, false, not, refl, sym, ap, subst, ◌∙◌, arith}
 use Rattle.std.specs.Prelude.{IsTrue}
 use Rattle.cs_schema.specs.declared.file_name.FileName.{FileName}
@@ -45,15 +45,15 @@ module _ (C : CatalogData) (F : FileContents) (unreadable : List FileName) (bad 
       let can = d.undamaged.merges p s base changes refl (record { segment_bytes = g.bytes; delta_bytes = d.bytes; has_segment = g.there; has_delta = d.there; segment_file = g.undamaged.file.1; delta_file = d.undamaged.file.1 }) in
       (merged base changes, record { segment_bytes = g.bytes; delta_bytes = d.bytes; base = base; changes = changes; has_segment = g.there; has_delta = d.there; segment_file = g.undamaged.file.1; delta_file = d.undamaged.file.1; can_merge = can; image = refl })
 
--- no file beside these sites is bad
+-- no file outside these sites is bad
 pub never_bad : (C : CatalogData) (F : FileContents) (sites : Sites) (f : Fault) → ((n : FileName) → Survives C sites n → IsSound C F n) → MemoryOr f (IsBadFile C F sites f) → (f ≡ Fault.Memory → ⊥) → ⊥
 never_bad C F sites f sound (inl memory) other = other memory
 never_bad C F sites f sound (inr (n, bad)) other = bad.bad (sound n bad.survives)
 
--- ---- where the files beside some sites were read, each of them is good
+-- ---- if the files outside some sites were read, each of them is good
 
 module _ (C : CatalogData) (cat : IsCatalog C) (F : FileContents) (unreadable : List FileName) (absent : AreAbsent F unreadable) (first : Sites) (v : SurvivorsData) (read : AreRead C F first v) where
-  -- what stands under a name can't be unreadable
+  -- a file that exists is not unreadable
   readable : (n : FileName) (bytes : List ℕ) → F n ≡ Some bytes → IsIn n unreadable → ⊥
   readable n bytes there i = none-some bytes (sym (absent n i) ∙ there)
 
@@ -102,7 +102,7 @@ module _ (C : CatalogData) (cat : IsCatalog C) (F : FileContents) (unreadable : 
     named : (n : FileName) → IsIn n (surviving C rest) ↔ Survives C rest n
     named = surviving_names C rest cat
 
-    -- a file's site is one of the first ones where its name is looked at, and else it was read
+    -- a file on the first sites is inspected, and any other was read
     looked_at : (n : FileName) → HasName C n → member first (site_of C n) ≡ true → IsIn n (surviving C rest)
     looked_at n h here =
         let r = site_in_range C cat n h in

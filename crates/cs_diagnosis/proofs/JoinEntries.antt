@@ -1,4 +1,4 @@
--- What the entries of a join index come to beside each loss.
+-- The entries of a join index under each loss.
 use Rattle.std.proofs.Common.{◌≡◌, ◌≢◌, ℕ, ◌+◌, ◌<◌, List, [], length, refl, sym, ap, subst, ◌∙◌, Bool, true, false, ◌||◌, ◌==◌, eqb-true, eq-eqb, inl, inr, ◌⊎◌, Some, None, arith, get_or}
 use Rattle.std.specs.Prelude.{◌↔◌, IsTrue}
 use lib.Pointwise.{pointwise}
@@ -33,7 +33,7 @@ second_one : (a b : Bool) → b ≡ true → (a || b) ≡ true
 second_one true b e = refl
 second_one false b e = e
 
--- a loss with one site more is within those that have that one and the others
+-- a loss contains another with one more site if it contains that site and the others
 pub within_more : (L others more : Sites) (y : ℕ) → ((x : ℕ) → member more x ≡ (x == y || member others x)) → IsWithin more L ↔ (IsWithin others L × IsTrue (member L y))
 within_more L others more y members = (
   λ within. (
@@ -46,7 +46,7 @@ within_more L others more y members = (
   ],
 )
 
--- the loss of one site is within those that have it
+-- a loss contains the loss of one site if it contains that site
 pub within_alone : (L alone : Sites) (y : ℕ) → ((x : ℕ) → member alone x ≡ (x == y)) → IsWithin alone L ↔ IsTrue (member L y)
 within_alone L alone y members = (
   λ within. within y (members y ∙ eq-eqb y y refl),
@@ -63,7 +63,8 @@ module _ (C : CatalogData) (first : Sites) (S : Contents) (walked : List Row) (p
   abbrev At : Sites → ℕ → Bool
   At L m = agrees C L q (get_or join m no_place) (entry_for C L S T p s q (m + 1))
 
-  -- beside each loss, the entries of so many keys agree with the places of their rows where these sites are lost
+  -- under each loss, the entries of the first i keys agree with the places of their rows exactly if these sites are
+  -- lost
   abbrev pub AgreeBelow : ℕ → Sites → Type 0
   AgreeBelow i others = (L : Sites) → IsWithin first L → member L own ≡ false → AreImagesOfRows C L S T → IsWithin others L ↔ ((m : ℕ) → m < i → At L m ≡ true)
 
@@ -113,7 +114,7 @@ module _ (C : CatalogData) (first : Sites) (S : Contents) (walked : List Row) (p
         );
       }
 
-      -- a join index with an entry that no key could mend
+      -- a join index with an entry that no key could correct
       pub contradicts : (i : ℕ) → i < top → IsKeyConflict C first S T p s q (i + 1) (get_or join i no_place) (Some own) → IsJoinConflict C first S T (p, s, q) (own, alone)
       contradicts i l k = record {
         site = refl;
@@ -129,7 +130,7 @@ module _ (C : CatalogData) (first : Sites) (S : Contents) (walked : List Row) (p
               let inside : i < (image_after C L S T p s).top = omega (arith, l, same_top L around gone) in
               false≢true (sym e ∙ agreed (agrees C L q) (λ j. entry_for C L S T p s q (j + 1)) join no_place no_place (image_after C L S T p s).top (ap (λ xs. pointwise (agrees C L q) xs (Rattle.cs_recovery.specs.Places.entries_for C L S T p s q)) is ∙ leads) i inside)
 
-    -- what all entries come to
+    -- a join index all of whose entries were compared
     pub whole : length join ≡ top → (others : Sites) → AgreeBelow top others → IsJoinConflict C first S T (p, s, q) (own, others)
     whole long others below = record {
       site = refl;

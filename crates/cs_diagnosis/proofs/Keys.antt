@@ -1,4 +1,4 @@
--- What the entry at a key comes to beside each loss.
+-- The entry for a key under each loss.
 use Rattle.std.proofs.Common.{◌≡◌, ℕ, ◌+◌, ◌<◌, ◌≤◌, List, length, map, refl, sym, ap, subst, ◌∙◌, Bool, true, false, inl, inr, ◌⊎◌, Option, Some, None, arith}
 use Rattle.std.specs.Prelude.{slice_index}
 use Rattle.std.specs.List.{slice_get}
@@ -24,7 +24,7 @@ use Rattle.cs_recovery.proofs.Agreeing.{agrees_if, dead_is, placed_is, kept_is, 
 use Rattle.cs_rebuild.proofs.Indexes.{is_fresh, is_kept, place_there, entry_there, fresh_key}
 use Rattle.cs_diagnosis.specs.Conflicts.{AreImagesOfRows, IsKeyConflict}
 
--- a loss of no site of a larger one
+-- a site that a larger loss lacks, a smaller one lacks
 pub not_lost : (first L : Sites) → IsWithin first L → (x : ℕ) → member L x ≡ false → member first x ≡ false
 not_lost first L around x gone = go (member first x) refl
   where
@@ -42,7 +42,7 @@ module _ (C : CatalogData) (first : Sites) (S : Contents) (walked : List Row) wh
   abbrev T : List Row
   T = table_of C walked
 
-  -- the keys of images are from 1
+  -- the keys of images are at least 1
   abbrev pub AreKeysPositive : Type 0
   AreKeysPositive = (q t i : ℕ) → Survives C first (FileName.Seg q t) → i < length (S.image q t).pairs → 1 ≤ slice_index (image_keys (S.image q t)) i
 
@@ -51,7 +51,7 @@ module _ (C : CatalogData) (first : Sites) (S : Contents) (walked : List Row) wh
     own = site_of C (FileName.Seg p s)
 
     module _ (L : Sites) (gone : member L own ≡ false) where
-      -- a dead key has no place
+      -- the entry for a dead key is no place
       dead_key : position_of_key (image_after C first S T p s) key ≡ None → member first own ≡ false → entry_for C L S T p s q key ≡ no_place
       dead_key none kept =
           ap (λ m. by_position (position_of_key m key)) (is_kept C walked L S p s gone ∙ sym (is_kept C walked first S p s kept)) ∙ ap by_position none
@@ -59,7 +59,7 @@ module _ (C : CatalogData) (first : Sites) (S : Contents) (walked : List Row) wh
           by_position : Option ℕ → Place
           by_position o = Rattle.std.specs.Option.option_map_or (λ r. place_of C L S T q r) (Rattle.std.specs.Option.option_and_then (slice_get (rows_of C T p s)) o) no_place
 
-    -- at a dead key there is no entry
+    -- there is no conflict if the entry for a dead key is no place
     pub dead_none : position_of_key (image_after C first S T p s) key ≡ None → entry ≡ no_place → IsKeyConflict C first S T p s q key entry None
     dead_none none same = record {
       told = λ L around gone images.
@@ -143,7 +143,7 @@ module _ (C : CatalogData) (first : Sites) (S : Contents) (walked : List Row) wh
           in_lost L around gone e =
               agrees_is L around gone ∙ ap (λ b. agrees_if b entry (t, key_in L)) e ∙ lost_place entry t (key_in L) (fresh_in L e) segment some
 
-          -- the row's key, or any where its segment is lost
+          -- an entry with the row's key; any key is right if the row's segment is lost
           pub right : entry.1 ≡ key_in first → IsKeyConflict C first S T p s q key entry None
           right same = record { told = λ L around gone images. go L around gone (lost C L q t) refl }
             where
@@ -156,7 +156,7 @@ module _ (C : CatalogData) (first : Sites) (S : Contents) (walked : List Row) wh
           pub lost_first : lost C first q t ≡ true → IsKeyConflict C first S T p s q key entry None
           lost_first e = record { told = λ L around gone images. in_lost L around gone (around (site_of C (FileName.Seg q t)) e) }
 
-          -- another key than the row's: right only where the row's segment is lost
+          -- an entry with another key than the row's: it is right only if the row's segment is lost
           pub other : (entry.1 ≡ key_in first → ⊥) → IsKeyConflict C first S T p s q key entry (Some (site_of C (FileName.Seg q t)))
           other differs = record { told = λ L around gone images. (λ here. in_lost L around gone here, λ a. go L around gone a (lost C L q t) refl) }
             where

@@ -1,4 +1,4 @@
--- What two tables differ in, one step further.
+-- The differences of two tables, one step further.
 use Rattle.std.proofs.Common.{◌≡◌, ◌≢◌, ℕ, ◌+◌, ◌<◌, ◌≤◌, List, [], ◌∷◌, ◌++◌, length, length-append, refl, sym, ap, subst, ◌∙◌, arith, inl, inr, Some, get_or}
 use Rattle.std.proofs.lemmas.Bool.{cases_lt}
 use Rattle.std.proofs.lemmas.Option.{same_Some, slice_get_within, slice_get-get_or}
@@ -23,7 +23,7 @@ unequal : {A : Type 0} (v w : Value) → value_cmp v w ≡ Less → v ≡ w → 
 unequal v w l e = not_self value_cmp value_cmp_total w (subst (λ x. value_cmp x w ≡ Less) e l)
 
 module _ (key : ℕ) (T U : List Row) (rt : Rising key T) (ru : Rising key U) where
-  -- a key less than the row at a place is less than those after it
+  -- a key less than that of the row at an index is less than those after it
   pub before_all : (W : List Row) → Rising key W → (j : ℕ) (v : Value) → ((q : Row) → slice_get W j ≡ Some q → value_cmp v (cell q key) ≡ Less) → IsBefore key W j v
   before_all W rising j v f k q h at = elim (cases_lt j k) [
     | inl l ↦
@@ -33,7 +33,7 @@ module _ (key : ℕ) (T U : List Row) (rt : Rising key T) (ru : Rising key U) wh
     | inr l ↦ (let same : k ≡ j = omega (arith, h, l) in f q (subst (λ n. slice_get W n ≡ Some q) same at))
   ]
 
-  -- a row is less than those after it
+  -- a row is less than the rows after it
   pub after : (W : List Row) → Rising key W → (i : ℕ) (r : Row) → slice_get W i ≡ Some r → IsBefore key W (i + 1) (cell r key)
   after W rising i r at k q h there = rising i k r q (omega (arith, h)) at there
 
@@ -140,7 +140,7 @@ module _ (key : ℕ) (T U : List Row) (rt : Rising key T) (ru : Rising key U) wh
         ];
       }
 
-    -- ---- both have it
+    -- ---- both tables have the next key
 
     module _ (r q : Row) (here : slice_get T i ≡ Some r) (there : slice_get U j ≡ Some q) (same : cell r key ≡ cell q key) where
       -- only one row of the second table has the key

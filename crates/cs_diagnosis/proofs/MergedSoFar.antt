@@ -1,4 +1,4 @@
--- What two tables differ in below a place of each.
+-- The differences of two tables below an index of each.
 use Rattle.std.proofs.Common.{◌≡◌, ◌≢◌, ℕ, ◌+◌, ◌<◌, ◌≤◌, List, [], length, refl, arith, Some, None}
 use Rattle.std.specs.List.{slice_get}
 use Rattle.std.specs.List.Sorted.{IsStrictlySortedBy}
@@ -19,15 +19,15 @@ alone_second j = record { first = None; second = Some j }
 abbrev pub of_both : ℕ → ℕ → Dispute
 of_both i j = record { first = Some i; second = Some j }
 
--- earlier rows have lesser keys
+-- earlier rows have smaller keys
 abbrev pub Rising : ℕ → List Row → Type 0
 Rising key T = (i j : ℕ) (r q : Row) → i < j → slice_get T i ≡ Some r → slice_get T j ≡ Some q → value_cmp (cell r key) (cell q key) ≡ Less
 
--- a key is less than those of all rows from a place on
+-- a key is less than those of all rows from an index on
 abbrev pub IsBefore : ℕ → List Row → ℕ → Value → Type 0
 IsBefore key T i v = (k : ℕ) (r : Row) → i ≤ k → slice_get T k ≡ Some r → value_cmp v (cell r key) ≡ Less
 
--- all disputes of the rows below a place of each table were found
+-- all disputes of the rows below an index of each table were found
 pub record IsMerged (key : ℕ) (T U : List Row) (i j : ℕ) (all : List Dispute) : Type 0 where
   pub keys : List Value
   pub in_order : IsStrictlySortedBy value_cmp keys

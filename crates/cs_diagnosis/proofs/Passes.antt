@@ -32,7 +32,7 @@ use Rattle.cs_diagnosis.specs.declared.conflicts.Conflicts.{Conflicts}
 use Rattle.cs_diagnosis.proofs.Keys.{not_lost}
 use Rattle.cs_diagnosis.proofs.SiteRanges.{site_range}
 
--- a conflict of which one site is not lost has the others lost
+-- if one site of a conflict is not lost, the others are
 others_lost : (L : Sites) (c : ℕ × Sites) → IsHit L c → member L c.0 ≡ false → IsWithin c.1 L
 others_lost L c (inl here) gone = false≢true (sym gone ∙ here)
 others_lost L c (inr others) gone = others
@@ -44,7 +44,7 @@ hit_by L c f = go (member L c.0) refl
     go true e = inl e
     go false e = inr (f e)
 
--- what survives a larger loss was read with what survives a smaller one
+-- if what survives a loss was read, what survives a larger one was read too
 pub read_beside : (C : CatalogData) (F : FileContents) (first L : Sites) (v : SurvivorsData) → IsWithin first L → AreRead C F first v → AreRead C F L v
 read_beside C F first L v around read = record {
   reads = record {
@@ -83,7 +83,7 @@ module _ (C : CatalogData) (cat : IsCatalog C) (first : Sites) (v : SurvivorsDat
         lives : (x : ℕ × ℕ) → IsIn x segments → HasSegment C x.0 x.1
         lives x h = (survivors_survive C first x (subst (IsIn x) are h)).0
 
-    -- each image stands on a site
+    -- each image is on a site
     pub images_of_sites : AreOfSites of_images
     images_of_sites c i =
         let at = at_in of_images c i in
@@ -114,7 +114,7 @@ module _ (C : CatalogData) (cat : IsCatalog C) (first : Sites) (v : SurvivorsDat
           named : (x : ℕ × ℕ × ℕ) → IsIn x joins → HasName C (FileName.Jix x.0 x.1 x.2)
           named x h = (joins_survive C first x (subst (IsIn x) are_joins h)).0
 
-      -- and so does each join index
+      -- and so is each join index
       pub joins_of_sites : AreOfSites of_joins
       joins_of_sites c i =
           let at = at_in of_joins c i in
@@ -122,7 +122,7 @@ module _ (C : CatalogData) (cat : IsCatalog C) (first : Sites) (v : SurvivorsDat
           let here = (joins_survive C first a.join (subst (IsIn a.join) are_joins (in_at joins at.0 a.join a.at))).0.0 in
           subst (λ n. (1 ≤ n) × (n ≤ 16)) (sym a.conflict.site) (site_range C cat a.join.0 a.join.1 here)
 
-      -- the losses that have a site of each conflict are those beside which the table is held
+      -- the losses that contain a site of each conflict are those that leave the table
       pub are_conflicts : (F : FileContents) → AreRead C F first v → IsTable C T → Fits C T → (k : Conflicts) → ((L : Sites) → AreAllHit k L ↔ (AreHit of_images L × AreHit of_joins L)) → AreConflictsOf C F first T k
       are_conflicts F read table fits k gathered L around = (
         λ all.

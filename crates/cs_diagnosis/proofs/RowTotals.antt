@@ -1,4 +1,4 @@
--- How many rows columns have.
+-- The number of rows of columns.
 use Rattle.std.proofs.Common.{◌≡◌, List, length}
 use Rattle.std.proofs.lemmas.List.FromFn.{length-map-range_with_len}
 use Rattle.cs_schema.specs.declared.cells.Cells.{Cells}

@@ -1,4 +1,4 @@
--- The search, one loss after the other: what it has found is what explains the losses that it has tried.
+-- The search, one loss after the other: it has found what explains the losses that were tried so far.
 use Rattle.std.proofs.Common.{◌≡◌, ℕ, ◌+◌, ◌<◌, ◌≤◌, List, [], ◌∷◌, ◌++◌, length, refl, sym, ap, subst, ◌∙◌, arith, inl, inr, ◌⊎◌, Some, None}
 use Rattle.std.proofs.lemmas.Bool.{cases_lt, cases_eq}
 use Rattle.std.proofs.lemmas.Option.{same_Some, slice_get_within}
@@ -22,7 +22,7 @@ use Rattle.cs_diagnosis.specs.Tried.{IsTried, IsRuledOut}
 use Rattle.cs_design.proofs.Items.{sorted_at, kept_at, last_at, kept_or_last}
 use Rattle.cs_design.proofs.SmallerLosses.{within_size, same_loss, earlier_size}
 
--- what was found when the losses below a place were tried
+-- what was found after the losses below an index were tried
 pub record IsSearched {X : Type 0} (C : CatalogData) (held : Sites → List Row → Type 0) (rows : X → List Row) (losses : List Sites) (i : ℕ) (found : List Explanation) (tables : List X) : Type 0 where
   pub each : (e : Explanation) → IsIn e found → ((k : ℕ) × (k < i) × (slice_get losses k ≡ Some e.loss)) × ((T : List Row) × IsTableAt rows tables e.table T × IsLeastAccepted C held e.loss T)
   pub complete : (k : ℕ) (L : Sites) (T : List Row) → k < i → slice_get losses k ≡ Some L → IsAccepted C held L T → IsExplained found L
@@ -124,7 +124,7 @@ module _ {X : Type 0} (C : CatalogData) (held : Sites → List Row → Type 0) (
         used_by m U (inl t) = let e = s.used m U t in (e.0, append_left found (new ∷ []) e.0 e.1, e.2)
         used_by m U (inr e) = (new, append_right found (new ∷ []) new (inl refl), sym e)
 
-    -- one loss is tried
+    -- one loss was tried
     module _ (at_most : ℕ) (all : AreAllLosses C at_most losses) (loss : IsLoss C L) (safe : IsSafe C L) (unexplained : ¬ IsExplained found L) where
       explains : (T : List Row) → held L T → IsLeastAccepted C held L T
       explains T h = least at_most all T (record { loss = loss; safe = safe; holds = h }) unexplained
@@ -165,13 +165,13 @@ module _ {X : Type 0} (C : CatalogData) (held : Sites → List Row → Type 0) (
           at_lists new (a ∙ ap (λ es. es ++ (record { loss = L; table = length old.tables.items }) ∷ []) (sym e) ∙ ap (λ ts. found ++ (record { loss = L; table = length ts }) ∷ []) (sym u)) (b ∙ ap (λ ts. ts ++ t ∷ []) (sym u))
           (found_new t (λ n T at h. f n T (subst (λ ts. IsTableAt rows ts n T) u at) h) h)
 
-    -- one loss is ruled out
+    -- one loss was ruled out
     pub ruled_out : (forced : Sites) → AreForced C held forced → IsRuledOut C forced found L → IsSearched C held rows losses (i + 1) found tables
     ruled_out forced f (IsRuledOut.not_forced n) = skip (λ T a. absurd (n (f L T a)))
     ruled_out forced f (IsRuledOut.explained e) = skip (λ T a. e)
     ruled_out forced f (IsRuledOut.unsafe n) = skip (λ T a. absurd (n a.safe))
 
-  -- all losses are tried
+  -- all losses were tried
   pub finish : (i : ℕ) (found : List Explanation) (tables : List X) → IsSearched C held rows losses i found tables → (at_most : ℕ) → AreAllLosses C at_most losses → length losses ≤ i → AreExplanations C held at_most rows found tables
   finish i found tables s at_most all end = record {
     each = λ e h. let a = s.each e h in (((all.members e.loss).0 (in_at losses a.0.0 e.loss a.0.2)).1, a.1);

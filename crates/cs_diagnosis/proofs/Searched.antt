@@ -1,4 +1,4 @@
--- What a loss that is tried adds to what was found and what is known.
+-- What trying a loss adds to what was found and to what is known.
 use Rattle.std.proofs.Common.{◌≡◌, ℕ, ◌+◌, ◌<◌, ◌⊎◌, ◌∷◌, ◌++◌, [], List, length, Some, refl, sym, ap, subst, ◌∙◌, inl, inr, arith, get_or, Result, Ok, Err, OnOk}
 use Rattle.std.specs.List.{slice_get}
 use Rattle.std.proofs.lemmas.Option.{same_Some, none-some, slice_get_within}
@@ -25,25 +25,25 @@ use Rattle.cs_diagnosis.specs.declared.known.Known.{Known}
 use Rattle.cs_diagnosis.specs.declared.tables.FoundTable.{FoundTable}
 use Rattle.cs_diagnosis.specs.declared.walks.Walks.{Walks}
 
--- what stands beside an item of another list of as many
+-- the item of another list of the same length at the same index
 beside : {X Y : Type 0} (xs : List X) (ys : List Y) (n : ℕ) (x : X) → slice_get xs n ≡ Some x → length ys ≡ length xs → (y : Y) × (slice_get ys n ≡ Some y)
 beside xs [] n x at same = absurd (let l = slice_get_within xs n x at in omega (arith, l, same))
 beside xs (y ∷ ys) n x at same = (get_or (y ∷ ys) n y, Rattle.std.proofs.lemmas.Option.slice_get-get_or (y ∷ ys) n y (let l = slice_get_within xs n x at in omega (arith, l, same)))
 
--- two facts of one success
+-- two facts about one success
 pub on_ok_both : {X E : Type 0} (P Q : Type 0) (r : Result X E) → OnOk r P → OnOk r Q → OnOk r (P × Q)
 on_ok_both P Q (Ok x) p q = (p, q)
 on_ok_both P Q (Err e) p q = tt
 
 module _ (C : CatalogData) (F : FileContents) (first L : Sites) (around : IsWithin first L) where
   module _ (tables : List FoundTable) (known : Known) (is : IsKnown C F first tables known) where
-    -- a table that was found is held, where the loss has a site of each of its conflicts
+    -- a table that was found is held if the loss contains a site of each of its conflicts
     pub found_held : (n : ℕ) (c : Conflicts) → slice_get known.conflicts.items n ≡ Some c → AreAllHit c L → (T : List Row) × IsTableAt rows_found tables n T × HoldsSurvivors C F L T
     found_held n c at hit =
         let t = beside known.conflicts.items tables n c at (sym is.count) in
         (rows_found t.0, (t.0, t.1, refl), (is.each n t.0 c t.1 at L around).0 hit)
 
-    -- none of those that were found is held, where it misses a conflict of each
+    -- no table that was found is held if the loss misses a conflict of each
     pub none_held : NoneIsHit known.conflicts.items L → (n : ℕ) (T : List Row) → IsTableAt rows_found tables n T → ¬ HoldsSurvivors C F L T
     none_held none n T at held =
         let c = beside tables known.conflicts.items n at.0 at.1 is.count in
@@ -71,9 +71,9 @@ module _ (C : CatalogData) (F : FileContents) (first L : Sites) (around : IsWith
           go n t c (inr a) (inl b) = absurd (let l = slice_get_within before.conflicts.items n c b in let e = a.0 in omega (arith, l, e, known.count))
           go n t c (inr a) (inr b) = subst (λ x. AreConflictsOf C F first (rows_found x) c) (sym a.1) (subst (AreConflictsOf C F first (rows_found table)) (sym b.1) are)
 
--- ---- what a walk came to
+-- ---- the result of a walk
 
--- a loss is walked like itself
+-- a loss has the same walk as itself
 pub walked_itself : (C : CatalogData) (first L : Sites) → IsWithin first L → IsSafe C L → IsWalkedLike C first L L
 walked_itself C first L around safe = record { around = around; safe = safe; alike = λ S w h. h }
 

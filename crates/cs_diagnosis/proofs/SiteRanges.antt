@@ -1,4 +1,4 @@
--- Sites in their range.
+-- Sites are in their range.
 use Rattle.std.proofs.Common.{◌≡◌, ℕ, ◌<◌, ◌≤◌, Bool, true, false, length, refl, arith}
 use Rattle.cs_schema.specs.declared.file_name.FileName.{FileName}
 use Rattle.cs_schema.specs.CatalogData.{CatalogData, projection, HasSegment}
@@ -8,7 +8,7 @@ use Rattle.cs_schema.specs.Losses.{Sites, IsSites}
 use Rattle.cs_schema.proofs.Lists.{member_at}
 use Rattle.cs_recovery.specs.Conflicts.{site_of}
 
--- no number but 1 to 16 is a lost site's
+-- only numbers from 1 to 16 are lost sites
 pub no_site : (L : Sites) → IsSites L → (x : ℕ) → ((1 ≤ x) × (x ≤ 16) → ⊥) → false ≡ member L x
 no_site L sites x out = go (member L x) refl
   where

@@ -1,4 +1,4 @@
--- The verdict that is read off the explanations is what they come to.
+-- The verdict that the program reads off the explanations is the one that they amount to.
 use Rattle.std.proofs.Common.{◌≡◌, ℕ, ◌<◌, ◌≤◌, ◌==◌, Bool, true, false, cond, List, [], ◌∷◌, length, refl, sym, ap, subst, ◌∙◌, arith, inl, inr, Some, eqb-true, eq-eqb}
 use Rattle.std.proofs.lemmas.Option.{same_Some, slice_get_within, slice_get-get_or}
 use Rattle.std.proofs.Common.{get_or}
@@ -54,7 +54,7 @@ module _ {X : Type 0} (C : CatalogData) (held : Sites → List Row → Type 0) (
           let l = first_fewest e es a.in_order x.0 x.1 in
           some (omega (arith, z, l))
 
-      -- the places of tables are below their number
+      -- the indices of tables are below their number
       place_low : (n : ℕ) (T : List Row) → IsTableAt rows tables n T → n < length tables
       place_low n T t = slice_get_within tables n t.0 t.1
 

@@ -1,4 +1,4 @@
--- The rows of a table that stands in columns.
+-- The rows of a table that is given in columns.
 use Rattle.std.proofs.Common.{◌≡◌, ℕ, zero, suc, ◌<◌, ◌≤◌, List, [], ◌∷◌, length, refl, sym, ap, ◌∙◌, arith, Some, Ordering}
 use Rattle.std.specs.List.{slice_get}
 use Rattle.std.proofs.lemmas.List.{length-map}
@@ -32,7 +32,7 @@ module _ (C : CatalogData) (columns : List Cells) (t : IsTableIn C columns) wher
     pub row_there : slice_get (rows_in columns) i ≡ Some (row_of columns i)
     row_there = slice_get-made (row_of columns) (count_of columns) i h
 
-    -- where there is a row there is a column for each of the table's
+    -- if there is a row, there are as many columns as the table has
     pub as_wide : length columns ≡ length C.columns
     as_wide = sym (length-map columns (λ (x : Cells). cell (values x) i)) ∙ (t.table.rows (row_of columns i) (in_at (rows_in columns) i (row_of columns i) row_there)).0
 
@@ -72,7 +72,7 @@ module _ (C : CatalogData) (a b : List Cells) (first : IsTableIn C a) (second : 
         let cells' : slice_get (values y) j ≡ Some (cell (values y) j) = cell_or y j (omega (arith, long', there)) in
         stands o (e ∙ ap (λ z. option_cmp value_cmp z (slice_get (values y) j)) cells ∙ ap (option_cmp value_cmp (Some (cell (values x) i))) cells' ∙ ap (λ z. value_cmp z (cell (values y) j)) (sym key_here) ∙ ap (value_cmp (cell (row_of a i) C.key)) (sym key_there))
 
-  -- past the last row of one table the other has it
+  -- past the last row of one table, the other has the next key
   pub only_second : count_of a ≤ i → j < count_of b → IsNext C.key (rows_in a) (rows_in b) i j Greater
   only_second past there =
       IsNext.second (row_of b j) (row_there C b second j there)
@@ -83,7 +83,7 @@ module _ (C : CatalogData) (a b : List Cells) (first : IsTableIn C a) (second : 
       IsNext.first (row_of a i) (row_there C a first i here)
       (λ q g. let low = slice_get_within (rows_in b) j q g in absurd (let n = total C b second in omega (arith, low, past, n))) refl
 
-  -- ---- the same rows
+  -- ---- equal rows
 
   module _ (here : i < count_of a) (there : j < count_of b) where
     pub alike_rows : ((c : ℕ) (x y : Cells) → c < length a → slice_get a c ≡ Some x → slice_get b c ≡ Some y → slice_get (values x) i ≡ slice_get (values y) j) → row_of a i ≡ row_of b j

@@ -20,7 +20,7 @@ use Rattle.cs_diagnosis.specs.Walks.{HasPlan, AreWalks, IsPlanKept, IsRefuted}
 use Rattle.cs_diagnosis.specs.declared.walks.Walks.{Walks}
 use Rattle.cs_diagnosis.specs.declared.walks.WalkedPlan.{WalkedPlan}
 
--- what stands before an item of a longer list stood in the shorter one
+-- what precedes the last item of a list is in the list without it
 earlier : {X : Type 0} (xs : List X) (y : X) (i j : ℕ) (x : X) → i < j → j ≤ length xs → slice_get (xs ++ y ∷ []) i ≡ Some x → slice_get xs i ≡ Some x
 earlier xs y i j x l most at = elim (kept_or_last xs y i x at) [
   | inl there ↦ there
@@ -43,10 +43,10 @@ module _ (old new : Walks) (before now : List Conflicts) (grown : (c : Conflicts
       back : (i : ℕ) (a : WalkedPlan) → slice_get new.plans.items i ≡ Some a → slice_get old.plans.items i ≡ Some a
       back i a x = ap (λ l. slice_get l i) (sym same) ∙ x
 
-  -- ---- one walk more
+  -- ---- one more walk
 
   module _ (C : CatalogData) (F : FileContents) (first L : Sites) (around : IsWithin first L) (safe : IsSafe C L) (walks : AreWalks C F first old) (unknown : NoneIsHit before L) (unrefuted : ¬ IsRefuted C L old) where
-    -- a plan is walked again only where it leads to a table that the loss holds
+    -- a plan is walked again only if it leads to a table that the loss holds
     held_again : (a : WalkedPlan) (i : ℕ) → slice_get old.plans.items i ≡ Some a → HasPlan C L a.plan → ((T : List Row) → ¬ HoldsSurvivors C F L T) → ⊥
     held_again a i at plan none =
         let here = in_at old.plans.items i a at in
@@ -57,7 +57,7 @@ module _ (old new : Walks) (before now : List Conflicts) (grown : (c : Conflicts
           missed = λ c is hit. let t = (walks a here).hit L c (record { around = around; safe = safe; plan = plan }) is hit in none t.0 t.1;
         })
 
-    -- and where that table is not known
+    -- and if that table is not known
     known_once : (a : WalkedPlan) (i : ℕ) → slice_get old.plans.items i ≡ Some a → HasPlan C L a.plan → (c : Conflicts) → a.conflicts ≡ Some c → IsIn c before → ⊥
     known_once a i at plan c is among =
         let place = at_in before c among in

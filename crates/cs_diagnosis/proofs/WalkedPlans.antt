@@ -20,7 +20,7 @@ use Rattle.cs_diagnosis.specs.declared.walks.Walks.{Walks}
 use Rattle.cs_diagnosis.specs.declared.walks.WalkedPlan.{WalkedPlan}
 
 module _ (C : CatalogData) (F : FileContents) (first L : Sites) (P : PlanData) (has : HasPlan C L P) where
-  -- losses of one plan are walked alike
+  -- losses with the same plan have the same walk
   alike : (M : Sites) → IsPlan C M P → AreWalkedAlike C L M
   alike M other S w = subst (λ rule. IsWalkedBy rule C L S w → IsWalkedBy rule C M S w) (sym has.0) (λ x. (P, other, x.2 ∙ ap (walked C S) (one_plan C L x.0 P x.1 has.1)))
 
@@ -38,7 +38,7 @@ refuted C F first L w walks around safe r T held =
     let told = (walks r.walked r.kept).held L T (record { around = around; safe = safe; plan = r.plan }) held in
     r.missed told.0 told.1 told.2
 
--- one plan more
+-- one more plan
 pub one_plan_more : (C : CatalogData) (F : FileContents) (first : Sites) (old new : Walks) (k : WalkedPlan) → new.plans.items ≡ old.plans.items ++ k ∷ [] → AreWalks C F first old → IsPlanOutcome C F first k.plan k.conflicts → AreWalks C F first new
 one_plan_more C F first old new k more walks outcome m i = elim (in_append old.plans.items (k ∷ []) m (subst (IsIn m) more i)) [
   | inl before ↦ walks m before

@@ -30,7 +30,7 @@ unrefused None x y e = same_ok x y e
 unrefused (Some f) x y e = absurd (not_ok f y e)
 
 module _ (C : CatalogData) (cat : IsCatalog C) (F : FileContents) (first L : Sites) (v : SurvivorsData) (read : AreRead C F first v) where
-  -- what is unordered is so beside each loss with the same walk
+  -- what has no order under a loss has none under each loss with the same walk
   unordered_too : (M : Sites) (f : Fault) → AreWalkedAlike C L M → IsUnordered C L (contents_of v) f → IsUnordered C M (contents_of v) f
   unordered_too M f alike (IsUnordered.astray h) = IsUnordered.astray (h.0, alike (contents_of v) (Err h.0) h.1, h.2)
   unordered_too M f alike (IsUnordered.refused rows walk h) = IsUnordered.refused rows (alike (contents_of v) (Ok rows) walk) h
@@ -40,7 +40,7 @@ module _ (C : CatalogData) (cat : IsCatalog C) (F : FileContents) (first L : Sit
       let verdict = unordered_rows C F M (contents_of v) (read_beside C F first M v like.around read).reads f (unordered_too M f like.alike h) in
       not_ok f U (verdict_is C cat (layers C cat) F M like.safe U held (Err f) verdict)
 
-  -- a fault that is none of memory leaves no table
+  -- a fault other than out of memory leaves no table
   pub no_table_beside : (f : Fault) → MemoryOr f (IsUnordered C L (contents_of v) f) → (f ≡ Fault.Memory → ⊥) → HasNoTable C F first L
   no_table_beside f (inl memory) other M U like held = other memory
   no_table_beside f (inr unordered) other M U like held = no_table f unordered M U like held

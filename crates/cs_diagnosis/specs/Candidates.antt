@@ -1,4 +1,4 @@
--- The table to which survivors lead, and how its conflicts judge each loss.
+-- The table to which the survivors of a loss lead, and the losses under which the files hold it.
 use Rattle.std.specs.Prelude.{◌≡◌, ◌↔◌, List, Result}
 use Rattle.cs_schema.specs.CatalogData.{CatalogData}
 use Rattle.cs_schema.specs.FileNames.{FileContents}
@@ -14,16 +14,16 @@ use Rattle.cs_diagnosis.specs.Conflicts.{AreAllHit}
 use Rattle.cs_diagnosis.specs.declared.candidate.Candidate.{Candidate}
 use Rattle.cs_diagnosis.specs.declared.conflicts.Conflicts.{Conflicts}
 
--- These are all conflicts of a table with the files that survive a first loss: of the losses around it, just those have a
--- site of each, of which the survivors hold the table.
+-- All conflicts of a table with the files that survive a first loss: of the losses that contain that one, exactly those
+-- leave the table that contain a site of each conflict.
 abbrev pub AreConflictsOf : CatalogData → FileContents → Sites → List Row → Conflicts → Type 0
 AreConflictsOf C F first T k = (L : Sites) → IsWithin first L → AreAllHit k L ↔ HoldsSurvivors C F L T
 
--- what is a walk beside the one loss is one beside the other
+-- each walk under the one loss is a walk under the other
 abbrev pub AreWalkedAlike : CatalogData → Sites → Sites → Type 0
 AreWalkedAlike C L M = (S : Contents) (w : Result (List Row) Stray) → IsWalkedBy C.safety C L S w → IsWalkedBy C.safety C M S w
 
--- a safe loss around a first one, beside which the walk is the same
+-- a safe loss that contains a first one and has the same walk as another loss
 pub record IsWalkedLike (C : CatalogData) (first L M : Sites) : Type 0 where
   pub around : IsWithin first M
   pub safe : IsSafe C M
@@ -33,7 +33,7 @@ pub record IsWalkedLike (C : CatalogData) (first L M : Sites) : Type 0 where
 abbrev pub HasNoTable : CatalogData → FileContents → Sites → Sites → Type 0
 HasNoTable C F first L = (M : Sites) (U : List Row) → IsWalkedLike C first L M → ¬ HoldsSurvivors C F M U
 
--- A table with all its conflicts, and no loss with this walk is accepted with another.
+-- A table with all its conflicts. No loss with this walk is accepted with another table.
 pub record IsCandidate (C : CatalogData) (F : FileContents) (first L : Sites) (c : Candidate) : Type 0 where
   pub catalog : c.store.catalog.now ≡ C
   pub table : IsTable C (table_on c.store)

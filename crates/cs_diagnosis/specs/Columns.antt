@@ -9,7 +9,7 @@ use Rattle.cs_rows.specs.WalkedView.{AreColumns, rows_of, count_of}
 abbrev pub rows_in : List Cells → List Row
 rows_in columns = rows_of columns (count_of columns)
 
--- columns of one length, whose rows are a table
+-- columns of the same length, whose rows are a table
 pub record IsTableIn (C : CatalogData) (columns : List Cells) : Type 0 where
   pub even : AreColumns columns
   pub table : IsTable C (rows_in columns)

@@ -1,4 +1,4 @@
--- Laws over conflicts, each the contract of a function of src/laws.rt.
+-- Laws about conflicts; each is the contract of a function of src/conflict_laws.rt.
 use Rattle.std.specs.Prelude.{◌↔◌, List}
 use Rattle.cs_schema.specs.CatalogData.{CatalogData}
 use Rattle.cs_schema.specs.CatalogRules.{IsCatalog}
@@ -13,8 +13,8 @@ use Rattle.cs_diagnosis.specs.Candidates.{AreConflictsOf}
 use Rattle.cs_diagnosis.specs.Conflicts.{AreAllHit}
 use Rattle.cs_diagnosis.specs.declared.conflicts.Conflicts.{Conflicts}
 
--- The safe losses around the first that have a site of each conflict that is kept of a table are those that have one of each
--- conflict of the table.
+-- Of the safe losses that contain a first one, those that contain a site of each stored conflict of a table are those
+-- that contain a site of each conflict of the table.
 abbrev pub KeptConflictsAreConflicts : Type 0
 KeptConflictsAreConflicts =
     (C : CatalogData) → IsCatalog C → (F : FileContents) (first : Sites) (T : List Row) (k : Conflicts) → IsTable C T → Fits C T → AreRead C F → AreConflictsOf C F first T k

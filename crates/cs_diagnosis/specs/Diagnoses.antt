@@ -1,4 +1,4 @@
--- What a diagnosis of a store's files is.
+-- A diagnosis of a store's files.
 use Rattle.std.specs.Prelude.{◌≡◌, ℕ, ◌+◌, ◌*◌, ◌≤◌, ◌⊎◌, ◌↔◌, List, length, Option, IsTrue}
 use Rattle.cs_schema.specs.declared.file_name.FileName.{FileName}
 use Rattle.cs_schema.specs.CatalogData.{CatalogData}
@@ -26,8 +26,8 @@ use Rattle.cs_diagnosis.specs.declared.diagnosing.Diagnosis.{Diagnosis}
 abbrev pub rows_found : FoundTable → List Row
 rows_found t = rows_in t.columns.items
 
--- Files held a table. The forced sites and m others at most were changed, in whatever way; the catalog is safe for every
--- loss of at most k sites, and the forced sites with twice m are at most k.
+-- Files held a table. The forced sites and at most m others were changed, in any way. The catalog is safe for every
+-- loss of at most k sites, and the number of forced sites plus 2m is at most k.
 pub record WereChanged (C : CatalogData) (F : FileContents) (forced : Sites) (m : ℕ) (T : List Row) : Type 0 where
   pub before : FileContents
   pub sites : Sites
@@ -37,11 +37,11 @@ pub record WereChanged (C : CatalogData) (F : FileContents) (forced : Sites) (m 
   pub few : length sites ≤ length forced + m
   pub fits : length forced + 2 * m ≤ k
 
--- A diagnosis, by losses of at most so many sites as is asked for:
--- the list of the bad files, their sites, which every accepted loss holds, and every explanation with its table;
--- each safe loss around an explanation is accepted with that one's table; the verdict is what the explanations come to.
--- Where m others at most were changed beside the forced sites, it tells the table that the store held, if it looks at
--- the losses of just so many; and if it looks at more, it tells that table wherever it finds one alone.
+-- A diagnosis, by losses of at most the number of sites that is asked for. It has the list of the bad files, their
+-- sites, which every accepted loss contains, and every explanation with its table. Each safe loss that contains an
+-- explanation is accepted with that table. The verdict is that of the explanations. If at most m sites besides the
+-- forced ones were changed and losses of at most the forced sites and m more are tried, the verdict is the table that
+-- the store held; if larger losses are tried, it is that table whenever only one table is found.
 pub record IsDiagnosis (C : CatalogData) (F : FileContents) (unreadable : List FileName) (asked : Option ℕ) (d : Diagnosis) : Type 0 where
   pub list : AreBadFiles C F unreadable d.bad.items
   pub sites : (x : ℕ) → IsTrue (member d.forced x) ↔ IsBadSite C d.bad.items x

@@ -14,14 +14,14 @@ use Rattle.cs_diagnosis.specs.declared.diagnosing.Diagnosis.{Diagnosis}
 use Rattle.cs_diagnosis.specs.declared.disputing.TableDisputes.{TableDisputes}
 use Rattle.cs_diagnosis.specs.declared.tables.FoundTable.{FoundTable}
 
--- how many disputes two tables have, and so many of them at most, the first by key
+-- the number of disputes of two tables, and the first of them by key, at most `at_most`
 pub record AreFirstDisputes (C : CatalogData) (at_most : ℕ) (T U : List Row) (d : Disputes) : Type 0 where
   pub all : List Dispute
   pub are : AreDisputes C.key T U all
   pub count : d.count ≡ length all
   pub rows : d.rows.items ≡ take at_most all
 
--- the disputes of two tables of these, by the places of the tables
+-- the disputes of two tables, with the indices of the tables
 pub record AreOfTables (C : CatalogData) (tables : List FoundTable) (at_most : ℕ) (d : TableDisputes) : Type 0 where
   pub first_table : FoundTable
   pub second_table : FoundTable

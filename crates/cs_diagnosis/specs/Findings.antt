@@ -1,4 +1,4 @@
--- What a diagnosis finds: every explanation of so many sites, and no other.
+-- What a diagnosis finds: all explanations of at most a number of sites, and what they amount to.
 use Rattle.std.specs.Prelude.{◌≡◌, ℕ, ◌≤◌, List, [], length, Some}
 use Rattle.std.specs.List.{slice_get}
 use Rattle.std.specs.List.Sorted.{IsStrictlySortedBy}
@@ -15,7 +15,7 @@ use Rattle.cs_diagnosis.specs.Explanations.{IsAccepted, IsLeastAccepted}
 abbrev pub IsTableAt : {X : Type 0} → (X → List Row) → List X → ℕ → List Row → Type 0
 IsTableAt {X} rows tables n T = (t : X) × (slice_get tables n ≡ Some t) × (rows t ≡ T)
 
--- some loss of the explanations, all of whose sites are lost
+-- the loss contains one of the explanations
 abbrev pub IsExplained : List Explanation → Sites → Type 0
 IsExplained found L = (e : Explanation) × IsIn e found × IsWithin e.loss L
 
@@ -23,7 +23,8 @@ IsExplained found L = (e : Explanation) × IsIn e found × IsWithin e.loss L
 abbrev pub IsFound : List Explanation → Sites → Type 0
 IsFound found L = (e : Explanation) × IsIn e found × IsWithin e.loss L × IsWithin L e.loss
 
--- Of at most so many sites, these are all explanations, in the order of losses, each with the place of its table; no table stands at two places.
+-- All explanations of at most `at_most` sites, in the order of losses, each with the index of its table. No table is
+-- listed twice.
 pub record AreExplanations {X : Type 0} (C : CatalogData) (held : Sites → List Row → Type 0) (at_most : ℕ) (rows : X → List Row) (found : List Explanation) (tables : List X) : Type 0 where
   pub each : (e : Explanation) → IsIn e found → (length e.loss ≤ at_most) × ((T : List Row) × IsTableAt rows tables e.table T × IsLeastAccepted C held e.loss T)
   pub all : (L : Sites) (T : List Row) → IsLeastAccepted C held L T → length L ≤ at_most → (e : Explanation) × IsIn e found × (e.loss ≡ L)
@@ -32,7 +33,7 @@ pub record AreExplanations {X : Type 0} (C : CatalogData) (held : Sites → List
   pub apart : (m n : ℕ) (T : List Row) → IsTableAt rows tables m T → IsTableAt rows tables n T → m ≡ n
   pub used : (n : ℕ) (T : List Row) → IsTableAt rows tables n T → (e : Explanation) × IsIn e found × (e.table ≡ n)
 
--- What the explanations of at most so many sites come to.
+-- What the explanations of at most `at_most` sites amount to.
 pub data IsVerdict (C : CatalogData) (held : Sites → List Row → Type 0) (at_most : ℕ) (v : Verdict) : Type 0 where
   sound : (T : List Row) → IsAccepted C held [] T → v ≡ Verdict.Sound → IsVerdict C held at_most v
   one_table : (L : Sites) (T : List Row) → ((U : List Row) → ¬ IsAccepted C held [] U) → IsLeastAccepted C held L T → length L ≤ at_most

@@ -16,23 +16,23 @@ use Rattle.cs_diagnosis.specs.declared.tables.FoundTable.{FoundTable}
 use Rattle.cs_diagnosis.specs.declared.walks.WalkedPlan.{WalkedPlan}
 use Rattle.cs_diagnosis.specs.declared.walks.Walks.{Walks}
 
--- Each plan is walked once, and once more only where it then leads to a table that is accepted: never a third time.
+-- Each plan is walked once, and a second time only if it then leads to a table that is accepted; never a third time.
 pub record AreWalkedOnce (walks : Walks) (known : List Conflicts) : Type 0 where
   pub again : (i j : ℕ) (a b : WalkedPlan) → i < j → slice_get walks.plans.items i ≡ Some a → slice_get walks.plans.items j ≡ Some b → a.plan ≡ b.plan → (c : Conflicts) × (b.conflicts ≡ Some c) × IsIn c known
   pub twice : (i j k : ℕ) (a b d : WalkedPlan) → i < j → j < k → slice_get walks.plans.items i ≡ Some a → slice_get walks.plans.items j ≡ Some b → slice_get walks.plans.items k ≡ Some d → a.plan ≡ b.plan → ¬ (b.plan ≡ d.plan)
 
--- the conflicts of each table that was found, and what plans came to
+-- the conflicts of each table that was found, and the results of plans
 pub record IsKnown (C : CatalogData) (F : FileContents) (first : Sites) (tables : List FoundTable) (known : Known) : Type 0 where
   pub count : length known.conflicts.items ≡ length tables
   pub each : (n : ℕ) (t : FoundTable) (c : Conflicts) → slice_get tables n ≡ Some t → slice_get known.conflicts.items n ≡ Some c → AreConflictsOf C F first (rows_found t) c
   pub walks : AreWalks C F first known.walks
   pub once : AreWalkedOnce known.walks known.conflicts.items
 
--- no table that was found explains the store by this loss
+-- the loss misses a conflict of each table that was found
 abbrev pub NoneIsHit : List Conflicts → Sites → Type 0
 NoneIsHit conflicts L = (n : ℕ) (c : Conflicts) → slice_get conflicts n ≡ Some c → ¬ AreAllHit c L
 
--- a table was kept with its conflicts, and a loss that explains the store by it
+-- a table was added with its conflicts, and a loss that explains the store by it
 pub record IsKeptTable (L : Sites) (table : FoundTable) (conflicts : Conflicts) (old new : Findings FoundTable) (before now : Known) : Type 0 where
   pub tables : new.tables.items ≡ old.tables.items ++ table ∷ []
   pub conflicts_too : now.conflicts.items ≡ before.conflicts.items ++ conflicts ∷ []

@@ -16,37 +16,38 @@ use Rattle.cs_diagnosis.specs.declared.conflicts.Conflicts.{Conflicts}
 use Rattle.cs_diagnosis.specs.declared.walks.Walks.{Walks}
 use Rattle.cs_diagnosis.specs.declared.walks.WalkedPlan.{WalkedPlan}
 
--- of the losses that are walked like this one, just those hold a table that have a site of each of its conflicts
+-- of the losses with the same walk as this one, exactly those leave a table that contain a site of each of its
+-- conflicts
 pub record IsWalkOutcome (C : CatalogData) (F : FileContents) (first L : Sites) (conflicts : Option Conflicts) : Type 0 where
   pub held : (M : Sites) (T : List Row) → IsWalkedLike C first L M → HoldsSurvivors C F M T → (c : Conflicts) × (conflicts ≡ Some c) × AreAllHit c M
   pub hit : (M : Sites) (c : Conflicts) → IsWalkedLike C first L M → conflicts ≡ Some c → AreAllHit c M → (T : List Row) × HoldsSurvivors C F M T
 
--- the plan by which a loss is walked, by whole projections
+-- the plan by which a loss is walked, if the catalog's safety is that of whole projections
 abbrev pub HasPlan : CatalogData → Sites → PlanData → Type 0
 HasPlan C L P = (C.safety ≡ Safety.Whole) × IsPlan C L P
 
--- a safe loss around a first one, that is walked by this plan
+-- a safe loss that contains a first one and is walked by this plan
 pub record IsPlanned (C : CatalogData) (first : Sites) (P : PlanData) (M : Sites) : Type 0 where
   pub around : IsWithin first M
   pub safe : IsSafe C M
   pub plan : HasPlan C M P
 
--- of the losses that are walked by this plan, just those hold a table that have a site of each of its conflicts
+-- of the losses that are walked by this plan, exactly those leave a table that contain a site of each of its conflicts
 pub record IsPlanOutcome (C : CatalogData) (F : FileContents) (first : Sites) (P : PlanData) (conflicts : Option Conflicts) : Type 0 where
   pub held : (M : Sites) (T : List Row) → IsPlanned C first P M → HoldsSurvivors C F M T → (c : Conflicts) × (conflicts ≡ Some c) × AreAllHit c M
   pub hit : (M : Sites) (c : Conflicts) → IsPlanned C first P M → conflicts ≡ Some c → AreAllHit c M → (T : List Row) × HoldsSurvivors C F M T
 
--- what is kept of each plan is true of it
+-- the result that is stored for each plan is true of it
 abbrev pub AreWalks : CatalogData → FileContents → Sites → Walks → Type 0
 AreWalks C F first w = (k : WalkedPlan) → IsIn k w.plans.items → IsPlanOutcome C F first k.plan k.conflicts
 
--- the loss's plan is kept too, with what it came to; or the loss has none
+-- the plan of the loss was stored too, with its result; or the loss has no plan
 abbrev pub IsPlanKept : CatalogData → Sites → Option Conflicts → Walks → Walks → Type 0
 IsPlanKept C L conflicts old new =
     ((P : PlanData) × HasPlan C L P × (new.plans.items ≡ old.plans.items ++ (record { plan = P; conflicts = conflicts }) ∷ []))
     ⊎ (((P : PlanData) → ¬ HasPlan C L P) × (new.plans.items ≡ old.plans.items))
 
--- the loss's plan was walked, and led to no table, or to one of which the loss misses a conflict
+-- the plan of the loss was walked, and led to no table, or to one with a conflict that the loss misses
 pub record IsRefuted (C : CatalogData) (L : Sites) (w : Walks) : Type 0 where
   pub walked : WalkedPlan
   pub kept : IsIn walked w.plans.items

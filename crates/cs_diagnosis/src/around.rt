@@ -1,7 +1,7 @@
 //! Parts of losses.
 use cs_schema::Loss;
 
-/// The sites of a loss but one.
+/// The sites of a loss, except one.
 pub fn without(loss: Loss, site: u8) -> Loss {
     let mut left = Loss::none();
     for other in 1..17u8 {

@@ -23,7 +23,7 @@ impl Candidate<'_> {
     ghost use Rattle.cs_rebuild.specs.OnStore.{table_on};
 
     /// The rows of the table by primary key: a column of cells for each column of the table. Its orders are freed
-    /// first, and each walked column once it is copied.
+    /// first, and each walked column once it is copied. Fails only if memory is refused.
     pub fn columns<R: Threads + Sync, G>(
         self,
         run: &Run<'_, R, G>,

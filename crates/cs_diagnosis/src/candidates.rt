@@ -1,4 +1,4 @@
-//! The table to which the survivors of a loss lead, with what contradicts it.
+//! The table to which the survivors of a loss lead, with its conflicts.
 ghost use Rattle.std.specs.Prelude.{IfOk, MatchOption};
 ghost use Rattle.cs_schema.specs.CatalogRules.{IsCatalog};
 ghost use Rattle.cs_schema.specs.FileNames.{FileContents};
@@ -17,7 +17,7 @@ use std::alloc::AllocError;
 use std::marker::Sync;
 use std::thread::Threads;
 
-/// A store as far as it survives a first loss: it is read once, for all losses that contain that one.
+/// What survives a first loss of a store. It is read once for all losses that contain that one.
 #[derive(Drop)]
 pub struct Remains<'a> {
     pub catalog: &'a Catalog,
@@ -36,7 +36,10 @@ pub fn find_candidate<'a, R: Threads + Sync, G: Gate + Sync>(
     requires safe { IsSafe remains.now.catalog.now loss }
     requires within { IsWithin remains.now.first loss }
     requires read { (F : FileContents) × AreRead remains.now.catalog.now F remains.now.first remains.now.survivors.now }
-    ensures { IfOk result (λ found. (F : FileContents) → AreRead remains.now.catalog.now F remains.now.first remains.now.survivors.now → MatchOption found (HasNoTable remains.now.catalog.now F remains.now.first loss) (IsCandidate remains.now.catalog.now F remains.now.first loss)) }
+    ensures { IfOk result (λ found. (F : FileContents)
+        → AreRead remains.now.catalog.now F remains.now.first remains.now.survivors.now
+        → MatchOption found (HasNoTable remains.now.catalog.now F remains.now.first loss)
+        (IsCandidate remains.now.catalog.now F remains.now.first loss)) }
 {
     let catalog = remains.catalog;
     let store = match order_store(run, catalog, loss, remains.survivors) {

@@ -16,15 +16,6 @@ pub fn row_count(catalog: &Catalog, columns: &[Cells]) -> usize
     columns[0].len()
 }
 
-/// The column of the primary key.
-fn key_column(catalog: &Catalog) -> usize
-    ensures column { result ≡ catalog.now.key }
-    ensures within { result < length catalog.now.columns }
-{
-    let _rules = catalog.projection_count();
-    catalog.key as usize
-}
-
 /// Compares the keys of two rows.
 fn key_order(catalog: &Catalog, first: &[Cells], i: usize, second: &[Cells], j: usize) -> Ordering
     requires first { IsTableIn catalog.now first.now }
@@ -33,11 +24,12 @@ fn key_order(catalog: &Catalog, first: &[Cells], i: usize, second: &[Cells], j: 
     requires there { j < count_of second.now }
     ensures { IsNext catalog.now.key (rows_in first.now) (rows_in second.now) i j result }
 {
-    let key = key_column(catalog);
+    let key = catalog.key_column();
     first[key].compare_cell(i, &second[key], j)
 }
 
-/// Which of two tables has the next key, from an index in each.
+/// Which of two tables has the row with the smaller key at these indices. A table without rows left has the greater
+/// key.
 pub fn next_of(catalog: &Catalog, first: &[Cells], i: usize, second: &[Cells], j: usize) -> Ordering
     requires first { IsTableIn catalog.now first.now }
     requires second { IsTableIn catalog.now second.now }

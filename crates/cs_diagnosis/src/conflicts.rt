@@ -4,12 +4,12 @@ ghost use Rattle.cs_diagnosis.specs.Pairs.{AreKeptOnce};
 use cs_design::within::is_within;
 use cs_schema::Loss;
 
-/// The pairs of sites with which a table is in conflict. A loss that is accepted with the table contains a site of
-/// each.
+/// The pairs of sites with which a table is in conflict. A loss that is accepted with the table contains a site of each
+/// pair.
 #[derive(Clone, Copy)]
 pub struct Conflicts {
-    /// For each site from 1 to 16, the sites from it on that conflict with it: itself if one of its files contradicts
-    /// the table alone. So each pair is stored once; there are at most 136.
+    /// For each site from 1 to 16, the sites from it on with which it is in conflict; this includes itself if one of
+    /// its files contradicts the table by itself. So each pair is stored once, and there are at most 136.
     pub with: [Loss; 16],
     pub ghost once: { AreKeptOnce with },
 }
@@ -20,7 +20,7 @@ impl Conflicts {
     ghost use Rattle.cs_schema.specs.Losses.{Sites};
     ghost use Rattle.cs_diagnosis.specs.Conflicts.{AreAllHit};
 
-    /// No conflict.
+    /// No conflicts.
     pub(crate) fn none() -> Self
         ensures { (L : Sites) → AreAllHit result L }
     {
@@ -29,7 +29,7 @@ impl Conflicts {
         }
     }
 
-    /// These conflicts and one more, of two sites or of a single one.
+    /// These conflicts and one more, between two sites or of a single site.
     pub(crate) fn with_pair(&self, first: u8, second: u8) -> Self
         requires first { (1 ≤ first) × (first ≤ 16) }
         requires second { (1 ≤ second) × (second ≤ 16) }

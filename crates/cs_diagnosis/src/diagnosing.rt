@@ -31,9 +31,10 @@ use std::thread::Threads;
 pub struct Diagnosis {
     /// The bad files, in the order of their names.
     pub bad: Vec<(FileName, Badness)>,
-    /// Their sites. Each explanation contains them.
+    /// The sites of the bad files. Each explanation contains them.
     pub forced: Loss,
-    /// The number of sites of the losses that were tried, and the number of changed sites for which that is certain.
+    /// The maximum number of sites of the losses that were tried, and the number of changed sites for which the result
+    /// is certain.
     pub reach: Reach,
     /// The minimal accepted losses, fewest sites first, each with the index of its table.
     pub explanations: Vec<Explanation>,
@@ -42,7 +43,7 @@ pub struct Diagnosis {
     pub verdict: Verdict,
 }
 
-/// The explanations of a store whose bad files are known and whose other files were read.
+/// The diagnosis of a store whose bad files are known and whose other files were read.
 fn diagnose_read<R: Threads + Sync, G: Progress + Sync>(
     run: &Run<'_, R, G>,
     remains: &Remains<'_>,
@@ -50,8 +51,13 @@ fn diagnose_read<R: Threads + Sync, G: Progress + Sync>(
     at_most: Option<u8>,
 ) -> Result<Diagnosis, AllocError>
     requires at_most { IfSome at_most (λ n. n ≤ 16) }
-    requires read { (F : FileContents) × (unreadable : List NameData) × AreRead remains.now.catalog.now F remains.now.first remains.now.survivors.now × AreTold remains.now.catalog.now F unreadable bad.items remains.now.first }
-    ensures { IfOk result (λ d. (F : FileContents) (unreadable : List NameData) → AreRead remains.now.catalog.now F remains.now.first remains.now.survivors.now → AreTold remains.now.catalog.now F unreadable bad.items remains.now.first → IsDiagnosis remains.now.catalog.now F unreadable at_most d) }
+    requires read { (F : FileContents) × (unreadable : List NameData)
+        × AreRead remains.now.catalog.now F remains.now.first remains.now.survivors.now
+        × AreTold remains.now.catalog.now F unreadable bad.items remains.now.first }
+    ensures { IfOk result (λ d. (F : FileContents) (unreadable : List NameData)
+        → AreRead remains.now.catalog.now F remains.now.first remains.now.survivors.now
+        → AreTold remains.now.catalog.now F unreadable bad.items remains.now.first
+        → IsDiagnosis remains.now.catalog.now F unreadable at_most d) }
 {
     let forced = remains.first;
     let _sites = forced.count();
@@ -69,7 +75,7 @@ fn diagnose_read<R: Threads + Sync, G: Progress + Sync>(
     }
 }
 
-/// The explanations of a store whose bad files are known.
+/// The diagnosis of a store whose bad files are known.
 fn diagnose_bad<R: Threads + Sync, G: Progress + Sync>(
     run: &Run<'_, R, G>,
     catalog: &Catalog,
@@ -78,8 +84,11 @@ fn diagnose_bad<R: Threads + Sync, G: Progress + Sync>(
     at_most: Option<u8>,
 ) -> Result<Diagnosis, AllocError>
     requires at_most { IfSome at_most (λ n. n ≤ 16) }
-    requires bad { (unreadable : List NameData) × AreAbsent (contents_of files.now) unreadable × AreBadFiles catalog.now (contents_of files.now) unreadable bad.items }
-    ensures { IfOk result (λ d. (unreadable : List NameData) → AreAbsent (contents_of files.now) unreadable → AreBadFiles catalog.now (contents_of files.now) unreadable bad.items → IsDiagnosis catalog.now (contents_of files.now) unreadable at_most d) }
+    requires bad { (unreadable : List NameData) × AreAbsent (contents_of files.now) unreadable
+        × AreBadFiles catalog.now (contents_of files.now) unreadable bad.items }
+    ensures { IfOk result (λ d. (unreadable : List NameData) → AreAbsent (contents_of files.now) unreadable
+        → AreBadFiles catalog.now (contents_of files.now) unreadable bad.items
+        → IsDiagnosis catalog.now (contents_of files.now) unreadable at_most d) }
 {
     let first = bad_sites(catalog, bad.as_slice());
     match read_store(run, catalog, first, files) {
@@ -98,8 +107,8 @@ fn diagnose_bad<R: Threads + Sync, G: Progress + Sync>(
     }
 }
 
-/// The diagnosis of a store whose files are all good and read, except those of the sites with missing files: only the
-/// files of these sites are inspected again.
+/// The diagnosis of a store in which all files are read and good, except on the sites with missing files. Only the
+/// files of these sites are inspected.
 fn diagnose_beside<R: Threads + Sync, G: Progress + Sync>(
     run: &Run<'_, R, G>,
     remains: &Remains<'_>,
@@ -121,10 +130,11 @@ fn diagnose_beside<R: Threads + Sync, G: Progress + Sync>(
 }
 
 /// Diagnoses a store: its bad files, the losses of at most `at_most` sites that explain the rest, and whether these
-/// agree on one table. Without a number, losses of as many sites are tried as can be told with certainty, and of at
-/// least one.
+/// agree on one table.
 ///
-/// No unreadable name is among the files.
+/// `at_most` is at most 16. If it is `None`, losses of as many sites are tried as are needed to correct the maximum
+/// number of changed sites, and of at least one. `unreadable` has the names at which the device failed; none of them is
+/// among the files. Fails only if memory is refused.
 pub fn diagnose<R: Threads + Sync, G: Progress + Sync>(
     run: &Run<'_, R, G>,
     catalog: &Catalog,
@@ -154,7 +164,7 @@ pub fn diagnose<R: Threads + Sync, G: Progress + Sync>(
     }
 }
 
-/// Diagnoses a store with a damaged file: each file is inspected by itself.
+/// The diagnosis of a store with a damaged file. Each file is inspected by itself.
 fn diagnose_damaged<R: Threads + Sync, G: Progress + Sync>(
     run: &Run<'_, R, G>,
     catalog: &Catalog,

@@ -11,7 +11,7 @@ use crate::{Disputes, find_disputes};
 use cs_schema::Catalog;
 use std::alloc::{AllocError, Global};
 
-/// Where two tables of a diagnosis differ: the indices of the tables, and the rows by theirs.
+/// Where two tables of a diagnosis differ: the indices of the tables, and the disputes with the indices of the rows.
 #[derive(Drop)]
 pub struct TableDisputes {
     pub first: usize,
@@ -19,7 +19,7 @@ pub struct TableDisputes {
     pub disputes: Disputes,
 }
 
-/// Where two tables differ. No two tables in memory have 2^64 rows.
+/// Where two tables differ. Fails as if memory were refused if they have 2^64 rows or more, which do not fit in memory.
 fn disputes_of(
     alloc: Global,
     catalog: &Catalog,
@@ -43,7 +43,7 @@ fn disputes_of(
     )
 }
 
-/// Appends where a table differs from each one before it.
+/// Appends where two tables differ. `first` and `second` are their indices.
 fn add_disputes(
     found: &mut Vec<TableDisputes>,
     catalog: &Catalog,
@@ -55,7 +55,8 @@ fn add_disputes(
     requires places { first < second }
     requires within { second < length tables.now }
     requires tables { (n : _) (t : FoundTable) → slice_get tables.now n ≡ Some t → IsTable catalog.now (rows_found t) }
-    ensures { OnOk result ((d : TableDisputes) × (found.new.items ≡ found.old.items ++ d ∷ []) × AreOfTables catalog.now tables.now at_most d × (d.first ≡ first) × (d.second ≡ second)) }
+    ensures { OnOk result ((d : TableDisputes) × (found.new.items ≡ found.old.items ++ d ∷ [])
+        × AreOfTables catalog.now tables.now at_most d × (d.first ≡ first) × (d.second ≡ second)) }
 {
     let alloc = *found.allocator();
     let (earlier, later) = (&tables[first], &tables[second]);
@@ -68,7 +69,8 @@ fn add_disputes(
     Ok(())
 }
 
-/// Where any two tables of a diagnosis differ: the number of rows, and at most `at_most` of them, the first by key.
+/// Where each two tables of a diagnosis differ: the number of disputes, and the first of them by key, at most
+/// `at_most`. Fails only if memory is refused.
 pub fn disputed_rows(
     alloc: Global,
     catalog: &Catalog,

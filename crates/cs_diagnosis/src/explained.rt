@@ -1,4 +1,4 @@
-//! Which losses the known explanations cover.
+//! The losses that known explanations cover.
 ghost use Rattle.std.specs.Prelude.{◌↔◌, IsTrue};
 ghost use Rattle.cs_safety.specs.Within.{IsWithin};
 ghost use Rattle.cs_diagnosis.specs.Findings.{IsExplained, IsFound};
@@ -7,7 +7,7 @@ use crate::findings::Explanation;
 use cs_design::within::is_within;
 use cs_schema::Loss;
 
-/// Whether a loss contains some explanation.
+/// Whether a loss contains an explanation.
 pub fn is_explained(found: &[Explanation], loss: Loss) -> bool
     ensures { IsTrue result ↔ IsExplained found.now loss }
 {

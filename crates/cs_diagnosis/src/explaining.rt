@@ -1,4 +1,4 @@
-//! The search for explanations: a store's files say which losses are accepted.
+//! The search for explanations by walking what losses leave.
 ghost use Rattle.std.specs.Prelude.{◌≡◌, ◌≤◌, ◌++◌, ◌∷◌, [], IfOk, OnOk, Option};
 ghost use Rattle.cs_schema.specs.FileNames.{FileContents};
 ghost use Rattle.cs_schema.specs.Rows.{IsTable};
@@ -34,7 +34,9 @@ fn keep_known(
     loss: Loss,
     table: usize,
 ) -> Result<(), AllocError>
-    ensures { OnOk result ((findings.new.explanations.items ≡ findings.old.explanations.items ++ (record { loss = loss; table = table }) ∷ []) × (findings.new.tables.items ≡ findings.old.tables.items)) }
+    ensures { OnOk result ((findings.new.explanations.items
+        ≡ findings.old.explanations.items ++ (record { loss = loss; table = table }) ∷ [])
+        × (findings.new.tables.items ≡ findings.old.tables.items)) }
 {
     findings.explanations.push(Explanation { loss, table })?;
     Ok(())
@@ -71,8 +73,8 @@ fn table_of<R: Threads + Sync, G>(
     }
 }
 
-/// Walks what survives a loss and stores the result for its plan. If the loss is accepted, it explains the store by a
-/// new table.
+/// Walks what survives a loss and stores the result for its plan. If the loss is accepted, it is added as an
+/// explanation by a new table.
 fn walk_loss<R: Threads + Sync, G: Progress + Sync>(
     findings: &mut Findings<FoundTable>,
     known: &mut Known,
@@ -89,7 +91,8 @@ fn walk_loss<R: Threads + Sync, G: Progress + Sync>(
         → IsKnown remains.now.catalog.now F remains.now.first findings.old.tables.items known.old
         → IsTried (HoldsSurvivors remains.now.catalog.now F loss) rows_found loss findings.old findings.new
         × IsKnown remains.now.catalog.now F remains.now.first findings.new.tables.items known.new) }
-    ensures kept { OnOk result ((conflicts : Option ConflictsData) × IsPlanKept remains.now.catalog.now loss conflicts known.old.walks known.new.walks) }
+    ensures kept { OnOk result ((conflicts : Option ConflictsData)
+        × IsPlanKept remains.now.catalog.now loss conflicts known.old.walks known.new.walks) }
 {
     run.gate.tried(loss);
     match find_candidate(run, remains, loss)? {
@@ -108,7 +111,7 @@ fn walk_loss<R: Threads + Sync, G: Progress + Sync>(
     }
 }
 
-/// Tries one loss. If it is accepted, it is a new explanation. It is walked only if neither a known table nor the
+/// Tries one loss, and adds it as an explanation if it is accepted. It is walked only if neither a known table nor the
 /// result of its plan decides.
 fn try_loss<R: Threads + Sync, G: Progress + Sync>(
     findings: &mut Findings<FoundTable>,
@@ -137,8 +140,8 @@ fn try_loss<R: Threads + Sync, G: Progress + Sync>(
     }
 }
 
-/// Each explanation of at most `at_most` sites, in the order of losses, with the index of its table, by what was read
-/// of the files that survive the loss of the forced sites.
+/// All explanations of at most `at_most` sites, in the order of losses, each with the index of its table, given what
+/// was read of the files that survive the loss of the forced sites.
 pub fn explain<R: Threads + Sync, G: Progress + Sync>(
     run: &Run<'_, R, G>,
     remains: &Remains<'_>,
@@ -148,7 +151,8 @@ pub fn explain<R: Threads + Sync, G: Progress + Sync>(
     requires read { (F : FileContents) × AreRead remains.now.catalog.now F remains.now.first remains.now.survivors.now }
     ensures { IfOk result (λ found. (F : FileContents) → AreRead remains.now.catalog.now F remains.now.first remains.now.survivors.now
         → AreForced remains.now.catalog.now (HoldsSurvivors remains.now.catalog.now F) remains.now.first
-        → AreExplanations remains.now.catalog.now (HoldsSurvivors remains.now.catalog.now F) at_most rows_found found.explanations.items found.tables.items) }
+        → AreExplanations remains.now.catalog.now (HoldsSurvivors remains.now.catalog.now F) at_most
+        rows_found found.explanations.items found.tables.items) }
 {
     let alloc = run.alloc;
     let losses = all_losses(alloc, remains.catalog, at_most)?;

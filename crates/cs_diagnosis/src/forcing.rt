@@ -1,6 +1,5 @@
-//! The sites that every accepted loss contains: those of the bad files.
-ghost use Rattle.std.specs.Prelude.{◌≡◌, ℕ, ◌↔◌, IsTrue};
-ghost use Rattle.cs_schema.specs.CatalogRules.{IsCatalog};
+//! The sites of bad files. Every accepted loss contains them.
+ghost use Rattle.std.specs.Prelude.{◌≡◌, ◌≤◌, ◌↔◌, ℕ, IsTrue};
 ghost use Rattle.cs_schema.specs.FileNames.{HasName};
 ghost use Rattle.cs_schema.specs.Lists.{member, IsIn};
 ghost use Rattle.cs_recovery.specs.Conflicts.{site_of};
@@ -15,9 +14,9 @@ use cs_schema::{Catalog, FileName, Loss};
 fn site_of(catalog: &Catalog, name: FileName) -> u8
     requires { HasName catalog.now name }
     ensures site { result ≡ site_of catalog.now name }
-    ensures rules { IsCatalog catalog.now }
+    ensures range { (1 ≤ result) × (result ≤ 16) }
 {
-    catalog.projection(name.projection()).sites[name.segment() as usize]
+    catalog.site(name.projection(), name.segment())
 }
 
 /// The sites of bad files.

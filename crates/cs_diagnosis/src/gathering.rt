@@ -1,4 +1,4 @@
-//! The conflicts of many files, by site.
+//! The conflicts of many files, gathered by site.
 ghost use Rattle.std.specs.Prelude.{◌≤◌, ◌↔◌};
 ghost use Rattle.cs_schema.specs.Losses.{Sites};
 ghost use Rattle.cs_diagnosis.specs.Pairs.{IsHit, AreHit, AreOfSites};
@@ -7,7 +7,7 @@ ghost use Rattle.cs_diagnosis.specs.Conflicts.{AreAllHit};
 use crate::conflicts::Conflicts;
 use cs_schema::Loss;
 
-/// These conflicts and those of a file, given its site.
+/// These conflicts, and those of a file on a site with other sites.
 fn with_file(conflicts: &Conflicts, site: u8, others: Loss) -> Conflicts
     requires { (1 ≤ site) × (site ≤ 16) }
     ensures { (L : Sites) → AreAllHit result L ↔ (AreAllHit conflicts.now L × IsHit L (site, others)) }

@@ -8,19 +8,19 @@ ghost use Rattle.cs_board.specs.Pieces.{AnswersInOrder};
 ghost use Rattle.cs_rebuild.specs.OnStore.{held_on, table_on};
 ghost use Rattle.cs_diagnosis.specs.Conflicts.{IsImageConflict, ImageConflictAt};
 
-use crate::sites::{site_alone, site_of};
+use crate::sites::site_alone;
 use cs_rebuild::{Fault, Gate, OrderedStore, Round, Run, Tasks, is_placed};
 use cs_schema::Loss;
 use std::alloc::AllocError;
 use std::marker::Sync;
 use std::thread::Threads;
 
-/// The conflicts of a segment's image: it contradicts the table by itself, or not at all.
+/// The conflict of a segment's image: it contradicts the table by itself, or not at all.
 fn image_conflict<R: Threads>(rt: &R, store: &OrderedStore<'_>, p: u16, s: u16) -> (u8, Loss)
     requires { Survives store.now.catalog.now store.now.loss (NameData.Seg p s) }
     ensures { IsImageConflict store.now.catalog.now (held_on store.now) (table_on store.now) (p, s) result }
 {
-    let site = site_of(store.catalog, p, s);
+    let site = store.catalog.site(p, s);
     if is_placed(rt, store, p, s) {
         (site, Loss::none())
     } else {
@@ -28,7 +28,7 @@ fn image_conflict<R: Threads>(rt: &R, store: &OrderedStore<'_>, p: u16, s: u16) 
     }
 }
 
-/// Compares some images with the table's rows.
+/// The comparison of some images with the table's rows, one task for each image.
 #[derive(Drop)]
 struct ImagesWork<'a, R> {
     rt: &'a R,
@@ -45,7 +45,8 @@ impl<R: Threads> Tasks for ImagesWork<'_, R> {
 
     ghost fault_at = { λ work i fault. fault ≡ None };
 
-    ghost answers = { λ work i out. ImageConflictAt work.store.now.catalog.now (held_on work.store.now) (table_on work.store.now) work.segments.now i out };
+    ghost answers = { λ work i out. ImageConflictAt work.store.now.catalog.now (held_on work.store.now)
+        (table_on work.store.now) work.segments.now i out };
 
     fn count(&self) -> u32 {
         self.segments.len() as u32
@@ -59,7 +60,7 @@ impl<R: Threads> Tasks for ImagesWork<'_, R> {
     ghost one_fault = { λ work i f g below a b. a ∙ sym b };
 }
 
-/// The conflicts of each of these images.
+/// The conflict of each of these images. Fails only if memory is refused.
 pub fn images_conflicts<R: Threads + Sync, G: Gate + Sync>(
     run: &Run<'_, R, G>,
     store: &OrderedStore<'_>,
@@ -68,7 +69,8 @@ pub fn images_conflicts<R: Threads + Sync, G: Gate + Sync>(
     requires few { length segments.now ≤ 128 }
     requires survive { (a : ℕ × ℕ) → IsIn a segments.now → Survives store.now.catalog.now store.now.loss (NameData.Seg a.0 a.1) }
     ensures count { IfOk result (λ found. length found.items ≡ length segments.now) }
-    ensures each { IfOk result (λ found. AnswersInOrder (ImageConflictAt store.now.catalog.now (held_on store.now) (table_on store.now) segments.now) found.items) }
+    ensures each { IfOk result (λ found. AnswersInOrder (ImageConflictAt store.now.catalog.now
+        (held_on store.now) (table_on store.now) segments.now) found.items) }
 {
     let work = ImagesWork {
         rt: run.rt,

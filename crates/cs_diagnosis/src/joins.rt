@@ -12,7 +12,7 @@ ghost use Rattle.cs_rebuild.specs.OnStore.{held_on, table_on};
 ghost use Rattle.cs_rebuild.specs.Verifying.{raw_entry};
 ghost use Rattle.cs_diagnosis.specs.Conflicts.{IsKeyConflict, IsJoinConflict, JoinConflictAt};
 
-use crate::sites::{site_alone, site_of};
+use crate::sites::site_alone;
 use cs_jix::JoinIndex;
 use cs_rebuild::places::Entries;
 use cs_rebuild::{Fault, Gate, OrderedStore, Round, Run, Tasks, raw_entry};
@@ -21,13 +21,16 @@ use std::alloc::AllocError;
 use std::marker::Sync;
 use std::thread::Threads;
 
-/// The site with which the entry at a key conflicts, if any: that of the row's segment if its key is another one, its
-/// own if no key would do.
+/// The site with which the entry for a key is in conflict, if any: the site of the row's segment if the row has another
+/// key there, or the join index's own site if every key would be wrong.
 fn key_conflict(entries: &Entries<'_>, site: u8, entry: (u16, u32), key: u32) -> Option<u8>
-    requires survives { Survives entries.now.store.now.catalog.now entries.now.store.now.loss (NameData.Jix entries.now.p entries.now.s entries.now.q) }
+    requires survives { Survives entries.now.store.now.catalog.now entries.now.store.now.loss
+        (NameData.Jix entries.now.p entries.now.s entries.now.q) }
     requires site { site ≡ site_of entries.now.store.now.catalog.now (NameData.Seg entries.now.p entries.now.s) }
     requires range { (1 ≤ site) × (site ≤ 16) }
-    ensures conflict { IsKeyConflict entries.now.store.now.catalog.now entries.now.store.now.loss (held_on entries.now.store.now) (table_on entries.now.store.now) entries.now.p entries.now.s entries.now.q key entry result }
+    ensures conflict { IsKeyConflict entries.now.store.now.catalog.now entries.now.store.now.loss
+        (held_on entries.now.store.now) (table_on entries.now.store.now) entries.now.p entries.now.s
+        entries.now.q key entry result }
     ensures range { IfSome result (λ other. (1 ≤ other) × (other ≤ 16)) }
 {
     let Some(position) = entries.position(key) else {
@@ -43,20 +46,20 @@ fn key_conflict(entries: &Entries<'_>, site: u8, entry: (u16, u32), key: u32) ->
         return Some(site);
     }
     let store = entries.store;
-    // any key of a row in a lost segment will do
+    // if the row's segment is lost, every key agrees
     if entry.1 == place.1 || store.catalog.lost(entries.q, place.0, store.loss) {
         return None;
     }
-    Some(site_of(store.catalog, entries.q, place.0))
+    Some(store.catalog.site(entries.q, place.0))
 }
 
-/// The conflicts of a join index.
+/// The conflicts of a join index, with its site.
 fn join_conflict(store: &OrderedStore<'_>, p: u16, s: u16, q: u16) -> (u8, Loss)
     requires { Survives store.now.catalog.now store.now.loss (NameData.Jix p s q) }
     ensures { IsJoinConflict store.now.catalog.now store.now.loss (held_on store.now) (table_on store.now) (p, s, q) result }
 {
     let _rules = store.catalog.projection_count();
-    let site = site_of(store.catalog, p, s);
+    let site = store.catalog.site(p, s);
     match store.survivors.join(p as usize, s as usize, q as usize) {
         Some(join) => (site, others_of(store, p, s, q, join, site)),
         None => unreachable!(),
@@ -92,7 +95,7 @@ fn others_of(store: &OrderedStore<'_>, p: u16, s: u16, q: u16, join: &JoinIndex,
     others
 }
 
-/// Compares some join indexes with the places of the table's rows.
+/// The comparison of some join indexes with the places of the table's rows, one task for each join index.
 #[derive(Drop)]
 struct JoinsWork<'a> {
     store: &'a OrderedStore<'a>,
@@ -108,7 +111,8 @@ impl Tasks for JoinsWork<'_> {
 
     ghost fault_at = { λ work i fault. fault ≡ None };
 
-    ghost answers = { λ work i out. JoinConflictAt work.store.now.catalog.now work.store.now.loss (held_on work.store.now) (table_on work.store.now) work.joins.now i out };
+    ghost answers = { λ work i out. JoinConflictAt work.store.now.catalog.now work.store.now.loss
+        (held_on work.store.now) (table_on work.store.now) work.joins.now i out };
 
     fn count(&self) -> u32 {
         self.joins.len() as u32
@@ -122,7 +126,7 @@ impl Tasks for JoinsWork<'_> {
     ghost one_fault = { λ work i f g below a b. a ∙ sym b };
 }
 
-/// The conflicts of each of these join indexes.
+/// The conflicts of each of these join indexes. Fails only if memory is refused.
 pub fn joins_conflicts<R: Threads + Sync, G: Gate + Sync>(
     run: &Run<'_, R, G>,
     store: &OrderedStore<'_>,
@@ -131,7 +135,8 @@ pub fn joins_conflicts<R: Threads + Sync, G: Gate + Sync>(
     requires few { length joins.now ≤ 1024 }
     requires survive { (a : ℕ × ℕ × ℕ) → IsIn a joins.now → Survives store.now.catalog.now store.now.loss (NameData.Jix a.0 a.1 a.2) }
     ensures count { IfOk result (λ found. length found.items ≡ length joins.now) }
-    ensures each { IfOk result (λ found. AnswersInOrder (JoinConflictAt store.now.catalog.now store.now.loss (held_on store.now) (table_on store.now) joins.now) found.items) }
+    ensures each { IfOk result (λ found. AnswersInOrder (JoinConflictAt store.now.catalog.now store.now.loss
+        (held_on store.now) (table_on store.now) joins.now) found.items) }
 {
     let work = JoinsWork { store, joins };
     match run.round(Round::Joins, &work) {

@@ -1,4 +1,4 @@
-//! One pass over all files that finds the conflicts of a table.
+//! One pass over all files to find the conflicts of a table.
 ghost use Rattle.std.specs.Prelude.{IfOk};
 ghost use Rattle.cs_schema.specs.FileNames.{FileContents};
 ghost use Rattle.cs_rebuild.specs.OnStore.{table_on};
@@ -14,12 +14,14 @@ use std::alloc::AllocError;
 use std::marker::Sync;
 use std::thread::Threads;
 
-/// The conflicts of a store's table with the files that survive the store's loss.
+/// The conflicts of a store's table with the files that survive the store's loss. Fails only if memory is refused.
 pub fn conflicts_of<R: Threads + Sync, G: Gate + Sync>(
     run: &Run<'_, R, G>,
     store: &OrderedStore<'_>,
 ) -> Result<Conflicts, AllocError>
-    ensures { IfOk result (λ found. (F : FileContents) → AreRead store.now.catalog.now F store.now.loss store.now.survivors.now → AreConflictsOf store.now.catalog.now F store.now.loss (table_on store.now) found) }
+    ensures { IfOk result (λ found. (F : FileContents)
+        → AreRead store.now.catalog.now F store.now.loss store.now.survivors.now
+        → AreConflictsOf store.now.catalog.now F store.now.loss (table_on store.now) found) }
 {
     let _rules = store.catalog.projection_count();
     let segments = surviving_segments(run.alloc, store.catalog, store.loss)?;

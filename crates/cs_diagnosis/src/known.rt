@@ -13,7 +13,7 @@ use crate::walks::Walks;
 use cs_schema::Loss;
 use std::alloc::Global;
 
-/// What is known while losses are tried: the conflicts of each table that was found, and the results of plans.
+/// What is known while losses are tried: the conflicts of each table that was found, and the results of walked plans.
 #[derive(Drop)]
 pub struct Known {
     pub conflicts: Vec<Conflicts>,
@@ -21,7 +21,7 @@ pub struct Known {
 }
 
 impl Known {
-    /// Nothing is known.
+    /// Nothing is known yet.
     pub fn new(alloc: Global) -> Self
         ensures { (C : CatalogData) (F : FileContents) (first : Sites) → IsKnown C F first [] result }
     {

@@ -7,8 +7,8 @@ pub fn accepted_losses_grow()
     ensures { AcceptedLossesGrow }
 {}
 
-/// Up to half of the sites that may fail besides the forced ones may have been changed, and the verdict still gives the
-/// true table.
+/// If at most half as many sites were changed as may fail besides the forced ones, the verdict still gives the true
+/// table.
 pub fn changed_sites_are_diagnosed()
     ensures { ChangedSitesAreDiagnosed }
 {}

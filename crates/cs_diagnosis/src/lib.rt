@@ -1,13 +1,14 @@
-//! What explains a store that may be broken: which files are bad, which losses of sites explain the rest, whether these
-//! agree on one table, and where two tables differ.
+//! The diagnosis of a store that may be broken: which files are bad, which losses of sites explain the rest, whether
+//! these agree on one table, and where two tables differ.
 //!
 //! A loss is accepted if it is safe and what survives it holds a table. A minimal accepted loss explains the store. If
-//! files were changed under valid digests, the explanation is the sites that lie.
+//! files were changed under valid digests, the explanation is the set of sites that lie.
 //!
-//! The survivors of a loss are read once, and every larger loss is judged by them: what it leaves is walked to the rows
-//! of a table, and one pass over all files finds the pairs of sites with which that table is in conflict. From then on
-//! a loss is accepted with the table exactly if it contains a site of each of these pairs, and no file is read again.
-//! 16 sites have at most 136 pairs, a site with itself included, however many files are in conflict.
+//! The survivors of a first loss are read once, and every loss that contains it is judged by them. What such a loss
+//! leaves is walked to the rows of a table, and one pass over all files finds the pairs of sites with which that table
+//! is in conflict. From then on, a loss is accepted with the table if and only if it contains a site of each pair, and
+//! no file is read again. 16 sites form at most 136 pairs, including those of a site with itself, however many files
+//! are in conflict.
 #![tactic(auto)]
 
 mod absent;

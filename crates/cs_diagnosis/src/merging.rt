@@ -10,7 +10,7 @@ use cs_schema::{Catalog, Cells};
 use std::alloc::{AllocError, Global};
 use std::cmp::Ordering;
 
-/// A key at which two tables differ: the indices of the rows with that key, in one table or in both.
+/// A key at which two tables differ: the index of the row with that key in each table that has it.
 #[derive(Clone, Copy, Debug)]
 pub struct Dispute {
     pub first: Option<usize>,
@@ -24,11 +24,12 @@ pub struct Disputes {
     pub rows: Vec<Dispute>,
 }
 
-/// Counts a dispute, and keeps it if fewer than `at_most` are kept.
+/// Counts a dispute, and stores it if fewer than `at_most` are stored.
 fn keep(found: &mut Disputes, dispute: Dispute, at_most: usize) -> Result<(), AllocError>
     requires { found.old.count < 2 ^ 64 - 1 }
     ensures count { OnOk result (found.new.count ≡ found.old.count + 1) }
-    ensures rows { OnOk result ((all : List DisputeData) → length all ≡ found.old.count → found.old.rows.items ≡ take at_most all → found.new.rows.items ≡ take at_most (all ++ dispute ∷ [])) }
+    ensures rows { OnOk result ((all : List DisputeData) → length all ≡ found.old.count
+        → found.old.rows.items ≡ take at_most all → found.new.rows.items ≡ take at_most (all ++ dispute ∷ [])) }
 {
     if found.rows.len() < at_most {
         found.rows.push(dispute)?;
@@ -39,7 +40,7 @@ fn keep(found: &mut Disputes, dispute: Dispute, at_most: usize) -> Result<(), Al
 
 /// The rows in which two tables of one catalog differ, by key: their number, and the first `at_most` of them.
 ///
-/// Takes time linear in the rows of both, and memory for `at_most` rows.
+/// Takes time linear in the rows of both, and memory for at most `at_most` disputes.
 pub fn find_disputes(
     alloc: Global,
     catalog: &Catalog,
@@ -50,7 +51,9 @@ pub fn find_disputes(
     requires first { IsTableIn catalog.now first.now }
     requires second { IsTableIn catalog.now second.now }
     requires few { count_of first.now + count_of second.now < 2 ^ 64 }
-    ensures { IfOk result (λ found. (all : List DisputeData) × AreDisputes catalog.now.key (rows_in first.now) (rows_in second.now) all × (found.count ≡ length all) × (found.rows.items ≡ take at_most all)) }
+    ensures { IfOk result (λ found. (all : List DisputeData)
+        × AreDisputes catalog.now.key (rows_in first.now) (rows_in second.now) all × (found.count ≡ length all)
+        × (found.rows.items ≡ take at_most all)) }
 {
     let rows = row_count(catalog, first);
     let others = row_count(catalog, second);

@@ -11,14 +11,16 @@ use cs_schema::{Catalog, FileName, Loss};
 use cs_store::FileSet;
 use std::alloc::{AllocError, Global};
 
-/// The names of a catalog without a file.
+/// The names of a catalog without a file, ascending.
 pub fn missing_files(
     alloc: Global,
     catalog: &Catalog,
     files: &FileSet,
 ) -> Result<Vec<(FileName, Badness)>, AllocError>
-    ensures each { IfOk result (λ missing. (b : NameData × BadnessData) → IsIn b missing.items → HasName catalog.now b.0 × (contents_of files.now b.0 ≡ None)) }
-    ensures all { IfOk result (λ missing. (n : NameData) → HasName catalog.now n → contents_of files.now n ≡ None → IsIn (n, BadnessData.Missing) missing.items) }
+    ensures each { IfOk result (λ missing. (b : NameData × BadnessData) → IsIn b missing.items
+        → HasName catalog.now b.0 × (contents_of files.now b.0 ≡ None)) }
+    ensures all { IfOk result (λ missing. (n : NameData) → HasName catalog.now n
+        → contents_of files.now n ≡ None → IsIn (n, BadnessData.Missing) missing.items) }
 {
     let _rules = catalog.projection_count();
     let names = catalog.surviving(alloc, Loss::none())?;
@@ -32,7 +34,7 @@ pub fn missing_files(
     Ok(missing)
 }
 
-/// All sites but those of a loss.
+/// All sites from 1 to 16, except those of a loss.
 pub fn others(loss: Loss) -> Loss
     ensures { (x : ℕ) → 1 ≤ x → x ≤ 16 → member result x ≡ not (member loss x) }
 {

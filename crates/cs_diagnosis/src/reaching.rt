@@ -1,4 +1,4 @@
-//! How far a diagnosis looks, and for how many changed sites it is certain.
+//! How many sites a diagnosis tries, and for how many changed sites its result is certain.
 ghost use Rattle.std.specs.Prelude.{◌≡◌, ℕ, ◌+◌, ◌<◌, ◌≤◌, Some, None, IfSome, MatchOption, length};
 ghost use Rattle.cs_schema.specs.Losses.{IsLoss};
 ghost use Rattle.cs_diagnosis.specs.Reach.{IsGreatestCorrected, IsReach};
@@ -6,16 +6,18 @@ ghost use Rattle.cs_diagnosis.specs.Reach.{IsGreatestCorrected, IsReach};
 use cs_design::greatest_k;
 use cs_schema::{Catalog, Loss};
 
-/// How far a diagnosis looks.
+/// How many sites a diagnosis tries, and for how many changed sites its result is certain.
 #[derive(Clone, Copy, Debug, PartialEq, Eq)]
 pub struct Reach {
     /// The maximum number of sites of a loss that is tried.
     pub at_most: u8,
-    /// How many sites besides the forced ones may have changed if one table is certain; `None` if it never is.
+    /// If the verdict is one table, it is the original, provided that at most this many sites besides the forced ones
+    /// were changed. `None` if the table is never certain.
     pub certain: Option<u8>,
 }
 
-/// How many sites besides `forced` forced ones may have changed such that the table can still be told.
+/// The maximum number of sites besides `forced` forced ones that may be changed such that the table is still found;
+/// `None` if the forced ones are too many.
 fn corrected(catalog: &Catalog, forced: u8) -> Option<u8>
     ensures greatest { IsGreatestCorrected catalog.now forced result }
     ensures few { IfSome result (λ most. forced + most ≤ 16) }
@@ -33,7 +35,7 @@ fn corrected(catalog: &Catalog, forced: u8) -> Option<u8>
     }
 }
 
-/// The number of sites of the largest loss to try: as many as asked for, or as can be told, and at least one.
+/// The number of sites of the largest losses to try: as asked for, or else as many as are needed, and at least one.
 fn tried(forced: u8, most: u8, asked: Option<u8>) -> u8
     requires sites { forced + most ≤ 16 }
     requires asked { IfSome asked (λ n. n ≤ 16) }
@@ -48,7 +50,8 @@ fn tried(forced: u8, most: u8, asked: Option<u8>) -> u8
     }
 }
 
-/// How many changed sites losses of at most `at_most` sites can correct, of those that can be corrected at all.
+/// The maximum number of changed sites, of at most `most`, that losses of at most `at_most` sites correct; `None` if
+/// `at_most` is less than `forced`.
 fn certain_by(forced: u8, most: u8, at_most: u8) -> Option<u8>
     ensures { MatchOption result (at_most < forced) (λ m. (m ≤ most) × (forced + m ≤ at_most) × ((n : ℕ) → n ≤ most → forced + n ≤ at_most → n ≤ m)) }
 {
@@ -62,8 +65,8 @@ fn certain_by(forced: u8, most: u8, at_most: u8) -> Option<u8>
     }
 }
 
-/// How far to look besides the forced sites: as far as asked for, or as far as the table can be told, and at least at
-/// losses of one site.
+/// How many sites to try, including the forced ones: as many as asked for, or else as few as correct the maximum number
+/// of changed sites, and at least one.
 pub fn reach_of(catalog: &Catalog, forced: Loss, asked: Option<u8>) -> Reach
     requires forced { IsLoss catalog.now forced }
     requires asked { IfSome asked (λ n. n ≤ 16) }

@@ -1,10 +1,10 @@
-//! What explanations amount to.
+//! The verdict on explanations.
 ghost use Rattle.std.specs.Prelude.{◌≡◌};
 ghost use Rattle.cs_diagnosis.specs.Summary.{verdict_for};
 
 use crate::findings::{Explanation, Verdict};
 
-/// The verdict on explanations in the order of losses, which have `tables` distinct tables.
+/// The verdict on explanations in the order of losses that have `tables` distinct tables.
 pub fn verdict_of(explanations: &[Explanation], tables: usize) -> Verdict
     ensures { result ≡ verdict_for explanations.now tables }
 {

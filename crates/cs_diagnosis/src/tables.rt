@@ -1,4 +1,4 @@
-//! A table that was found.
+//! The tables that a diagnosis finds.
 ghost use Rattle.std.specs.Prelude.{◌≡◌};
 ghost use Rattle.cs_rows.specs.WalkedView.{AreColumns, count_of};
 

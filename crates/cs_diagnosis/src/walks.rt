@@ -25,13 +25,13 @@ pub struct WalkedPlan {
     pub conflicts: Option<Conflicts>,
 }
 
-/// The plans that were walked. By rows each loss has a walk of its own, and none is stored.
+/// The plans that were walked. If the catalog's safety is by rows, each loss has its own walk, and no result is stored.
 #[derive(Drop)]
 pub struct Walks {
     pub plans: Vec<WalkedPlan>,
 }
 
-/// Whether two plans are the same one.
+/// Whether two plans are equal.
 fn is_same(plan: &Plan, other: &Plan) -> bool
     ensures { IsTrue result ↔ (plan.now ≡ other.now) }
 {
@@ -44,7 +44,7 @@ fn is_same(plan: &Plan, other: &Plan) -> bool
     plan.source.as_slice() == other.source.as_slice()
 }
 
-/// Whether there is a table, and a loss contains a site of each of its conflicts.
+/// Whether there is a table and a loss contains a site of each of its conflicts.
 fn is_hit(conflicts: &Option<Conflicts>, loss: Loss) -> bool
     ensures { IsTrue result ↔ ((c : ConflictsData) × (conflicts.now ≡ Some c) × AreAllHit c loss) }
 {
@@ -55,7 +55,7 @@ fn is_hit(conflicts: &Option<Conflicts>, loss: Loss) -> bool
 }
 
 impl Walks {
-    /// No plan was walked.
+    /// No plans yet.
     pub fn new(alloc: Global) -> Self
         ensures empty { result.plans.items ≡ [] }
         ensures walks { (C : CatalogData) (F : FileContents) (first : Sites) → AreWalks C F first result }
@@ -65,9 +65,10 @@ impl Walks {
         }
     }
 
-    /// Whether a plan leads to no table, or to one with a conflict that a loss misses.
+    /// Whether a plan was walked, and led to no table or to one with a conflict that a loss misses.
     fn refutes_plan(&self, plan: &Plan, loss: Loss) -> bool
-        ensures { IsTrue result ↔ ((k : WalkedPlanData) × IsIn k self.now.plans.items × (k.plan ≡ plan.now) × ((c : ConflictsData) → k.conflicts ≡ Some c → ¬ AreAllHit c loss)) }
+        ensures { IsTrue result ↔ ((k : WalkedPlanData) × IsIn k self.now.plans.items × (k.plan ≡ plan.now)
+            × ((c : ConflictsData) → k.conflicts ≡ Some c → ¬ AreAllHit c loss)) }
     {
         for walked in &self.plans {
             if is_same(&walked.plan, plan) && !is_hit(&walked.conflicts, loss) {
@@ -77,10 +78,12 @@ impl Walks {
         false
     }
 
-    /// Whether what survives a safe loss holds no table, by what is known of its walk.
+    /// Whether the result of a walked plan shows that what survives a safe loss holds no table.
     pub fn refutes(&self, catalog: &Catalog, loss: Loss) -> bool
         ensures refuted { IsTrue result ↔ IsRefuted catalog.now loss self.now }
-        ensures none_held { IsTrue result → (F : FileContents) (first : Sites) → AreWalks catalog.now F first self.now → IsWithin first loss → IsSafe catalog.now loss → (T : List Row) → ¬ HoldsSurvivors catalog.now F loss T }
+        ensures none_held { IsTrue result → (F : FileContents) (first : Sites)
+            → AreWalks catalog.now F first self.now → IsWithin first loss → IsSafe catalog.now loss
+            → (T : List Row) → ¬ HoldsSurvivors catalog.now F loss T }
     {
         match catalog.safety {
             Safety::Whole => match plan(catalog, loss) {
@@ -99,7 +102,9 @@ impl Walks {
         conflicts: Option<Conflicts>,
     ) -> Result<(), AllocError>
         ensures kept { OnOk result (IsPlanKept catalog.now loss conflicts self.old self.new) }
-        ensures walks { OnOk result ((F : FileContents) (first : Sites) → IsWalkOutcome catalog.now F first loss conflicts → AreWalks catalog.now F first self.old → AreWalks catalog.now F first self.new) }
+        ensures walks { OnOk result ((F : FileContents) (first : Sites)
+            → IsWalkOutcome catalog.now F first loss conflicts → AreWalks catalog.now F first self.old
+            → AreWalks catalog.now F first self.new) }
     {
         match catalog.safety {
             Safety::Whole => match plan(catalog, loss) {

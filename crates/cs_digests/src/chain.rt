@@ -2,8 +2,8 @@
 ghost use Rattle.std.specs.Prelude.{◌≡◌, ◌*◌, ◌+◌, ◌-◌, ◌/◌, ◌≤◌, length};
 ghost use Rattle.sha2.specs.Sha256.{hash_after, initial_hash_256, sha256};
 
-use crate::constants::INITIAL_HASH;
-use crate::finishing::{BLOCK, finish};
+use crate::constants::{BLOCK, INITIAL_HASH};
+use crate::finishing::finish;
 
 /// A message and the hash value after some of its blocks.
 #[derive(Clone, Copy, Drop)]

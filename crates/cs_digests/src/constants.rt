@@ -1,4 +1,7 @@
-//! The constants of SHA-256 (FIPS 180-4, 4.2.2 and 5.3.3).
+//! The constants of SHA-256 (FIPS 180-4, 4.2.2, 5.2.1 and 5.3.3).
+
+/// The number of bytes of a block.
+pub const BLOCK: usize = 64;
 
 /// The constant of each round.
 pub const ROUND_CONSTANTS: [u32; 64] = [

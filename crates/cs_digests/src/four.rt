@@ -4,7 +4,7 @@ ghost use Rattle.sha2.specs.Sha256.{hash_after, initial_hash_256};
 ghost use Rattle.cs_digests.specs.Lanes.{lane, of_four};
 
 use crate::chain::Chain;
-use crate::finishing::BLOCK;
+use crate::constants::BLOCK;
 use crate::lanes::{beside, lane_of};
 use crate::rounds::compress;
 use crate::words::all;
@@ -12,7 +12,8 @@ use std::simd::u32x4;
 
 /// The hash values of four messages after `blocks` more blocks of each.
 fn in_step(c0: Chain<'_>, c1: Chain<'_>, c2: Chain<'_>, c3: Chain<'_>, blocks: usize) -> [u32x4; 8]
-    requires { ((c0.done + blocks) * 64 ≤ length c0.text.now) × ((c1.done + blocks) * 64 ≤ length c1.text.now) × ((c2.done + blocks) * 64 ≤ length c2.text.now) × ((c3.done + blocks) * 64 ≤ length c3.text.now) }
+    requires { ((c0.done + blocks) * 64 ≤ length c0.text.now) × ((c1.done + blocks) * 64 ≤ length c1.text.now)
+        × ((c2.done + blocks) * 64 ≤ length c2.text.now) × ((c3.done + blocks) * 64 ≤ length c3.text.now) }
     ensures first { lane 0 result ≡ hash_after initial_hash_256 c0.entry.text.now (c0.entry.done + blocks) }
     ensures second { lane 1 result ≡ hash_after initial_hash_256 c1.entry.text.now (c1.entry.done + blocks) }
     ensures third { lane 2 result ≡ hash_after initial_hash_256 c2.entry.text.now (c2.entry.done + blocks) }

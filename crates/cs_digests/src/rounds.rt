@@ -23,7 +23,8 @@ fn round(v: [u32x4; 8], keys: u32x4) -> [u32x4; 8]
 #[inline(always)]
 fn step(v: [u32x4; 8], w: &[u32x4; 64], t: usize) -> [u32x4; 8]
     requires { t < 64 }
-    ensures { (j : ℕ) (b h : List ℕ) → j < 4 → AreKeyed b w.now j 64 → lane j v ≡ rounds h (schedule b 48) t → lane j result ≡ rounds h (schedule b 48) (t + 1) }
+    ensures { (j : ℕ) (b h : List ℕ) → j < 4 → AreKeyed b w.now j 64 → lane j v ≡ rounds h (schedule b 48) t
+        → lane j result ≡ rounds h (schedule b 48) (t + 1) }
 {
     round(v, w[t])
 }
@@ -32,7 +33,8 @@ fn step(v: [u32x4; 8], w: &[u32x4; 64], t: usize) -> [u32x4; 8]
 #[inline(always)]
 fn four_steps(v: [u32x4; 8], w: &[u32x4; 64], t: usize) -> [u32x4; 8]
     requires { t + 4 ≤ 64 }
-    ensures { (j : ℕ) (b h : List ℕ) → j < 4 → AreKeyed b w.now j 64 → lane j v ≡ rounds h (schedule b 48) t → lane j result ≡ rounds h (schedule b 48) (t + 4) }
+    ensures { (j : ℕ) (b h : List ℕ) → j < 4 → AreKeyed b w.now j 64 → lane j v ≡ rounds h (schedule b 48) t
+        → lane j result ≡ rounds h (schedule b 48) (t + 4) }
 {
     let v = step(v, w, t);
     let v = step(v, w, t + 1);

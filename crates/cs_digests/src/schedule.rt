@@ -35,7 +35,9 @@ fn words_at(b0: &[u8], b1: &[u8], b2: &[u8], b3: &[u8], i: usize) -> u32x4
 /// A word, from those 2, 7, 15 and 16 before it.
 #[inline(always)]
 fn word_after(w2: u32x4, w7: u32x4, w15: u32x4, w16: u32x4) -> u32x4
-    ensures { (j : ℕ) → j < 4 → slice_index result j ≡ add32 (add32 (add32 (small_sigma1 (slice_index w2 j)) (slice_index w7 j)) (small_sigma0 (slice_index w15 j))) (slice_index w16 j) }
+    ensures { (j : ℕ) → j < 4 → slice_index result j
+        ≡ add32 (add32 (add32 (small_sigma1 (slice_index w2 j)) (slice_index w7 j)) (small_sigma0 (slice_index w15 j)))
+        (slice_index w16 j) }
 {
     add(add(add(small_sigma1(w2), w7), small_sigma0(w15)), w16)
 }

@@ -3,8 +3,8 @@ ghost use Rattle.std.specs.Prelude.{◌≡◌, ℕ, List, ◌+◌, ◌*◌, ◌�
 ghost use Rattle.sha2.specs.Sha256.{sha256};
 ghost use Rattle.cs_digests.specs.Growing.{HasTaken, HasTakenAll};
 
-use crate::constants::INITIAL_HASH;
-use crate::finishing::{BLOCK, finish};
+use crate::constants::{BLOCK, INITIAL_HASH};
+use crate::finishing::finish;
 use crate::single::absorb;
 use arrayvec::ArrayVec;
 

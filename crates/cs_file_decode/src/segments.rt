@@ -4,10 +4,11 @@ ghost use Rattle.cs_schema.specs.CatalogData.{projection};
 
 use crate::cursor::Cursor;
 use crate::nonsense::{Nonsense, Wanted};
+use cs_schema::limits::SEGMENT_ROWS;
 use cs_schema::{Catalog, Code, Kind};
 use cs_segment::bodies::read_body;
 use cs_segment::fault::FileFault;
-use cs_segment::segment::{ROW_LIMIT, code_number, kind_number};
+use cs_segment::format::{code_number, kind_number};
 use std::alloc::{AllocError, Global};
 
 /// The number of rows at the head of a segment of so many columns, and the place behind the head.
@@ -29,7 +30,7 @@ fn past_head<'a>(
         return Err(placed.stop(Wanted::Name));
     };
     let (rows, counted) = match named.number() {
-        Some((rows, counted)) if rows <= ROW_LIMIT => (rows, counted),
+        Some((rows, counted)) if rows <= SEGMENT_ROWS => (rows, counted),
         _ => return Err(named.stop(Wanted::Rows)),
     };
     match counted.short() {

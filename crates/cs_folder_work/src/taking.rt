@@ -77,6 +77,8 @@ pub fn unfinished_kind<R: Files<File = File>>(
     match record_at(alloc, rt, path.as_str()) {
         Ok(record) => Ok(Some(record.work.kind())),
         Err(Untaken::Memory) => Err(AllocError),
+        // it is gone: there is nothing to resume
+        Err(Untaken::Busy) => Ok(None),
         Err(_) => Ok(Some(WorkKind::Restore)),
     }
 }

@@ -1,4 +1,4 @@
--- The bad files among the first names of a list, and one name more.
+-- The bad files among the first names of a list, and with one more name.
 use Rattle.std.proofs.Common.{◌≡◌, ◌⊎◌, inl, inr, ℕ, ◌+◌, ◌<◌, suc, List, [], ◌∷◌, ◌++◌, map, length, take, drop, get_or, refl, sym, ap, subst, ◌∙◌}
 use Rattle.std.proofs.Math.Seq.{drop-cons}
 use Rattle.std.proofs.lemmas.List.{take_more, take-append-drop}
@@ -18,12 +18,12 @@ use Rattle.cs_schema.proofs.Surviving.{append_sorted, surviving_names}
 use Rattle.cs_inspection.specs.declared.badness.Badness.{Badness}
 use Rattle.cs_inspection.specs.BadFiles.{IsBad, IsGood, IsListed, AreBadAmong, AreBadFiles}
 
--- what holds of all of a list holds of one in its midst
+-- what holds of all elements of a list holds of one in the middle
 in_midst : (P : FileName → Type 0) (xs : List FileName) (n : FileName) (rest : List FileName) → AllByRecursion P (xs ++ n ∷ rest) → P n
 in_midst P [] n rest h = h.0
 in_midst P (x ∷ xs) n rest h = in_midst P xs n rest h.1
 
--- in ascending names, those before a name are below it
+-- in ascending names, those before a name are less
 below_before : (xs : List FileName) (n : FileName) (rest : List FileName) → IsStrictlySortedBy name_cmp (xs ++ n ∷ rest) → AllByRecursion (λ m. name_cmp m n ≡ Less) xs
 unfolding IsStrictlySortedBy
 below_before [] n rest h = tt
@@ -57,7 +57,7 @@ module _ (C : CatalogData) (F : FileContents) (unreadable names : List FileName)
       go (inl i) = kept (so_far.others m i)
       go (inr i) = subst (λ x. IsListed x after ⊎ IsGood C F unreadable x) (sym (in_one m n i)) here
 
-  -- one good file more
+  -- one more good file
   good_more : IsGood C F unreadable n → AreBadAmong C F unreadable (names ++ n ∷ []) bad
   good_more g = record {
     each = λ m why i. let it = so_far.each m why i in (append_left names (n ∷ []) m it.0, it.1);
@@ -65,7 +65,7 @@ module _ (C : CatalogData) (F : FileContents) (unreadable names : List FileName)
     in_order = so_far.in_order;
   }
 
-  -- one bad file more, of a name above those before it
+  -- one more bad file, whose name is above those before it
   module _ (why : Badness) (b : IsBad C F unreadable n why) (below : AllByRecursion (λ m. name_cmp m n ≡ Less) names) where
     IsOf : FileName × Badness → Type 0
     IsOf x = IsIn x.0 (names ++ n ∷ []) × IsBad C F unreadable x.0 x.1
@@ -119,7 +119,7 @@ has_name C cat L names e i d within =
     let there : IsIn (get_or names i d) names = in_at names i (get_or names i d) (slice_get-get_or names i d within) in
     ((surviving_names C L cat (get_or names i d)).0 (subst (IsIn (get_or names i d)) e there)).0
 
--- where nothing is lost these are the bad files of the store
+-- if nothing is lost, these are the bad files of the store
 pub all_bad : (C : CatalogData) → IsCatalog C → (F : FileContents) (unreadable : List FileName) (L : Sites) (bad : List (FileName × Badness)) → L ≡ [] → AreBadAmong C F unreadable (surviving C L) bad → AreBadFiles C F unreadable bad
 all_bad C cat F unreadable L bad e among =
     let a : AreBadAmong C F unreadable (surviving C []) bad = subst (λ l. AreBadAmong C F unreadable (surviving C l) bad) e among in

@@ -1,4 +1,4 @@
--- Whether a delta and its sound segment merge tells whether the delta is damaged.
+-- Whether a delta and its sound segment merge determines whether the delta is damaged.
 use Rattle.std.proofs.Common.{◌≡◌, ℕ, Bool, true, false, List, Some, Result, Ok, Err, IfOk, refl, sym, subst, ◌∙◌}
 use Rattle.std.specs.Bool.{MatchBool}
 use Rattle.std.proofs.lemmas.Option.{same_Some}
@@ -17,7 +17,7 @@ if_ok (Err e) P Q f p = tt
 
 module _ (C : CatalogData) (F : FileContents) (p s : ℕ) (bytes : List ℕ) (segment : SegmentData) (changes : DeltaData)
     (there : F (FileName.Del p s) ≡ Some bytes) (g : HasSoundSegment C F p s segment) (d : HoldsDelta C p s bytes changes) where
-  -- the two are the only pair under these names
+  -- these are the only pair under these names
   of_pair : (base : Base) (other : DeltaData) → IsPair C F p s base other → CanMerge segment.base changes → CanMerge base other
   of_pair base other pair can =
       let segments : pair.segment_bytes ≡ g.bytes = same_Some pair.segment_bytes g.bytes (sym pair.has_segment ∙ g.there) in
@@ -26,7 +26,7 @@ module _ (C : CatalogData) (F : FileContents) (p s : ℕ) (bytes : List ℕ) (se
       let others = d.only other (subst (λ x. IsDeltaFile C p s x other) deltas pair.delta_file) in
       subst (λ b. CanMerge b other) (sym bases) (subst (λ e. CanMerge segment.base e) (sym others) can)
 
-  -- of any name that is this delta's
+  -- for any name that is this delta's
   of_name : (n : FileName) (q t : ℕ) (base : Base) (other : DeltaData) → FileName.Del p s ≡ FileName.Del q t → IsPair C F q t base other → CanMerge segment.base changes → CanMerge base other
   of_name n q t base other e pair can =
       let a : q ≡ p = cc in

@@ -69,7 +69,7 @@ module _ (C : CatalogData) (cat : IsCatalog C) (F : FileContents) where
       listed_unsound : (n : FileName) → IsListed n bad → IsSound C F n → ⊥
       listed_unsound n (why, i) sound = let it = b.each n why i in bad_unsound n why it.0 it.1 sound
 
-      -- a delta is sound where it is good and so is its segment
+      -- a delta is sound if it and its segment are good
       delta_sound : (p s : ℕ) → IsGood C F unreadable (FileName.Seg p s) → IsGood C F unreadable (FileName.Del p s) → IsSound C F (FileName.Del p s)
       delta_sound p s g d =
           let base = g.undamaged.file.0 in
@@ -77,7 +77,7 @@ module _ (C : CatalogData) (cat : IsCatalog C) (F : FileContents) where
           let can = d.undamaged.merges p s base changes refl (record { segment_bytes = g.bytes; delta_bytes = d.bytes; has_segment = g.there; has_delta = d.there; segment_file = g.undamaged.file.1; delta_file = d.undamaged.file.1 }) in
           (merged base changes, record { segment_bytes = g.bytes; delta_bytes = d.bytes; base = base; changes = changes; has_segment = g.there; has_delta = d.there; segment_file = g.undamaged.file.1; delta_file = d.undamaged.file.1; can_merge = can; image = refl })
 
-      -- a delta is unsound where its segment is bad
+      -- a delta is unsound if its segment is bad
       delta_unsound : (p s : ℕ) → IsListed (FileName.Seg p s) bad → IsSound C F (FileName.Del p s) → ⊥
       delta_unsound p s l (m, i) = listed_unsound (FileName.Seg p s) l (i.segment_bytes, i.base, i.has_segment, i.segment_file)
 

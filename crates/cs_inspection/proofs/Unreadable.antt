@@ -1,4 +1,4 @@
--- Whether a name is one of a list, as it is tested.
+-- Whether a name is in a list, as the program tests it.
 use Rattle.std.proofs.Common.{◌≡◌, inl, inr, Bool, true, false, ◌||◌, List, [], ◌∷◌, Ordering, refl, sym, ap, ◌∙◌}
 use Rattle.std.specs.List.{list_any}
 use Rattle.std.specs.Ordering.{is_eq, eq_by_cmp, ordering_reverse}

@@ -1,4 +1,4 @@
--- The bad files of a store, and why each is. Some names were unreadable: what stands under these is not known.
+-- The bad files of a store, and why each is bad. Nothing is known of the file under an unreadable name.
 use Rattle.std.specs.Prelude.{◌≡◌, ◌⊎◌, ℕ, List, map, Some, None}
 use Rattle.std.specs.List.Sorted.{IsStrictlySortedBy}
 use Rattle.cs_schema.specs.declared.file_name.FileName.{FileName}
@@ -25,7 +25,7 @@ pub record IsPair (C : CatalogData) (F : FileContents) (p s : ℕ) (base : Base)
   pub segment_file : IsSegmentFile C p s segment_bytes base
   pub delta_file : IsDeltaFile C p s delta_bytes changes
 
--- the bytes under a name are no file of that name, or a delta that does not merge with its sound segment
+-- the bytes under a name are not a file of that name, or are a delta that does not merge with its sound segment
 pub data IsDamaged (C : CatalogData) (F : FileContents) (n : FileName) (bytes : List ℕ) : Type 0 where
   no_file : ¬ IsFileOf C n bytes → IsDamaged C F n bytes
   unmerged : (p s : ℕ) (base : Base) (changes : DeltaData) → n ≡ FileName.Del p s → IsPair C F p s base changes → ¬ CanMerge base changes → IsDamaged C F n bytes
@@ -41,24 +41,24 @@ pub data IsBad (C : CatalogData) (F : FileContents) (unreadable : List FileName)
   missing : ¬ IsIn n unreadable → F n ≡ None → why ≡ Badness.Missing → IsBad C F unreadable n why
   damaged : ¬ IsIn n unreadable → (bytes : List ℕ) → F n ≡ Some bytes → IsDamaged C F n bytes → why ≡ Badness.Damaged → IsBad C F unreadable n why
 
--- the file was read, is there and is undamaged
+-- the file is readable, present and undamaged
 pub record IsGood (C : CatalogData) (F : FileContents) (unreadable : List FileName) (n : FileName) : Type 0 where
   pub readable : ¬ IsIn n unreadable
   pub bytes : List ℕ
   pub there : F n ≡ Some bytes
   pub undamaged : IsUndamaged C F n bytes
 
--- the name is among the bad ones
+-- the name is in the list of bad files
 abbrev pub IsListed : FileName → List (FileName × Badness) → Type 0
 IsListed n bad = (why : Badness) × IsIn (n, why) bad
 
--- these are the bad files among some names, each with why it is, in the order of their names; each other one is good
+-- the bad files among some names, each with the reason, in the order of their names; the other files are good
 pub record AreBadAmong (C : CatalogData) (F : FileContents) (unreadable names : List FileName) (bad : List (FileName × Badness)) : Type 0 where
   pub each : (n : FileName) (why : Badness) → IsIn (n, why) bad → IsIn n names × IsBad C F unreadable n why
   pub others : (n : FileName) → IsIn n names → IsListed n bad ⊎ IsGood C F unreadable n
   pub in_order : IsStrictlySortedBy name_cmp (map (λ b. b.0) bad)
 
--- These are the bad files of a store, each with why it is, in the order of their names; each other file of the catalog's is good.
+-- the bad files of a store, each with the reason, in the order of their names; the other files of the catalog are good
 pub record AreBadFiles (C : CatalogData) (F : FileContents) (unreadable : List FileName) (bad : List (FileName × Badness)) : Type 0 where
   pub each : (n : FileName) (why : Badness) → IsIn (n, why) bad → HasName C n × IsBad C F unreadable n why
   pub others : (n : FileName) → HasName C n → IsListed n bad ⊎ IsGood C F unreadable n

@@ -1,4 +1,4 @@
--- What is found in the bytes of one file.
+-- What the bytes of one file hold.
 use Rattle.std.specs.Prelude.{◌≡◌, ℕ, List, Some}
 use Rattle.cs_schema.specs.CatalogData.{CatalogData}
 use Rattle.cs_schema.specs.declared.file_name.FileName.{FileName}
@@ -16,13 +16,13 @@ pub record HoldsSegment (C : CatalogData) (p s : ℕ) (bytes : List ℕ) (segmen
 abbrev pub HoldsNoSegment : CatalogData → ℕ → ℕ → List ℕ → Type 0
 HoldsNoSegment C p s bytes = (b : Base) → ¬ IsSegmentFile C p s bytes b
 
--- the segment's file is there and sound by itself, and holds this segment alone
+-- the segment's file is present and sound by itself, and holds only this segment
 pub record HasSoundSegment (C : CatalogData) (F : FileContents) (p s : ℕ) (segment : SegmentData) : Type 0 where
   pub bytes : List ℕ
   pub there : F (FileName.Seg p s) ≡ Some bytes
   pub holds : HoldsSegment C p s bytes segment
 
--- no sound file of the segment is there
+-- the segment has no sound file
 abbrev pub HasNoSegment : CatalogData → FileContents → ℕ → ℕ → Type 0
 HasNoSegment C F p s = (bytes : List ℕ) → F (FileName.Seg p s) ≡ Some bytes → HoldsNoSegment C p s bytes
 

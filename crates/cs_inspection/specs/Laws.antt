@@ -1,4 +1,4 @@
--- Laws over bad files, each the contract of a function of src/laws.rt.
+-- Laws about bad files; each is the contract of a function of src/laws.rt.
 use Rattle.std.specs.Prelude.{◌≡◌, List, IsTrue, None}
 use Rattle.cs_schema.specs.declared.file_name.FileName.{FileName}
 use Rattle.cs_schema.specs.Lists.{member, IsIn}
@@ -13,11 +13,11 @@ use Rattle.cs_recovery.specs.Verdicts.{IsSound}
 use Rattle.cs_inspection.specs.declared.badness.Badness.{Badness}
 use Rattle.cs_inspection.specs.BadFiles.{IsBad, IsGood, AreBadFiles}
 
--- no file stands under an unreadable name
+-- there is no file under an unreadable name
 abbrev pub AreAbsent : FileContents → List FileName → Type 0
 AreAbsent F unreadable = (n : FileName) → IsIn n unreadable → F n ≡ None
 
--- no file is both good and bad, and a bad one is for one reason
+-- no file is both good and bad, and a bad one is bad for one reason
 abbrev pub FilesHaveOneState : Type 0
 FilesHaveOneState =
     (C : CatalogData) → IsCatalog C → (F : FileContents) (unreadable : List FileName) (n : FileName) (why : Badness) → HasName C n → IsBad C F unreadable n why
@@ -35,12 +35,12 @@ SoundFilesAreGood =
     (C : CatalogData) → IsCatalog C → (F : FileContents) (unreadable : List FileName) → AreAbsent F unreadable
     → (n : FileName) → HasName C n → IsSound C F n → IsGood C F unreadable n
 
--- whoever knows the bad files knows of each file whether it is sound
+-- the list of bad files determines, for each file, whether it is sound
 abbrev pub BadFilesTellSoundOnes : Type 0
 BadFilesTellSoundOnes =
     (C : CatalogData) → IsCatalog C → (F : FileContents) (unreadable : List FileName) (bad : List (FileName × Badness)) → AreAbsent F unreadable → AreBadFiles C F unreadable bad → AreRead C F
 
--- every accepted loss has the site of every bad file
+-- every accepted loss contains the site of every bad file
 abbrev pub BadSitesAreForced : Type 0
 BadSitesAreForced =
     (C : CatalogData) → IsCatalog C → (F : FileContents) (unreadable : List FileName) → AreAbsent F unreadable

@@ -28,7 +28,7 @@ pub struct Inspector<'a, R> {
 }
 
 impl<R: Threads> Inspector<'_, R> {
-    /// The segment whose file the bytes are, if they are one.
+    /// The segment in the bytes, if they are the file of this segment.
     fn segment_in(&self, p: u16, s: u16, bytes: &[u8]) -> Result<Option<Segment>, AllocError>
         requires { HasSegment self.now.catalog.now p s }
         ensures { IfOk result (λ found. MatchOption found (HoldsNoSegment self.now.catalog.now p s bytes.now)
@@ -41,7 +41,7 @@ impl<R: Threads> Inspector<'_, R> {
         }
     }
 
-    /// The delta whose file the bytes are, if they are one.
+    /// The delta in the bytes, if they are the file of this delta.
     fn delta_in(&self, p: u16, s: u16, bytes: &[u8]) -> Result<Option<Delta>, AllocError>
         requires { HasSegment self.now.catalog.now p s }
         ensures { IfOk result (λ found. MatchOption found (HoldsNoDelta self.now.catalog.now p s bytes.now)
@@ -54,7 +54,7 @@ impl<R: Threads> Inspector<'_, R> {
         }
     }
 
-    /// Whether the bytes are a segment of this name.
+    /// Whether the bytes are a segment file of this name.
     fn is_segment(&self, p: u16, s: u16, bytes: &[u8]) -> Result<bool, AllocError>
         requires { HasSegment self.now.catalog.now p s }
         ensures { IfOk result (λ is. MatchBool is (IsFileOf self.now.catalog.now (NameData.Seg p s) bytes.now)
@@ -67,7 +67,7 @@ impl<R: Threads> Inspector<'_, R> {
         }
     }
 
-    /// Whether the bytes are a join index of this name.
+    /// Whether the bytes are a join index file of this name.
     fn is_join(&self, p: u16, s: u16, q: u16, bytes: &[u8]) -> Result<bool, AllocError>
         ensures { IfOk result (λ is. MatchBool is (IsFileOf self.now.catalog.now (NameData.Jix p s q) bytes.now)
             (¬ IsFileOf self.now.catalog.now (NameData.Jix p s q) bytes.now)) }
@@ -80,7 +80,7 @@ impl<R: Threads> Inspector<'_, R> {
         }
     }
 
-    /// The segment under its name, if it is sound by itself.
+    /// The segment under its name, if its file is sound by itself.
     fn sound_segment(&self, p: u16, s: u16) -> Result<Option<Segment>, AllocError>
         requires { HasSegment self.now.catalog.now p s }
         ensures { IfOk result (λ found. MatchOption found (HasNoSegment self.now.catalog.now (contents_of self.now.files.now) p s)
@@ -92,7 +92,7 @@ impl<R: Threads> Inspector<'_, R> {
         }
     }
 
-    /// Whether the bytes are a delta of this name that merges with its segment, if that is sound.
+    /// Whether the bytes are a delta file of this name that merges with its segment, if that is sound by itself.
     fn is_delta(&self, p: u16, s: u16, bytes: &[u8]) -> Result<bool, AllocError>
         requires exists { HasSegment self.now.catalog.now p s }
         requires there { contents_of self.now.files.now (NameData.Del p s) ≡ Some bytes.now }
@@ -111,7 +111,7 @@ impl<R: Threads> Inspector<'_, R> {
         }
     }
 
-    /// Whether a segment and a delta of one projection merge.
+    /// Whether a segment and a delta of the same projection merge.
     fn can_merge(&self, p: u16, segment: Segment, delta: &Delta) -> Result<bool, AllocError>
         requires exists { p < length self.now.catalog.now.projections }
         requires base { IsBase self.now.catalog.now p segment.base }
@@ -127,7 +127,8 @@ impl<R: Threads> Inspector<'_, R> {
         }
     }
 
-    /// Whether the bytes under a name are a file of that name.
+    /// Whether the bytes under a name are a file of that name. A delta must also merge with its segment, if that is
+    /// sound by itself.
     pub fn is_undamaged(&self, name: FileName, bytes: &[u8]) -> Result<bool, AllocError>
         requires name { HasName self.now.catalog.now name }
         requires there { contents_of self.now.files.now name ≡ Some bytes.now }

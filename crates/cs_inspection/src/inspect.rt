@@ -37,7 +37,10 @@ fn badness<R: Threads>(
 }
 
 /// The bad files of a store with the reason for each, in the order of their names: those that were unreadable, are
-/// missing, or have damaged bytes. If a segment is bad, its delta is judged by its own bytes.
+/// missing, or have damaged bytes.
+///
+/// `unreadable` has the names at which the device failed. If a segment is bad, its delta is judged by its own bytes.
+/// Fails only if memory is refused.
 pub fn bad_files<R: Threads>(
     rt: &R,
     alloc: Global,
@@ -51,7 +54,10 @@ pub fn bad_files<R: Threads>(
     bad_survivors(rt, alloc, catalog, files, unreadable, Loss::none())
 }
 
-/// The bad files among those that survive a loss. No file of a lost site is inspected.
+/// The bad files among those that survive a loss, with the reason for each, in the order of their names.
+///
+/// `unreadable` has the names at which the device failed. Files of lost sites are not inspected. If a segment is bad,
+/// its delta is judged by its own bytes. Fails only if memory is refused.
 pub fn bad_survivors<R: Threads>(
     rt: &R,
     alloc: Global,

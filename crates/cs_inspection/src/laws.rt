@@ -11,13 +11,13 @@ pub fn bad_files_are_unsound()
     ensures { BadFilesAreUnsound }
 {}
 
-/// A sound file is good, so if all are known to be sound, none is bad.
+/// A sound file is good. So if every file is sound, none is bad.
 pub fn sound_files_are_good()
     ensures { SoundFilesAreGood }
 {}
 
-/// Knowing the bad files says of each file whether it is sound. This is the premise of the law that a store accepts
-/// exactly the losses that contain a site of each conflict.
+/// The list of bad files determines, for each file, whether it is sound. This is the premise of the law that a store
+/// accepts exactly the losses that contain a site of each conflict.
 pub fn bad_files_tell_sound_ones()
     ensures { BadFilesTellSoundOnes }
 {}

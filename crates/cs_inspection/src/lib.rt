@@ -1,7 +1,7 @@
-//! Inspects each file of a store by itself: which files are bad, and why.
+//! Inspection of each file of a store by itself: which files are bad, and why.
 //!
-//! It needs neither walk nor table, so it works on a store that cannot be recovered. Whether a sound file agrees with
-//! the table is another question.
+//! It needs neither a walk nor a table, so it works on a store that cannot be recovered. It does not find whether a
+//! sound file agrees with the table.
 #![tactic(auto)]
 
 pub mod badness;

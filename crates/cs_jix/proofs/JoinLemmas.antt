@@ -1,4 +1,4 @@
--- Entries of join indexes, and their text.
+-- The entries of join indexes, and their bytes.
 use Rattle.std.proofs.Common.{◌≡◌, ℕ, zero, suc, ◌+◌, ◌*◌, ◌<◌, ◌≤◌, List, [], ◌∷◌, ◌++◌, length, get_or, take, drop, refl, sym, ap, ◌∙◌, arith, Bool, true, false, cond, Some, None, eqb, eq-eqb, eqb-true, append_assoc, inl, inr, true≢false}
 use Rattle.std.specs.Prelude.{◌&&◌, nat_le, ◌^◌}
 use Rattle.std.specs.List.{zip, list_all, slice_get}
@@ -51,7 +51,7 @@ not_eqb x y n false e = e
 pub live_entry : (e : Place) → (e.1 ≡ 0 → ⊥) → Some e ≡ placed_entry (Some e)
 live_entry e h = sym (ap (λ (b : Bool). cond b None (Some e)) (not_eqb e.1 0 h (eqb e.1 0) refl))
 
--- ---- the text of entries
+-- ---- the bytes of entries
 
 pub concat_push : (xs : List Place) (e : Place) → entries_text (xs ++ e ∷ []) ≡ entries_text xs ++ entry_text e
 concat_push [] e = refl
@@ -89,7 +89,7 @@ entries_once (x ∷ xs) (y ∷ ys) h k e =
     let s = entries_once xs ys (λ f i. h f (inr i)) (λ f i. k f (inr i)) r.1 in
     λ i. r.0 i ∷ s i
 
--- ---- entries that may stand there
+-- ---- valid entries
 
 andb_first : (s t : Bool) → (s && t) ≡ true → s ≡ true
 andb_first true t h = refl
@@ -191,7 +191,7 @@ module _ (p s q : ℕ) (bytes text : List ℕ) (sealed_is : bytes ≡ sealed tex
     text = sealed_is ∙ ap sealed (h ∙ ap (λ x. join_head p s q ++ x) (r ∙ (λ i. be32 (sym n i) ++ b i)));
   }
 
--- files of one name hold one list of entries
+-- bytes are the file of at most one list of entries
 pub one_reading : (p s q : ℕ) (bytes : List ℕ) (xs ys : List Place) → IsJoinIndexFile p s q bytes xs → IsJoinIndexFile p s q bytes ys → xs ≡ ys
 one_reading p s q bytes xs ys f g =
     entries_once xs ys (λ e i. fit_entry e (f.each e i)) (λ e i. fit_entry e (g.each e i))

@@ -6,7 +6,7 @@ use Rattle.cs_segment.specs.Bytes.{be16, be32}
 use Rattle.cs_segment.specs.SegmentFile.{sealed}
 use Rattle.cs_delta.specs.DeltaFile.{key_limit}
 
--- a segment number of the target, and a storage key there
+-- a segment of the target projection, and a storage key in it
 abbrev pub Place : Type 0
 Place = ℕ × ℕ
 
@@ -27,7 +27,7 @@ pub record IsJoinIndexFile (p s q : ℕ) (bytes : List ℕ) (entries : List Plac
   pub each : (e : Place) → IsIn e entries → IsEntry e
   pub text : bytes ≡ join_index_text p s q entries
 
--- the entry at a key, where it has a place
+-- the entry, unless it is empty
 abbrev pub placed_entry : Option Place → Option Place
 placed_entry None = None
 placed_entry (Some e) = if e.1 == 0 then None else Some e

@@ -1,4 +1,4 @@
-//! The entries of a join index by key.
+//! Join indexes, and following their entries.
 ghost use Rattle.std.specs.Prelude.{◌≡◌, ◌≤◌, ℕ, List, length};
 ghost use Rattle.std.specs.List.{zip};
 ghost use Rattle.cs_jix.specs.JoinIndex.{entry_at};
@@ -7,7 +7,8 @@ ghost use Rattle.cs_jix.specs.Follow.{followed};
 use cs_delta::image::Image;
 use std::marker::Model;
 
-/// The entries of a join index: a segment of the target and a key there for each key of the segment.
+/// A join index (C-Store, VLDB 2005). For each storage key of a segment, from 1 to `top`, its entry is the segment and
+/// the key at which the target projection stores the row. The entry of a key without a live row is empty: (0, 0).
 #[derive(Drop)]
 pub struct JoinIndex {
     segments: Vec<u16>,
@@ -27,7 +28,7 @@ impl Model for JoinIndex {
 }
 
 impl JoinIndex {
-    /// The entries with these segments and keys.
+    /// The join index whose entries have these segments and keys.
     pub(crate) fn from_parts(segments: Vec<u16>, keys: Vec<u32>) -> Self
         requires same { length segments.items ≡ length keys.items }
         requires few { length keys.items ≤ 4194304 }
@@ -36,14 +37,15 @@ impl JoinIndex {
         JoinIndex { segments, keys }
     }
 
-    /// The number of entries.
+    /// The number of entries, and the highest key that has one.
     pub fn top(&self) -> u32
         ensures { result ≡ length self.now }
     {
         self.keys.len() as u32
     }
 
-    /// The place that stands at a key.
+    /// The entry of a key: a segment of the target and a key in it. `None` if there is no such entry, or if it is
+    /// empty.
     pub fn entry(&self, key: u32) -> Option<(u16, u32)>
         ensures { result ≡ entry_at self.now key }
     {
@@ -55,7 +57,9 @@ impl JoinIndex {
         if place.1 == 0 { None } else { Some(place) }
     }
 
-    /// The row at which a key's entry points, by segment and position in the target's images, where it is a live row there.
+    /// The row to which the entry of a key points: its segment in the target, and its position in the image of that
+    /// segment. `images` has those of the target's segments in order. `None` if there is no entry, if it is empty, if
+    /// the image of its segment is not given, or if its key is not live there.
     pub fn follow(&self, key: u32, images: &[Option<Image>]) -> Option<(u16, u32)>
         ensures { result ≡ followed self.now key images.now }
     {

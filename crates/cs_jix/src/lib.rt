@@ -1,4 +1,4 @@
-//! Join indexes: for each key of a segment, where the same row stands in another projection.
+//! Join indexes (C-Store, VLDB 2005): for each storage key of a segment, where another projection stores the row.
 #![tactic(auto)]
 
 pub mod index;

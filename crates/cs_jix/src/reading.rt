@@ -1,4 +1,4 @@
-//! Reading the file of a join index.
+//! Reading a join index's file.
 ghost use Rattle.std.specs.Prelude.{◌≡◌, ◌≤◌, ◌<◌, ◌*◌, ◌+◌, ◌++◌, ℕ, List, length, IfOk, IfSome, IfNone, Err, ◌^◌, IsTrue};
 ghost use Rattle.std.specs.List.{zip, list_all};
 ghost use Rattle.cs_schema.specs.Lists.{IsIn};
@@ -7,24 +7,25 @@ ghost use Rattle.cs_jix.specs.JoinIndex.{Place, IsJoinIndexFile};
 ghost use Rattle.cs_jix.specs.Entries.{join_head, entry_text, entries_text, is_allowed, FitEntry};
 
 use crate::index::JoinIndex;
-use crate::writing::{LIMIT, head};
+use crate::writing::head;
+use cs_schema::limits::{CUTS, DELTA_KEYS};
 use cs_segment::bytes::{after, number};
 use cs_segment::fault::FileFault;
 use cs_segment::seal::unseal;
 use std::alloc::{AllocError, Global};
 
-/// Whether an entry may stand in a join index.
+/// Whether an entry is valid: empty, or with a segment number and a key within their limits.
 fn is_allowed(segment: u16, key: u32) -> bool
     ensures { result ≡ is_allowed (segment, key) }
 {
     if key == 0 {
         segment == 0
     } else {
-        segment <= 15 && key <= LIMIT
+        usize::from(segment) <= CUTS && key <= DELTA_KEYS
     }
 }
 
-/// Whether each entry may stand in a join index.
+/// Whether all entries are valid.
 fn all_allowed(segments: &[u16], keys: &[u32]) -> bool
     requires { length segments.now ≡ length keys.now }
     ensures all { result ≡ list_all is_allowed (zip segments.now keys.now) }
@@ -38,7 +39,7 @@ fn all_allowed(segments: &[u16], keys: &[u32]) -> bool
     true
 }
 
-/// The entry whose text the six bytes are.
+/// Decodes an entry.
 fn read_entry(entry: &[u8]) -> (u16, u32)
     requires { length entry.now ≡ 6 }
     ensures { entry.now ≡ entry_text result }
@@ -50,7 +51,7 @@ fn read_entry(entry: &[u8]) -> (u16, u32)
     )
 }
 
-/// The entries whose text the bytes are, allowed or not.
+/// Decodes `count` entries into their segments and their keys. It does not ask whether they are valid.
 fn read_entries(
     alloc: Global,
     bytes: &[u8],
@@ -71,7 +72,8 @@ fn read_entries(
     Ok((segments, keys))
 }
 
-/// The join index whose file the text is with the digest that it has.
+/// Reads the join index of segment `s` of projection `p` into projection `q` from its bytes without the digest, which
+/// the caller verifies. `Damaged` if the bytes with their digest are not such a join index.
 pub fn read_jix_text(
     alloc: Global,
     p: u16,
@@ -90,7 +92,7 @@ pub fn read_jix_text(
     let Some((count, body)) = number(rest) else {
         return Err(FileFault::Damaged);
     };
-    if count > LIMIT || body.len() != 6 * count as usize {
+    if count > DELTA_KEYS || body.len() != 6 * count as usize {
         return Err(FileFault::Damaged);
     }
     let (segments, keys) = read_entries(alloc, body, count as usize)?;
@@ -100,7 +102,8 @@ pub fn read_jix_text(
     Ok(JoinIndex::from_parts(segments, keys))
 }
 
-/// The join index whose file the bytes are.
+/// Reads the join index of segment `s` of projection `p` into projection `q`. `Damaged` if the bytes are not such a
+/// join index.
 pub fn read_jix(alloc: Global, p: u16, s: u16, q: u16, bytes: &[u8]) -> Result<JoinIndex, FileFault>
     ensures found { IfOk result (IsJoinIndexFile p s q bytes.now) }
     ensures refused { result ≡ Err FileFault.Damaged → (entries : List Place) → IsJoinIndexFile p s q bytes.now entries → ⊥ }

@@ -1,4 +1,4 @@
-//! Writing the file of a join index.
+//! Writing a join index's file.
 ghost use Rattle.std.specs.Prelude.{◌≡◌, ◌≤◌, ◌++◌, ℕ, List, length, IfOk, OnOk};
 ghost use Rattle.cs_schema.specs.Lists.{IsIn};
 ghost use Rattle.cs_segment.specs.Bytes.{be32};
@@ -8,10 +8,7 @@ ghost use Rattle.cs_jix.specs.Entries.{join_head, entries_text};
 use cs_segment::seal::seal;
 use std::alloc::{AllocError, Global};
 
-/// The highest key, and the highest number of entries.
-pub(crate) const LIMIT: u32 = 4194304;
-
-/// What stands in front of the number of entries.
+/// The header of a join index's file, up to the number of entries.
 pub(crate) fn head(p: u16, s: u16, q: u16) -> [u8; 14]
     ensures { result ≡ join_head p s q }
 {
@@ -23,7 +20,7 @@ pub(crate) fn head(p: u16, s: u16, q: u16) -> [u8; 14]
     ]
 }
 
-/// Appends the text of entries.
+/// Appends the encoded entries.
 fn write_entries(text: &mut Vec<u8>, entries: &[(u16, u32)]) -> Result<(), AllocError>
     ensures { OnOk result (text.new.items ≡ text.old.items ++ entries_text entries.now) }
 {
@@ -34,7 +31,8 @@ fn write_entries(text: &mut Vec<u8>, entries: &[(u16, u32)]) -> Result<(), Alloc
     Ok(())
 }
 
-/// The file of a join index.
+/// The file of the join index of segment `s` of projection `p` into projection `q`. The entries are those of the keys
+/// 1, 2, 3, .. in order: a segment of `q` and a key in it, or (0, 0) at a key without a live row.
 pub fn write_jix(
     alloc: Global,
     p: u16,
@@ -46,7 +44,7 @@ pub fn write_jix(
     requires each { (e : Place) → IsIn e entries.now → IsEntry e }
     ensures { IfOk result (λ bytes. IsJoinIndexFile p s q bytes.items entries.now) }
 {
-    // 18 bytes in front of the entries, 6 for each, and the digest
+    // 18 bytes of header, 6 for each entry, and 32 of digest
     let mut text: Vec<u8> = Vec::with_capacity(alloc, entries.len().saturating_mul(6) + 50)?;
     text.extend_from_slice(&head(p, s, q))?;
     text.extend_from_slice(&(entries.len() as u32).to_be_bytes())?;

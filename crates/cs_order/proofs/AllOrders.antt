@@ -1,4 +1,4 @@
--- The numbers of all segments are the orders of the rows.
+-- The row numbers of all segments are the orders of the rows.
 use Rattle.std.proofs.Common.{◌≡◌, ◌≤◌, ℕ, ◌<◌, List, [], ⊎_elim, false, length, map, get_or, ap, sym, ◌∙◌, subst, arith}
 use Rattle.std.specs.Prelude.{All}
 use Rattle.std.proofs.lemmas.Bool.{cases_lt}

@@ -1,4 +1,4 @@
--- Which fault is answered.
+-- Which fault is returned.
 use Rattle.std.proofs.Common.{◌≡◌, ℕ, ◌<◌, List, Result, Ok, Err, Some, false, sym, ap, ◌∙◌}
 use Rattle.std.specs.Prelude.{length, IfErr}
 use Rattle.std.specs.Result.{IsErrAnd}

@@ -1,4 +1,4 @@
--- The least range that has too many rows, found among all segments.
+-- The first range that has too many rows, found among all segments.
 use Rattle.std.proofs.Common.{◌≡◌, ℕ, ◌<◌, ◌≤◌, ◌+◌, List, [], ◌∷◌, ◌++◌, suc, zero, length, map, Some, None, Bool, true, false, cond, refl, sym, ap, ◌∙◌, arith, ⊎_elim}
 use Rattle.std.specs.Prelude.{nat_lt}
 use Rattle.std.specs.List.{find, flat_map, range_with_len}

@@ -1,4 +1,4 @@
--- Columns that are all as long as the first, and of a catalog's kinds.
+-- Columns that all have the same length, and a catalog's kinds.
 use Rattle.std.proofs.Common.{◌≡◌, ℕ, zero, suc, ◌<◌, List, [], ◌∷◌, length, map, get_or, Some, sym, ap, ◌∙◌, arith}
 use Rattle.std.proofs.lemmas.List.{length-map, get_or-map}
 use Rattle.std.proofs.lemmas.List.FromFn.{fill_by_all}
@@ -36,13 +36,13 @@ same_kinds C columns count kinds =
     fill_by_all f (map kind_of columns) n Kind.Int (length-map columns kind_of ∙ count) (λ c h. mapped_at kind_of columns c Kind.Int (column C c).kind (omega (arith, count)) (λ d. kinds c d (omega (arith, count))))
     ∙ sym (fill_by_all f (map (λ (c : ColumnData). c.kind) C.columns) n Kind.Int (length-map C.columns (λ (c : ColumnData). c.kind)) (λ c h. get_or-map (λ (x : ColumnData). x.kind) C.columns c no_column Kind.Int h))
 
--- each of the columns is as long as the first
+-- each column is as long as the first
 pub same_length : (columns : List Cells) → AreColumns columns → (k : ℕ) (cells first : Cells) → k < length columns → cells ≡ get_or columns k cells → first ≡ get_or columns 0 first → length (values cells) ≡ length (values first)
 same_length columns are k cells first h e f =
     are.lengths cells (in_at columns k cells (slice_get-get_or columns k cells h ∙ ap Some (sym e)))
     ∙ sym (count_first columns first f are.some)
 
--- and of the kind that stands at its place
+-- and has the kind of the catalog's column
 pub same_kind : (C : CatalogData) (columns : List Cells) → map kind_of columns ≡ map (λ (c : ColumnData). c.kind) C.columns → (k : ℕ) (cells : Cells) → k < length columns → k < length C.columns → cells ≡ get_or columns k cells → kind_of cells ≡ (column C k).kind
 same_kind C columns kinds k cells h g e =
     ap kind_of e

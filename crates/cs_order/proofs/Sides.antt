@@ -1,15 +1,15 @@
--- Taking what was made side by side, one after the other.
+-- Taking results that were made in parallel, one after the other.
 use Rattle.std.proofs.Common.{◌≡◌, ℕ, suc, ◌+◌, ◌-◌, ◌<◌, List, [], ◌∷◌, length, drop, get_or, sym, subst, ap, ◌∙◌, arith}
 use Rattle.std.specs.List.{AllZip, range_with_len}
 
 module _ {X : Type 0} (R : ℕ → X → Type 0) where
-  -- what was made of all numbers, in order
+  -- what was made for all numbers, in order
   pub all_made : (n m : ℕ) (numbers : List ℕ) (made list : List X) → n ≡ m → numbers ≡ range_with_len 0 (n - 0) → AllZip R numbers made → list ≡ made → AllZip R (range_with_len 0 m) list
   all_made n m numbers made list same all h e =
       let whole : n - 0 ≡ m = omega arith in
       subst (λ (l : List ℕ). AllZip R l list) (all ∙ ap (range_with_len 0) whole) (subst (AllZip R numbers) (sym e) h)
 
-  -- all are left
+  -- nothing was taken yet
   pub none_taken : (m : ℕ) (xs : List X) → AllZip R (range_with_len 0 m) xs → AllZip R (range_with_len 0 (m - 0)) xs
   none_taken m xs h =
       let whole : m ≡ m - 0 = omega arith in

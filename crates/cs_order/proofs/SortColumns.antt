@@ -1,5 +1,5 @@
 -- The sort columns of a projection are columns of the table.
-use Rattle.std.proofs.Common.{◌≡◌, ℕ, ◌<◌, List, ◌∙◌, length, get_or, ap, sym, subst}
+use Rattle.std.proofs.Common.{◌≡◌, ℕ, ◌<◌, List, length, sym, subst}
 use Rattle.std.specs.Prelude.{slice_index, EachIndex}
 use Rattle.cs_schema.specs.CatalogData.{CatalogData, projection}
 use Rattle.cs_schema.specs.CatalogRules.{IsCatalog}
@@ -10,9 +10,3 @@ sort_inside C cat p h k there = (cat.projections p h).columns _ ((cat.projection
 
 pub sort_inside_of : (C : CatalogData) → IsCatalog C → (p : ℕ) → p < length C.projections → (sort : List ℕ) → sort ≡ (projection C p).sort → EachIndex sort (λ k. slice_index sort k < length C.columns)
 sort_inside_of C cat p h sort e = subst (λ (l : List ℕ). EachIndex l (λ k. slice_index l k < length C.columns)) (sym e) (sort_inside C cat p h)
-
-pub first_inside : (C : CatalogData) → IsCatalog C → (p : ℕ) → p < length C.projections → (sort : List ℕ) (first : ℕ) → sort ≡ (projection C p).sort → first ≡ get_or sort 0 first → first < length C.columns
-first_inside C cat p h sort first e at =
-    let some : 0 < length (projection C p).sort = (cat.projections p h).some_sort in
-    let there : get_or (projection C p).sort 0 first < length C.columns = (cat.projections p h).columns _ ((cat.projections p h).sort _ (member_at (projection C p).sort 0 first some)) in
-    subst (λ (n : ℕ). n < length C.columns) (sym (at ∙ ap (λ (l : List ℕ). get_or l 0 first) e)) there

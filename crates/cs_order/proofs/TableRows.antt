@@ -1,4 +1,4 @@
--- Rows of which no two have one primary key, and the rows of a segment of their table.
+-- Rows with distinct primary keys, and the rows of a segment of their table.
 use Rattle.std.proofs.Common.{◌≡◌, ℕ, ◌<◌, ◌≤◌, ◌+◌, ◌==◌, ◌||◌, List, [], ◌∷◌, suc, zero, length, map, get_or, Some, Bool, true, false, cond, refl, sym, ap, ◌∙◌, subst, arith, inl, inr, eqb-true, eq-eqb, Ordering}
 use Rattle.std.specs.Prelude.{slice_get}
 use Rattle.std.specs.List.{filter, list_any, count_by}
@@ -25,11 +25,11 @@ use Rattle.cs_order.specs.Tables.{table_of, is_twice}
 use Rattle.cs_order.specs.Orders.{row_at}
 use Rattle.cs_order.specs.Numbers.{AreNumbersOf}
 
--- two rows have one primary key
+-- two rows have the same primary key
 abbrev pub HasKeyTwice : CatalogData → List Row → Type 0
 HasKeyTwice C rows = (a : ℕ) × (b : ℕ) × (a < b) × (b < length rows) × (cell (row_at rows a) C.key ≡ cell (row_at rows b) C.key)
 
--- ---- a key that stands twice
+-- ---- repeated keys
 
 or_left : (a b : Bool) → (a || b) ≡ false → a ≡ false
 or_left true b e = e
@@ -90,7 +90,7 @@ module _ (C : CatalogData) where
       go true e = e
       go false e = absurd (once_apart rows e t)
 
-  -- where no key stands twice, rows of one key are one row
+  -- if no key repeats, rows with the same key are equal
   pub one_row : (rows : List Row) → is_twice C rows ≡ false → (x y : Row) → IsIn x rows → IsIn y rows → key_cmp C x y ≡ Equal → x ≡ y
   one_row [] e x y h k t = absurd h
   one_row (r ∷ rs) e x y (inl a) (inl b) t = a ∙ sym b
@@ -103,7 +103,7 @@ module _ (C : CatalogData) where
       false≢true (sym no ∙ equal_keys _ _ (ap (λ (z : Row). cell z C.key) (sym b) ∙ sym same))
   one_row (r ∷ rs) e x y (inr h) (inr k) t = one_row rs (or_right (list_any (λ z. value_eq (cell r C.key) (cell z C.key)) rs) (is_twice C rs) e) x y h k t
 
--- ---- how many rows stand in a segment
+-- ---- the number of rows of a segment
 
 length_placed : {X : Type 0} (cmp : X → X → Ordering) (x : X) (ys : List X) → ((y : X) → IsIn y ys → cmp x y ≡ Equal → ⊥) → length (placed cmp x ys) ≡ suc (length ys)
 length_placed cmp x [] apart = refl
@@ -142,7 +142,7 @@ module _ (C : CatalogData) (p : ℕ) where
       abbrev here : Row → Bool
       here r = segment_of_row C p r == s
 
-      -- the rows of a segment of the table are the rows there
+      -- the rows of the table in a segment are the walked rows there
       in_rows_of : (r : Row) → IsIn r rows → segment_of_row C p r ≡ s → IsIn r (rows_of C (table_of C rows) p s)
       in_rows_of r h e =
           ascending_in (row_cmp C p) (row_total C p) (filter here (table_of C rows))
@@ -168,7 +168,7 @@ module _ (C : CatalogData) (p : ℕ) where
       pub rows_count : length (rows_of C (table_of C rows) p s) ≡ length (filter (λ (r : Row). segment_of_row C p r == s) rows)
       rows_count = ap length same_rows ∙ length_ascending here rows once
 
-      -- the rows with the numbers of a segment are the table's rows there, in their order
+      -- the rows with the numbers of a segment are the table's rows there, in order
       pub numbered_rows : (numbers : List ℕ) → AreNumbersOf C rows p s numbers → map (row_at rows) numbers ≡ rows_of C (table_of C rows) p s
       numbered_rows numbers are =
           same_ascending (row_cmp C p) (row_total C p) (map (row_at rows) numbers) (rows_of C (table_of C rows) p s)
@@ -202,7 +202,7 @@ module _ (C : CatalogData) (p : ℕ) where
               let there : IsIn i numbers = in_at numbers k i (slice_get-get_or numbers k i inside ∙ ap Some found) in
               subst (λ (z : Row). IsIn z (map (row_at rows) numbers)) is (map_in (row_at rows) numbers i there)
 
--- ---- ranges that aren't there
+-- ---- ranges that do not exist
 
 count_most : (test : Value → Bool) (xs : List Value) → count_by test xs ≤ length xs
 count_most test [] = omega arith
@@ -213,7 +213,7 @@ count_most test (x ∷ xs) =
 pub segment_below : (C : CatalogData) (p : ℕ) (r : Row) → segment_of_row C p r < segments C p
 segment_below C p r = omega (arith, count_most (λ c. Rattle.std.specs.Ordering.is_le (value_cmp c (cell r (get_or (projection C p).sort 0 0)))) (projection C p).cuts)
 
--- no row stands in a segment that isn't there
+-- no row is in a segment that does not exist
 pub no_rows : (C : CatalogData) (T : List Row) (p s : ℕ) → segments C p ≤ s → rows_of C T p s ≡ []
 no_rows C T p s far = ap (ascending (row_cmp C p)) (none T)
   where

@@ -8,13 +8,13 @@ use Rattle.cs_order.specs.Orders.{first_full}
 use Rattle.cs_order.specs.Numbers.{RangesFitBelow}
 use Rattle.cs_order.specs.declared.fault.OrderFault.{OrderFault}
 
--- want of memory, a key twice, or else the least range that has too many rows
+-- out of memory, a repeated key, or, if no key repeats, the first range that has too many rows
 abbrev pub IsOrderFault : CatalogData → List Row → OrderFault → Type 0
 IsOrderFault C rows OrderFault.Memory = Unit {0}
 IsOrderFault C rows OrderFault.Twice = is_twice C rows ≡ true
 IsOrderFault C rows (OrderFault.Full p s) = (is_twice C rows ≡ false) × (first_full C (table_of C rows) ≡ Some (p, s))
 
--- want of memory, or the least range of a projection that has too many rows
+-- out of memory, or the first range of a projection that has too many rows
 abbrev pub IsRangeFault : CatalogData → List Row → ℕ → OrderFault → Type 0
 IsRangeFault C rows p OrderFault.Memory = Unit {0}
 IsRangeFault C rows p OrderFault.Twice = ⊥

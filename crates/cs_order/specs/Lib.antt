@@ -9,3 +9,4 @@ pub mod KeyPrefixes
 pub mod Ties
 pub mod Passes
 pub mod Sides
+pub mod RowOrders

@@ -1,4 +1,4 @@
--- The stored places of rows.
+-- The places of rows.
 use Rattle.std.specs.Prelude.{ℕ, ◌≡◌, ◌<◌, ◌≤◌, ◌/◌, ◌%◌, List, [], map, length, slice_get, slice_index, slice_index_or, Some, All, Contains}
 use Rattle.cs_order.specs.declared.segments.ProjectionOrder.{ProjectionOrder}
 
@@ -6,27 +6,34 @@ use Rattle.cs_order.specs.declared.segments.ProjectionOrder.{ProjectionOrder}
 abbrev pub segment_lists : List ProjectionOrder → List (List (List ℕ))
 segment_lists = map (λ order. order.segments.items)
 
--- the number of a place is that of its segment times 1,048,576, the most rows that a segment has, and its index there
+-- a place is a segment's number times 1,048,576, which is the maximum number of its rows, plus an index in the segment
 abbrev pub segment_in : ℕ → ℕ
 segment_in place = place / 1048576
 
 abbrev pub index_in : ℕ → ℕ
 index_in place = place % 1048576
 
--- of a segment with these rows it is the place where a row stands
+-- the place of a row that is in segment s, whose rows these are
 pub record IsThere (rows : List ℕ) (s row place : ℕ) : Type 0 where
   pub segment : segment_in place ≡ s
   pub index : slice_get rows (index_in place) ≡ Some row
 
--- the row stands at a place of these segments
+-- each row that is in exactly one of these segments has its place there
+abbrev pub ArePlacesIn : List (List ℕ) → List ℕ → Type 0
+ArePlacesIn lists places =
+    (s r : ℕ) → s < length lists → Contains (slice_index_or lists s []) r
+    → ((t : ℕ) → t < length lists → Contains (slice_index_or lists t []) r → t ≡ s)
+    → IsThere (slice_index_or lists s []) s r (slice_index places r)
+
+-- the row is at this place in these segments
 abbrev pub IsPlaceOf : List (List ℕ) → ℕ → ℕ → Type 0
 IsPlaceOf lists row place = slice_get (slice_index_or lists (segment_in place) []) (index_in place) ≡ Some row
 
--- the row stands in one of these segments
+-- the row is in one of these segments
 abbrev pub IsAmong : List (List ℕ) → ℕ → Type 0
 IsAmong lists row = ((s : ℕ) → s < length lists → Contains (slice_index_or lists s []) row → ⊥) → ⊥
 
--- each row stands in a segment, and where its number says, which it needn't have
+-- each row is in a segment, and at its place if it has one
 pub record HasPlaces (rows : ℕ) (order : ProjectionOrder) : Type 0 where
   pub few : length order.segments.items ≤ 16
   pub short : All (λ list. length list ≤ 1048576) order.segments.items

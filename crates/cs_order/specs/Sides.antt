@@ -1,4 +1,4 @@
--- The orders of projections that are made side by side.
+-- The orders of projections, which are made in parallel.
 use Rattle.std.specs.Prelude.{ℕ, IfOk, IfErr, List, length}
 use Rattle.std.specs.declared.result.Result.{Result}
 use Rattle.cs_schema.specs.CatalogData.{CatalogData, segments}
@@ -16,7 +16,7 @@ pub record IsOrderOf (C : CatalogData) (rows : List Row) (p : ℕ) (o : Projecti
   pub fit : RangesFitBelow C (table_of C rows) p (segments C p)
   pub places : HasPlaces (length rows) o
 
--- the order of a projection, or else its range fault
+-- the order of a projection, or the fault of its ranges
 pub record IsOrderOrFault (C : CatalogData) (rows : List Row) (p : ℕ) (r : Result ProjectionOrder OrderFault) : Type 0 where
   pub order : IfOk r (IsOrderOf C rows p)
   pub fault : IfErr r (IsRangeFault C rows p)

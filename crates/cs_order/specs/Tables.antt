@@ -11,7 +11,7 @@ use Rattle.cs_schema.specs.Order.{ascending}
 abbrev pub all_segments : CatalogData → List (ℕ × ℕ)
 all_segments C = flat_map (λ p. map (λ s. (p, s)) (numbers_below (segments C p))) (numbers_below (length C.projections))
 
--- the table of rows whose keys are distinct
+-- the table of rows with distinct keys: the rows by key
 abbrev pub table_of : CatalogData → List Row → List Row
 table_of C rows = ascending (key_cmp C) rows
 

@@ -3,12 +3,12 @@ ghost use Rattle.std.specs.Prelude.{◌≡◌, ◌<◌, ◌≤◌, All, Contains
 ghost use Rattle.cs_order.specs.Orders.{numbers_in, StandsAt};
 ghost use Rattle.cs_order.specs.Places.{IsAmong};
 
-use crate::places::PLACES;
 use crate::ranges::RowIds;
 use crate::segments::ProjectionOrder;
+use cs_schema::limits::SEGMENT_ROWS;
 use std::marker::Model;
 
-/// The rows of each segment of each projection, by their numbers.
+/// The row numbers of each segment of each projection, in the projection's order.
 #[derive(Drop)]
 pub struct Orders {
     pub(crate) rows: usize,
@@ -37,8 +37,8 @@ impl Orders {
         order.segments[s as usize].rows()
     }
 
-    /// The segment of a row, and its index there. One look-up if join indexes lead to the projection, otherwise a
-    /// linear search.
+    /// The segment of a row, and its index there. Takes one look-up if a join index leads to the projection, otherwise
+    /// a linear search.
     pub fn place(&self, p: u16, row: u32) -> (u16, u32)
         requires projection { p < length self.now.segments }
         requires row { row < self.now.rows }
@@ -49,11 +49,11 @@ impl Orders {
             return find_row(&order.segments, row);
         }
         let place = order.places[row as usize];
-        ((place / PLACES) as u16, place % PLACES)
+        ((place / SEGMENT_ROWS) as u16, place % SEGMENT_ROWS)
     }
 }
 
-/// The index of a row, if it is there.
+/// The index of a row in a list, if it is there.
 fn index_of(rows: &[u32], row: u32) -> Option<u32>
     requires { length rows.now ≤ 1048576 }
     ensures found { IfSome result (λ index. slice_get rows.now index ≡ Some row) }
@@ -67,7 +67,7 @@ fn index_of(rows: &[u32], row: u32) -> Option<u32>
     None
 }
 
-/// The segment of a row, and its index there.
+/// The segment of a row, and its index there, by a linear search.
 fn find_row(segments: &[RowIds], row: u32) -> (u16, u32)
     requires few { length segments.now ≤ 16 }
     requires short { All (λ rows. length rows ≤ 1048576) segments.now }

@@ -11,7 +11,8 @@ pub enum OrderFault {
     Memory,
     /// Two rows have the same primary key.
     Twice,
-    /// The first segment whose range has more than 1,048,576 rows: segment `s` of projection `p`.
+    /// The range of segment `s` of projection `p` has more than 1,048,576 rows, and no earlier segment has. Numbers are
+    /// from 0.
     Full { p: u16, s: u16 },
 }
 

@@ -1,7 +1,7 @@
 //! The walked rows of each segment in the order of its projection, sorted by several threads.
 //!
-//! Rows are refused exactly if two have the same primary key, or otherwise if a range has too many rows (the first such
-//! range is named). If not, each segment gets the numbers of its rows in order.
+//! Rows are refused if two have the same primary key, or else if a range has too many rows; the fault names the first
+//! such range. Otherwise each segment gets the numbers of its rows in order.
 #![tactic(auto)]
 
 mod all_orders;
@@ -21,6 +21,7 @@ mod segments;
 mod sort;
 mod sort_items;
 mod sorter;
+mod thresholds;
 mod writing;
 
 pub use all_orders::Orders;

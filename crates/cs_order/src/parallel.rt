@@ -1,4 +1,4 @@
-//! The orders of walked rows. Those of several projections are made in parallel.
+//! The orders of walked rows. The projections are sorted in parallel.
 ghost use Rattle.std.specs.Prelude.{◌≡◌, ◌<◌, ◌^◌, false, IfOk, IfErr, None, length, map};
 ghost use Rattle.std.specs.List.{AllZip, range_with_len};
 ghost use Rattle.cs_order.specs.Tables.{is_twice, table_of};
@@ -17,10 +17,10 @@ use rayon::prelude::*;
 use std::alloc::{AllocError, Global};
 use std::thread::Threads;
 
-/// The orders of all projections of walked rows: a thin form over `table_orders`, of a table that borrows the walk's
-/// columns.
+/// The orders of all projections of walked rows: a thin form over `table_orders`, which borrows the walk's columns.
 ///
-/// Fails if two rows have the same primary key, otherwise at the first range that has too many rows.
+/// Fails with `Twice` if two rows have the same primary key, else with `Full` at the first range that has more than
+/// 1,048,576 rows, and with `Memory` only if memory is refused.
 pub fn orders<R: Threads + Sync>(
     rt: &R,
     alloc: Global,
@@ -42,8 +42,11 @@ pub fn orders<R: Threads + Sync>(
 
 /// The orders of all projections of a table's rows.
 ///
-/// Fails as `orders` does. The result takes 4 bytes a row and projection, and 4 more if join indexes lead to the
-/// projection. While it runs, each row takes 8 bytes more, 2 for each projection, and 8 to 28 for each that is sorted.
+/// Fails with `Twice` if two rows have the same primary key, else with `Full` at the first range that has more than
+/// 1,048,576 rows, and with `Memory` only if memory is refused.
+///
+/// The result takes 4 bytes for each row and projection, and 4 more if a join index leads to the projection. Temporary
+/// memory is 8 bytes a row, 2 more for each projection, and 8 to 28 more for each projection that is sorted.
 pub fn table_orders<R: Threads + Sync>(
     rt: &R,
     alloc: Global,
@@ -72,7 +75,7 @@ pub fn table_orders<R: Threads + Sync>(
     let mut made = made_orders(&sorter, &all, by_key)?;
     let mut projections = Vec::new(alloc);
     for _p in 0..catalog.projection_count() {
-        // there are few, so moving those behind takes no time
+        // there are few projections, so moving the others is cheap
         let order = made.remove(0)?;
         projections.push(order)?;
     }
@@ -82,14 +85,15 @@ pub fn table_orders<R: Threads + Sync>(
     })
 }
 
-/// The order of each projection, or why it has none, each made in a thread of its own.
+/// The order of each projection, or the fault that it has instead, made in parallel.
 fn made_orders<R: Threads + Sync>(
     sorter: &Sorter<'_, R>,
     all: &[u32],
     by_key: &[u32],
 ) -> Result<Vec<Result<ProjectionOrder, OrderFault>>, AllocError>
     requires rows { AreAllRows sorter.now.catalog.now sorter.now.walked.now.rows all.now by_key.now }
-    ensures { IfOk result (λ made. AllZip (IsOrderOrFault sorter.now.catalog.now sorter.now.walked.now.rows) (range_with_len 0 (length sorter.now.catalog.now.projections)) made.items) }
+    ensures { IfOk result (λ made. AllZip (IsOrderOrFault sorter.now.catalog.now sorter.now.walked.now.rows)
+        (range_with_len 0 (length sorter.now.catalog.now.projections)) made.items) }
 {
     (0..sorter.catalog.projection_count())
         .into_par_iter()
@@ -105,7 +109,7 @@ fn made_orders<R: Threads + Sync>(
         .collect(sorter.rt, sorter.alloc)
 }
 
-/// The order of a projection, from all rows in walk order and by key.
+/// The order of a projection, given all rows in walk order and by key.
 fn order_of<R: Threads + Sync>(
     sorter: &Sorter<'_, R>,
     p: u16,

@@ -1,19 +1,17 @@
-//! The place of each row, segment and index packed into one number.
-ghost use Rattle.std.specs.Prelude.{◌≡◌, [], ℕ, ◌<◌, ◌≤◌, IfOk, length, slice_index, slice_index_or, All, Contains};
-ghost use Rattle.cs_order.specs.Places.{IsThere};
+//! The place of each row: its segment times `SEGMENT_ROWS`, plus its index in the segment.
+ghost use Rattle.std.specs.Prelude.{◌≡◌, ℕ, ◌<◌, ◌≤◌, IfOk, length, slice_index, All, Contains};
+ghost use Rattle.cs_order.specs.Places.{IsThere, ArePlacesIn};
 
 use crate::ranges::RowIds;
+use cs_schema::limits::SEGMENT_ROWS;
 use std::alloc::{AllocError, Global};
 
-/// The number of places reserved for a segment: the maximum number of its rows.
-pub const PLACES: u32 = 1_048_576;
-
-/// The place of each row.
+/// The place of each of `count` rows in these segments.
 pub fn places(alloc: Global, segments: &[RowIds], count: usize) -> Result<Vec<u32>, AllocError>
     requires few { length segments.now ≤ 16 }
     requires rows { All (λ rows. (length rows ≤ 1048576) × All (λ r. r < count) rows) segments.now }
     ensures count { IfOk result (λ v. length v.items ≡ count) }
-    ensures places { IfOk result (λ v. (s r : ℕ) → s < length segments.now → Contains (slice_index_or segments.now s []) r → ((t : ℕ) → t < length segments.now → Contains (slice_index_or segments.now t []) r → t ≡ s) → IsThere (slice_index_or segments.now s []) s r (slice_index v.items r)) }
+    ensures places { IfOk result (λ v. ArePlacesIn segments.now v.items) }
 {
     let mut places = Vec::new(alloc);
     places.resize(count, 0u32)?;
@@ -25,7 +23,7 @@ pub fn places(alloc: Global, segments: &[RowIds], count: usize) -> Result<Vec<u3
 fn write_all(places: &mut [u32], segments: &[RowIds])
     requires few { length segments.now ≤ 16 }
     requires rows { All (λ rows. (length rows ≤ 1048576) × All (λ r. r < length places.old) rows) segments.now }
-    ensures { (s r : ℕ) → s < length segments.now → Contains (slice_index_or segments.now s []) r → ((t : ℕ) → t < length segments.now → Contains (slice_index_or segments.now t []) r → t ≡ s) → IsThere (slice_index_or segments.now s []) s r (slice_index places.new r) }
+    ensures { ArePlacesIn segments.now places.new }
 {
     for (s, segment) in segments.iter().enumerate() {
         write_segment(places, s as u32, segment.rows());
@@ -40,7 +38,7 @@ fn write_segment(places: &mut [u32], s: u32, rows: &[u32])
     ensures there { (r : ℕ) → Contains rows.now r → IsThere rows.now s r (slice_index places.new r) }
     ensures others { (r : ℕ) → (Contains rows.now r → ⊥) → slice_index places.new r ≡ slice_index places.old r }
 {
-    let first = s * PLACES;
+    let first = s * SEGMENT_ROWS;
     for (index, row) in rows.iter().enumerate() {
         places[*row as usize] = first + index as u32;
     }

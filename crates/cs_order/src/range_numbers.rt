@@ -1,4 +1,4 @@
-//! The range of each row: the number of cuts up to its cell of the first sort column.
+//! The range of each row: the number of cuts that are not above its cell in the first sort column.
 ghost use Rattle.std.specs.Prelude.{◌≡◌, ◌<◌, ◌≤◌, pos, length, map, slice_index, slice_index_or, EachIndex};
 ghost use Rattle.cs_schema.specs.declared.cells.Value.{Value};
 ghost use Rattle.cs_schema.specs.CatalogData.{projection};
@@ -11,10 +11,10 @@ use cs_schema::{Catalog, Cells};
 use std::marker::Sync;
 use std::thread::Threads;
 
-/// The maximum number of cuts for range numbers of 16 bits.
+/// The maximum number of cuts whose ranges are numbered by 16 bits.
 const MOST_CUTS: usize = 65_535;
 
-/// Stores the range of each row, by its cell of the first sort column.
+/// Stores the range of each row, given the cells of the first sort column.
 pub fn write_ranges<R: Threads + Sync>(
     rt: &R,
     catalog: &Catalog,
@@ -37,19 +37,20 @@ pub fn write_ranges<R: Threads + Sync>(
     }
 }
 
-/// Stores the range of each int. The kind of the cells is looked up once and not for each row.
+/// Stores the range of each int. The kind of the cells is looked up once instead of for each row.
 fn write_int_ranges<R: Threads + Sync>(rt: &R, cuts: &[i64], ints: &[i64], numbers: &mut [u16])
     requires few { length cuts.now ≤ 65535 }
     requires long { length numbers.old ≡ length ints.now }
     ensures long { length numbers.new ≡ length numbers.old }
-    ensures ranges { EachIndex numbers.new (λ r. range_of (map Value.Int cuts.now) (Value.Int (slice_index_or ints.now r (pos 0))) ≡ slice_index numbers.new r) }
+    ensures ranges { EachIndex numbers.new (λ r. range_of (map Value.Int cuts.now)
+        (Value.Int (slice_index_or ints.now r (pos 0))) ≡ slice_index numbers.new r) }
 {
     write_each(rt, numbers, |row: usize, number: &mut u16| {
         *number = range_of_int(cuts, &ints[row]);
     });
 }
 
-/// The number of cuts up to an int.
+/// The number of cuts that are not above an int.
 fn range_of_int(cuts: &[i64], int: &i64) -> u16
     requires { length cuts.now ≤ 65535 }
     ensures { result ≡ range_of (map Value.Int cuts.now) (Value.Int int.now) }

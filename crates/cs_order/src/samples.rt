@@ -6,7 +6,7 @@ ghost use Rattle.cs_rows.specs.WalkedView.{walked_data, AreColumns};
 use cs_rows::Walked;
 use cs_schema::{Catalog, Cells};
 
-/// The rows of these columns, if they are columns of the catalog and all as long as the first.
+/// The rows of these columns, if they have the catalog's kinds and all have the same length.
 pub fn walked_rows(catalog: &Catalog, columns: Vec<Cells>) -> Option<Walked>
     ensures kinds { IfSome result (λ walked. walked.kinds ≡ map (λ c. c.kind) catalog.now.columns) }
     ensures refused { IfNone result (AreColumns columns.items → map kind_of columns.items ≡ map (λ c. c.kind) catalog.now.columns → ⊥) }

@@ -2,13 +2,11 @@
 ghost use Rattle.std.specs.Prelude.{◌<◌};
 ghost use Rattle.std.specs.Fork.{AcceptsEach, ChangesEach};
 
+use crate::thresholds::SHARE;
 use rayon::current_num_threads;
 use std::thread::{Threads, for_each_mut};
 
-/// The number of items that are worth a thread of their own.
-const SHARE: usize = 65_536;
-
-/// Calls `f` with the index and a reference of each item of a list, in one thread if the list is short.
+/// Calls `f` with the index of each item of a list and a reference to it, in several threads if the list is long.
 pub fn write_each<R: Threads + Sync, T: Send, F: Fn(usize, &mut T) + Sync>(
     rt: &R,
     list: &mut [T],
@@ -24,7 +22,7 @@ pub fn write_each<R: Threads + Sync, T: Send, F: Fn(usize, &mut T) + Sync>(
 fn writers<R: Threads>(rt: &R, places: usize) -> usize
     ensures { 0 < result }
 {
-    // the system is asked for the number of processors only if one thread is not enough
+    // asks the system for the number of processors only if one thread is not enough
     if places < 2 * SHARE {
         return 1;
     }

@@ -1,4 +1,4 @@
--- A part of a column that fits, fits.
+-- A part of a column that fits a code fits it as well.
 use Rattle.std.proofs.Common.{◌≡◌, ℕ, ℤ, List, [], ◌∷◌, ◌++◌, take, drop, map, refl, sym, subst, arith, inl, inr}
 use Rattle.std.proofs.lemmas.List.{length-append, map-append, take-append-drop}
 use Rattle.cs_schema.specs.declared.kinds.Code.{Code}
@@ -76,10 +76,10 @@ FitsColumn-back code kind x y h = let count = h.count in record { count = omega 
 pub FitsColumn-take : (code : Code) (kind : Kind) (n : ℕ) (v : List Value) → FitsColumn code kind v → FitsColumn code kind (take n v)
 FitsColumn-take code kind n v h = FitsColumn-front code kind (take n v) (drop n v) (subst (λ (z : List Value). FitsColumn code kind z) (sym (take-append-drop n v)) h)
 
--- the cells from place n on
+-- the cells from position n on
 pub FitsColumn-drop : (code : Code) (kind : Kind) (n : ℕ) (v : List Value) → FitsColumn code kind v → FitsColumn code kind (drop n v)
 FitsColumn-drop code kind n v h = FitsColumn-back code kind (take n v) (drop n v) (subst (λ (z : List Value). FitsColumn code kind z) (sym (take-append-drop n v)) h)
 
--- a column that fits can be written
+-- a column that fits can be encoded
 pub FitsColumn-CanEncode : (code : Code) (kind : Kind) (v : List Value) → FitsColumn code kind v → CanEncode code kind v
 FitsColumn-CanEncode code kind v h = record { count = h.count; order = h.order }

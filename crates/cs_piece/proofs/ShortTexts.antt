@@ -1,4 +1,4 @@
--- The text of a column that fits is short.
+-- The body of a column that fits is short.
 use Rattle.std.proofs.Common.{◌≡◌, ℕ, ◌^◌, ◌<◌, true, List, [], ◌∷◌, length, map, refl, ap, arith, inl, inr}
 use Rattle.std.specs.Ordering.{is_eq}
 use Rattle.std.specs.declared.cmp.Ordering.{Ordering}
@@ -50,6 +50,6 @@ column_texts_are_short Code.Plain kind v h =
     let count = h.count in
     omega (arith, plain_size cell_bytes v (small_cells kind v h.cells))
 
--- what is written of a column that fits
+-- what is written for a column that fits is short
 pub short_text : (code : Code) (kind : Kind) (v : List Value) (out : List ℕ) → FitsColumn code kind v → out ≡ column_text code v → length out < 2 ^ 32
 short_text code kind v out h e = omega (arith, column_texts_are_short code kind v h, ap (λ (w : List ℕ). length w) e)

@@ -1,4 +1,4 @@
--- Each code at each kind, as a text of columns.
+-- Each code for each kind of cells, as an encoding of columns of values.
 use Rattle.std.proofs.Common.{◌≡◌, ℕ, ℤ, ◌≤◌, ◌↔◌, Bool, IsTrue, List, [], ◌∷◌, ◌++◌, length, map, refl, sym, ap, subst, ◌∙◌, arith, inl, inr}
 use Rattle.std.specs.Prelude.{nat_eq}
 use Rattle.std.specs.Ordering.{nat_cmp, int_eq, int_cmp, is_eq}
@@ -40,7 +40,7 @@ ints_back : (xs : List ℤ) → map int_of (map Value.Int xs) ≡ xs
 ints_back [] = refl
 ints_back (x ∷ xs) = ap (λ (z : List ℤ). x ∷ z) (ints_back xs)
 
--- the cells of a column of one kind
+-- the ints or texts that are the values of a column of one kind
 pub record CellsOf {C : Type 0} (f : C → Value) (is_cell : C → Type 0) (v : List Value) : Type 0 where
   pub cells : List C
   pub values_are : v ≡ map f cells
@@ -71,7 +71,7 @@ texts_to [] h x m = absurd m
 texts_to (z ∷ xs) h x (inl e) = subst (λ (w : Value). IsOfKind Kind.Text w) (sym e) (h.0.1, h.0.0)
 texts_to (z ∷ xs) h x (inr m) = texts_to xs h.1 x m
 
--- ---- a code at a kind
+-- ---- a code for a kind
 
 pub record IsVariant {C : Type 0} (f : C → Value) (text : List C → List ℕ) (fits : List C → Type 0) (is_cell : C → Type 0) (code : Code) (kind : Kind) : Type 0 where
   pub text_is : (xs : List C) → column_text code (map f xs) ≡ text xs
@@ -179,7 +179,7 @@ plain_texts = record {
   one_list = plain_one_list text_cell IsText text_begins_one text_some_bytes;
 }
 
--- ---- what the laws of a code say of values
+-- ---- what the laws of a code say about values
 
 module _ {C : Type 0} (f : C → Value) (text : List C → List ℕ) (fits : List C → Type 0) (is_cell : C → Type 0) (code : Code) (kind : Kind) (is : IsVariant f text fits is_cell code kind) where
   pub one_column : (x y : List Value) → FitsColumn code kind x → FitsColumn code kind y → column_text code x ≡ column_text code y → x ≡ y
@@ -240,7 +240,7 @@ module _ {C : Type 0} (f : C → Value) (text : List C → List ℕ) (fits : Lis
         let iff = t hx.cells hy.cells hx.part_is hy.part_is in
         (λ h. subst (λ (z : List Value). CanEncode code kind z) (sym same) (is.fits_to (hx.cells ++ hy.cells) (iff.0 h)), λ can. iff.1 (is.fits_from (hx.cells ++ hy.cells) (subst (λ (z : List Value). CanEncode code kind z) same can)))
 
--- ---- no two columns have one text
+-- ---- no two columns have the same body
 
 pub have_one_column : HaveOneColumn
 have_one_column Code.Runs Kind.Int x y hx hy e = one_column Value.Int (runs_text int_cell int_eq) IsShort IsInt Code.Runs Kind.Int int_runs x y hx hy e

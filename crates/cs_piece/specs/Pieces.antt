@@ -1,4 +1,4 @@
--- What pieces stand for.
+-- The columns that pieces encode.
 use Rattle.std.specs.Prelude.{◌≡◌, ◌<◌, ◌^◌, ◌↔◌, ℕ, Bool, IsTrue, List, [], ◌++◌, length, map, nat_eq}
 use Rattle.std.specs.Ordering.{nat_cmp, int_eq, int_cmp}
 use Rattle.std.specs.Cmp.Lexicographic.{pointwise, slice_cmp}
@@ -33,13 +33,13 @@ kind_of_piece pieces.NoTexts = Kind.Text
 kind_of_piece (pieces.PlainInts part) = Kind.Int
 kind_of_piece (pieces.PlainTexts part) = Kind.Text
 
--- A part of a list of ints or of texts stands for the values.
+-- the part encodes a list of ints or of texts that are these values
 pub record StandsFor {P C : Type 0} (f : C → Value) (is_part : P → List C → Type 0) (part : P) (v : List Value) : Type 0 where
   pub cells : List C
   pub values_are : v ≡ map f cells
   pub part_is : is_part part cells
 
--- the part is seen as its list
+-- contracts see the part as its list of cells
 abbrev pub IsList : {C : Type 0} → List C → List C → Type 0
 IsList part cells = part ≡ cells
 
@@ -53,13 +53,13 @@ Holds pieces.NoTexts v = v ≡ []
 Holds (pieces.PlainInts part) v = StandsFor Value.Int (IsPlainPart int_cell) part v
 Holds (pieces.PlainTexts part) v = StandsFor Value.Text (IsPlainPart text_cell) part v
 
--- The piece is one of this code and kind, and stands for these values.
+-- the piece has this code and kind, and encodes these values
 pub record IsPieceOf (piece : Piece) (code : Code) (kind : Kind) (v : List Value) : Type 0 where
   pub code_is : code_of piece ≡ code
   pub kind_is : kind_of_piece piece ≡ kind
   pub holds : Holds piece v
 
--- pieces of one code and kind, whose joined values fit
+-- pieces of one code and kind whose values, one after the other, can be encoded
 pub record PiecesFit (left right : Piece) : Type 0 where
   pub code : Code
   pub kind : Kind
@@ -69,22 +69,22 @@ pub record PiecesFit (left right : Piece) : Type 0 where
   pub right_is : IsPieceOf right code kind back
   pub fits : CanEncode code kind (front ++ back)
 
--- one code, one kind, and together they fit
+-- the codes are equal, the kinds are equal, and the values can be encoded one after the other
 abbrev pub FitTogether : Code → Kind → List Value → Code → Kind → List Value → Type 0
 FitTogether code kind front code' kind' back = (code ≡ code') × (kind ≡ kind') × CanEncode code kind (front ++ back)
 
--- It is told whether the columns of both pieces fit together.
+-- the answer is whether the values of both pieces fit together
 abbrev pub TellsFit : Piece → Piece → Bool → Type 0
 TellsFit left right told = (code code' : Code) (kind kind' : Kind) (x y : List Value) → IsPieceOf left code kind x → IsPieceOf right code' kind' y → IsTrue told ↔ FitTogether code kind x code' kind' y
 
--- The piece stands for the column of the left one, and then that of the right one.
+-- the piece encodes the values of the left one, followed by those of the right one
 abbrev pub IsJoined : Piece → Piece → Piece → Type 0
 IsJoined left right piece = (code : Code) (kind : Kind) (x y : List Value) → IsPieceOf left code kind x → IsPieceOf right code kind y → IsPieceOf piece code kind (x ++ y)
 
--- These bytes are the text of the column that the piece stands for.
+-- the bytes are the body of the column that the piece encodes
 abbrev pub IsTextOf : Piece → List ℕ → Type 0
 IsTextOf piece bytes = (code : Code) (kind : Kind) (v : List Value) → IsPieceOf piece code kind v → bytes ≡ column_text code v
 
--- There are less than 2 ^ 32 of them, where the column fits.
+-- there are fewer than 2 ^ 32 bytes, if the column fits
 abbrev pub IsShortTextOf : Piece → List ℕ → Type 0
 IsShortTextOf piece bytes = (code : Code) (kind : Kind) (v : List Value) → IsPieceOf piece code kind v → FitsColumn code kind v → length bytes < 2 ^ 32

@@ -1,4 +1,4 @@
-//! Reading columns from their text.
+//! Reading columns from their bodies.
 ghost use Rattle.std.specs.Prelude.{◌≡◌, ◌≤◌, IfOk};
 ghost use Rattle.cs_schema.specs.Values.{values, kind_of};
 ghost use Rattle.cs_piece.specs.Columns.{IsColumnOf, NoColumn};
@@ -11,7 +11,7 @@ use cs_codec::{CodecFault, ColumnEncoding};
 use cs_schema::{Cells, Code, Kind, Texts, Word};
 use std::alloc::Global;
 
-/// The column of `rows` rows whose text the bytes are, or `NotAText` if there is none.
+/// The column of `rows` cells of this kind whose body under this code the bytes are. `NotAText` if there is none.
 pub fn read_column(
     alloc: Global,
     code: Code,

@@ -1,5 +1,5 @@
-//! Encoded parts of columns whose encoding and kind are known at run time. The text of a part is that of the column
-//! that it encodes, however the column was cut; bytes are read as a column only if they are its text.
+//! Pieces: encoded parts of columns whose encoding and kind are known only at run time. A column has one body, however
+//! it was cut into pieces, and bytes are read as a column only if they are its body.
 #![tactic(auto)]
 
 mod columns;

@@ -1,4 +1,4 @@
-//! Encoded parts of columns whose encoding and kind are known at run time.
+//! Encoded parts of columns whose encoding and kind are known only at run time.
 ghost use Rattle.std.specs.Prelude.{◌≡◌, ◌<◌, ◌≤◌, ℕ, IfOk, List, length, slice_index};
 ghost use Rattle.cs_codec.specs.ColumnText.{cell_bytes};
 ghost use Rattle.cs_codec.specs.Columns.{cells_at};
@@ -19,7 +19,7 @@ use cs_codec::runs::{Runs, RunsPart};
 use cs_schema::{Cells, Code, Texts, Word};
 use std::alloc::{AllocError, Global};
 
-/// A part of a column of some encoding and kind, which can be joined with the part that follows it.
+/// An encoded part of a column, of any encoding and kind. It can be joined with the part that follows it.
 #[derive(Drop)]
 pub enum Piece {
     IntRuns(RunsPart<i64, Vec<i64>>),
@@ -34,7 +34,8 @@ pub enum Piece {
 }
 
 impl Piece {
-    /// Whether one column can have the cells of both parts.
+    /// Whether the cells of both pieces, one after the other, can be one piece: the encodings and the kinds are equal,
+    /// and the cells fit the encoding and are at most 1,048,576.
     pub fn can_join(&self, other: &Piece) -> bool
         ensures { TellsFit self.now other.now result }
     {
@@ -65,13 +66,13 @@ impl Piece {
         }
     }
 
-    /// Reserves room for `pieces` parts as long as this one, to be joined to it.
+    /// Reserves room for joining `pieces` further pieces as long as this one. Bitmaps reserve none.
     pub fn reserve(&mut self, pieces: u32) -> Result<(), AllocError>
         ensures { (code : Code) (kind : Kind) (v : List Value) → IsPieceOf self.old code kind v → IsPieceOf self.new code kind v }
     {
         match self {
             Piece::PlainInts(part) => part.reserve(pieces),
-            // lengths of texts vary, so with some room to spare
+            // texts vary in length, so an eighth more is reserved
             Piece::PlainTexts(part) => part.reserve(pieces.saturating_add(pieces / 8)),
             Piece::RisingInts(part) => part.reserve(pieces),
             Piece::IntRuns(part) => part.reserve(pieces),
@@ -81,7 +82,7 @@ impl Piece {
     }
 }
 
-/// The part of these cells.
+/// Encodes these cells as one piece.
 pub fn encode_piece(alloc: Global, code: Code, cells: &Cells) -> Result<Piece, AllocError>
     requires { CanEncode code (kind_of cells.now) (values cells.now) }
     ensures { IfOk result (λ piece. IsPieceOf piece code (kind_of cells.now) (values cells.now)) }
@@ -147,8 +148,8 @@ pub fn encode_piece(alloc: Global, code: Code, cells: &Cells) -> Result<Piece, A
     })
 }
 
-/// The part of a column's cells at these indices, in this order. Plain cells are written directly from the column. For
-/// other encodings, which compare neighbours, the cells are copied first.
+/// Encodes a column's cells at these indices, in this order, as one piece. Plain cells are written directly from the
+/// column. The other encodings compare neighbours, so the cells are copied first.
 pub fn encode_places(
     alloc: Global,
     code: Code,
@@ -174,7 +175,7 @@ pub fn encode_places(
     }
 }
 
-/// The part of the cells of both, one after the other. If memory is refused, both are dropped.
+/// The piece with the cells of both, one after the other. If memory is refused, both are dropped.
 pub fn join_pieces(left: Piece, right: Piece) -> Result<Piece, AllocError>
     requires { PiecesFit left right }
     ensures { IfOk result (λ piece. IsJoined left right piece) }
@@ -206,7 +207,7 @@ pub fn join_pieces(left: Piece, right: Piece) -> Result<Piece, AllocError>
     })
 }
 
-/// The text of the column that a part encodes.
+/// The body of the column that a piece encodes.
 pub fn write_piece(alloc: Global, piece: &Piece) -> Result<Vec<u8>, AllocError>
     ensures text { IfOk result (λ out. IsTextOf piece.now out.items) }
     ensures short { IfOk result (λ out. IsShortTextOf piece.now out.items) }
@@ -225,7 +226,7 @@ pub fn write_piece(alloc: Global, piece: &Piece) -> Result<Vec<u8>, AllocError>
     }
 }
 
-/// The text of the column that a part encodes. The part is consumed: the text of plain cells is not copied.
+/// The body of the column that a piece encodes. The piece is consumed, so the bytes of plain cells are not copied.
 pub fn piece_text(alloc: Global, piece: Piece) -> Result<Vec<u8>, AllocError>
     ensures text { IfOk result (λ out. IsTextOf piece out.items) }
     ensures short { IfOk result (λ out. IsShortTextOf piece out.items) }
@@ -237,8 +238,8 @@ pub fn piece_text(alloc: Global, piece: Piece) -> Result<Vec<u8>, AllocError>
     }
 }
 
-/// The text of the runs that begin within a range of the indices, in the column of the cells at all indices under
-/// `Code::Runs`. Only what is written is copied.
+/// A part of the body, under `Code::Runs`, of the column that has the cells at `places` of `column`: the runs that
+/// begin at its positions `from..to`. Only what is written is copied.
 pub fn write_runs(
     alloc: Global,
     column: &Cells,

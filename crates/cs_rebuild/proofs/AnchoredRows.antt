@@ -1,4 +1,4 @@
--- The rows of an anchor that its pieces have followed.
+-- The rows of an anchor that were followed in pieces.
 use Rattle.std.proofs.Common.{◌≡◌, ℕ, ◌*◌, ◌≤◌, length, map, refl, ap, Option, Some, None, Ok, Err}
 use Rattle.std.specs.List.{find}
 use Rattle.std.specs.Option.{option_map, option_map_or}
@@ -15,7 +15,7 @@ module _ (C : CatalogData) (S : Contents) (P : PlanData) where
   none_in None h = refl
   none_in (Some at) h = absurd (none-some (stray_fault P at) h)
 
-  -- all rows lead somewhere, where each piece is sound
+  -- if each piece is sound, no row is led astray
   pub all_followed : (cut count : ℕ) → length (projection_rows C S P.anchor) ≤ count * cut → AllSound (WalkFaultAt C S P cut) count → walked C S P ≡ Ok (map (walked_row C S P) (projection_rows C S P.anchor))
   all_followed cut count cover sound =
       let none = no_piece (is_astray C S P) cut (projection_rows C S P.anchor) count cover (λ k l. none_in (find (is_astray C S P) (piece_of cut (projection_rows C S P.anchor) k)) (sound k l)) in

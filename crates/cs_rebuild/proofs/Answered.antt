@@ -1,4 +1,4 @@
--- What is answered of bodies, once their digests are compared.
+-- What is answered from bodies, once their digests were compared.
 use Rattle.std.proofs.Common.{◌≡◌, ℕ, List, refl, Result, Ok, Err, Option, None, subst}
 use Rattle.std.specs.Prelude.{IfOk, IfErr}
 use Rattle.std.specs.declared.alloc.AllocError.{AllocError}
@@ -25,7 +25,7 @@ use Rattle.cs_rebuild.specs.Reading.{AreDigests, resealed}
 use Rattle.cs_rebuild.specs.Steps.{AreBodiesSound, AreRead, IsBadFile}
 use Rattle.cs_rebuild.proofs.LeastBad.{read_as_sealed}
 
--- what was read of the survivors is read of files with the same survivors
+-- what was read is also read of files with the same survivors
 pub read_under : (C : CatalogData) (F G : FileContents) (L : Sites) (v : SurvivorsData) → SameSurvivors C L F G → AreRead C F L v → AreRead C G L v
 read_under C F G L v same read = record { reads = reads_under C F G L (held_by v) same read.reads; catalog = read.catalog; images_there = read.images_there; joins_there = read.joins_there }
 
@@ -34,7 +34,7 @@ pub read_sound : (C : CatalogData) → IsCatalog C → (F : FileContents) (L : S
 read_sound C cat F L v read = sound C cat (layers C cat) F L (held_by v) read.reads
 
 module _ (wanted : Wanted) (C : CatalogData) (cat : IsCatalog C) (F : FileContents) (L : Sites) where
-  -- where each digest is right, what is answered of the bodies is answered of the files
+  -- if each digest is right, the answer from the bodies is the answer about the files
   pub answered : (u : Result (Option FileName) AllocError) (r : Result (Result Answer Fault) Fault) (a : Result Answer Fault) → IfOk u (AreDigests C L F) → IsAnswerOfRead wanted C (resealed F) L r → r ≡ Ok a → u ≡ Ok None → IsAnswer wanted C F L a
   answered u r a digests of e none =
       let right = subst (λ (x : Result (Option FileName) AllocError). IfOk x (AreDigests C L F)) none digests in
@@ -49,7 +49,7 @@ module _ (wanted : Wanted) (C : CatalogData) (cat : IsCatalog C) (F : FileConten
   bodies_bad (Ok a) of = tt
   bodies_bad (Err f) of = of
 
--- what is answered has the variant of what is wanted
+-- an answer has the variant of what is wanted
 pub files_wanted : (C : CatalogData) (F : FileContents) (L : Sites) (T : List Row) (a : Answer) → Gives Wanted.Files C F L T a → ((out : Files) → a ≡ Answer.Files out → ⊥) → ⊥
 files_wanted C F L T (Answer.Files out) g other = other out refl
 files_wanted C F L T (Answer.Count n) g other = g

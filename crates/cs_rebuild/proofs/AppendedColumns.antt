@@ -1,4 +1,4 @@
--- Rows from the columns that were joined, and the width of rows that were walked.
+-- Rows from concatenated columns, and the width of walked rows.
 use Rattle.std.proofs.Common.{◌≡◌, ℕ, ◌<◌, List, [], ◌∷◌, length, map, get_or, refl, sym, ◌∙◌, subst, arith, true, false, Option, Some, None, Result, Ok}
 use Rattle.std.specs.Prelude.{All, IfOk, IfSome}
 use Rattle.std.specs.List.{AllZip, range_with_len}
@@ -22,7 +22,7 @@ use Rattle.cs_rebuild.specs.Walking.{IsColumnOf}
 -- ---- columns, one by one
 
 module _ (C : CatalogData) (rows : List Row) (lent : List (Option Cells)) where
-  -- a column, or what is lent in its place, has the cells of the rows
+  -- the borrowed column, or else the owned one, has the cells of the rows
   abbrev pub IsColumn : ℕ → Cells → Type 0
   IsColumn c cells = IsColumnOf C rows c (unwrap_or (get_or lent c None) cells)
 
@@ -44,7 +44,7 @@ module _ (C : CatalogData) (rows : List Row) (lent : List (Option Cells)) where
     pub joined_rows : AreRows C rows (over columns lent)
     joined_rows c d l = (each c d l).1
 
-  -- a column that is lent, and one that is not
+  -- a borrowed column, and one that is not borrowed
   pub lent_there : (c : ℕ) (x : Cells) (o : Option Cells) → is_some o ≡ true → IfSome o (IsColumnOf C rows c) → IsColumnOf C rows c (unwrap_or o x)
   lent_there c x None e h = absurd (both_ways true (sym e) refl)
   lent_there c x (Some b) e h = h

@@ -1,4 +1,4 @@
--- The files of a new store: what is known of its rows, and of survivors where there are none.
+-- The files of a new store: its rows, and survivors if there are none.
 use Rattle.std.proofs.Common.{◌≡◌, ℕ, ◌≤◌, ◌+◌, zero, suc, List, [], ◌∷◌, ◌++◌, length, refl, sym, ap, subst, ◌∙◌, inl, None, arith, Result, Ok, Err}
 use Rattle.std.specs.Prelude.{IfOk, IfErr}
 use Rattle.std.specs.List.{range_with_len}
@@ -38,7 +38,7 @@ after_all a (suc n) x h =
     ap (λ o. by_order o (x ∷ range_with_len a (suc n)) (range_with_len a (suc n)) (a ∷ placed nat_cmp x (range_with_len (a + 1) n))) later
     ∙ ap (λ l. a ∷ l) (after_all (a + 1) n x (omega arith))
 
--- the next site after the first n
+-- one more site after the first n
 pub one_more_site : (n : ℕ) → placed nat_cmp (n + 1) (range_with_len 1 n) ≡ range_with_len 1 (n + 1)
 one_more_site n = after_all 1 n (n + 1) (omega arith) ∙ sym (range_more 1 n (n + 1) (omega arith))
 
@@ -78,7 +78,7 @@ module _ (C : CatalogData) (cat : IsCatalog C) where
       same = nothing_same C cat (held_by v) (table_of C w.rows);
     }
 
-  -- what is written, or want of memory, is the answer
+  -- the files that were written, or out of memory, is the answer
   pub built_answer : (rows : List Row) (v : SurvivorsData) → build_fault C rows ≡ None → (r : Result Files Fault)
       → IfOk r (λ out. (n : FileName) → contents_of out n ≡ written C (every_site C) (held_by v) (table_of C rows) n) → IfErr r (λ f. f ≡ Fault.Memory) → IsBuildAnswer C rows r
   built_answer rows v none (Ok out) files m = (none, record { contents = held_by v; reads = nothing_read C cat no_files (held_by v); files = files })

@@ -1,4 +1,4 @@
--- Columns of cells at some rows, and rows cell by cell.
+-- Columns of cells at some rows, and rows compared cell by cell.
 use Rattle.std.proofs.Common.{◌≡◌, ℕ, suc, ◌<◌, List, [], ◌∷◌, map, length, refl, sym, ap, ◌∙◌, inl, inr, arith, get_or}
 use Rattle.std.specs.Prelude.{slice_index, pos}
 use Rattle.std.specs.List.{slice_get}
@@ -19,7 +19,7 @@ abbrev tail_of : {X : Type 0} → List X → List X
 tail_of [] = []
 tail_of (x ∷ xs) = xs
 
--- cells that are those of another column, one by one
+-- cells that equal those of another column one by one
 pub same_cells : (xs ys : List Value) (ns : List ℕ) → length xs ≡ length ns → ((m : ℕ) → m < length ns → slice_get xs m ≡ slice_get ys (slice_index ns m)) → xs ≡ map (cell ys) ns
 same_cells [] ys [] e h = refl
 same_cells [] ys (n ∷ ns) e h = absurd (omega (arith, e))
@@ -41,7 +41,7 @@ module _ (rows : List Row) (cols : List ℕ) where
   kept_cell n j l =
       get_or_from_slice_get (map (cell (row_at rows n)) cols) j (cell (row_at rows n) (slice_index cols j)) _ (slice_get_map (cell (row_at rows n)) cols j (slice_index cols j) (slice_get-get_or cols j 0 l))
 
-  -- the cells of a column, among those of the rows
+  -- the cells of a column, as those of the rows
   pub column_of : (ns : List ℕ) (j : ℕ) → j < length cols → ((k : ℕ) → k < length ns → slice_index ns k < length rows) → map (λ x. cell x j) (map (λ (r : Row). map (cell r) cols) (map (row_at rows) ns)) ≡ map (cell (column j)) ns
   column_of [] j l below = refl
   column_of (n ∷ ns) j l below =
@@ -69,7 +69,7 @@ pub column_exists : (C : CatalogData) → IsCatalog C → (p j : ℕ) → p < le
 column_exists C cat p j h l =
     (cat.projections p h).columns (slice_index (projection C p).columns j) (in_member (projection C p).columns (slice_index (projection C p).columns j) (in_at (projection C p).columns j (slice_index (projection C p).columns j) (slice_get-get_or (projection C p).columns j 0 l)))
 
--- the cells of an image's column, among those of its rows
+-- the cells of an image's column, as those of its rows
 pub image_cells : (m : ImageData) (j : ℕ) → map (λ x. cell x j) (image_rows m) ≡ image_column m j
 image_cells m j = pairs m.pairs
   where

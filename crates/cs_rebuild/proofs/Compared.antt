@@ -1,4 +1,4 @@
--- An image beside rows of the table: from its cells to its rows, and back.
+-- An image and rows of the table: from equal cells to equal rows, and back.
 use Rattle.std.proofs.Common.{◌≡◌, ℕ, ◌<◌, ◌≤◌, List, map, length, sym, ap, ◌∙◌, inl, inr, ◌⊎◌, subst}
 use Rattle.std.specs.Prelude.{slice_index, pos}
 use Rattle.std.specs.List.{slice_get}
@@ -23,7 +23,7 @@ use Rattle.cs_rebuild.proofs.CellsAlike.{column_exists, column_of, same_rows, sa
 cell_alike : (ys : List Value) (ns : List ℕ) (k : ℕ) → k < length ns → slice_index ns k < length ys → slice_get (map (cell ys) ns) k ≡ slice_get ys (slice_index ns k)
 cell_alike ys ns k l below = slice_get_map (cell ys) ns k (slice_index ns k) (slice_get-get_or ns k 0 l) ∙ sym (slice_get-get_or ys (slice_index ns k) (Value.Int (pos 0)) below)
 
--- the first cells, and a part after them
+-- the first cells, and the part after them
 pub one_more_part : (cells column : List Value) (ns : List ℕ) (start end : ℕ) → AreAlike cells column ns 0 start → AreAlike cells column ns start end → AreAlike cells column ns 0 end
 one_more_part cells column ns start end before here k z l = go (cases_lt k start)
   where
@@ -49,7 +49,7 @@ module _ (image : KindedImage) (walked : WalkedData) (cols ns : List ℕ) where
       same_rows walked.rows cols (image_rows image.image) ns (length-map image.image.pairs (λ (x : Pair). x.1) ∙ c.count) widths c.rows_exist
       (λ j l. image_cells image.image j ∙ same_cells (image_column image.image j) (map (λ (row : Row). cell row (slice_index cols j)) walked.rows) ns (length-map image.image.pairs (λ (x : Pair). cell x.1 j) ∙ c.count) (λ k b. h j k l b))
 
-  -- an image with the rows has each cell of them
+  -- an image with the rows has all cells of them
   pub cells_there : AreComparable image walked cols ns → image_rows image.image ≡ map (λ (r : Row). map (cell r) cols) (map (row_at walked.rows) ns) → (i k : ℕ) → i < length cols → k < length ns → IsCellThere image walked cols ns i k
   cells_there c e i k l b =
       let column : List Value = map (λ (row : Row). cell row (slice_index cols i)) walked.rows in

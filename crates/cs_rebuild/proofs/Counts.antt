@@ -1,4 +1,4 @@
--- How many rows a table has.
+-- The number of rows of a table.
 use Rattle.std.proofs.Common.{◌≡◌, ℕ, suc, List, [], ◌∷◌, length, refl, sym, ap, ◌∙◌, Bool, true, false, ◌||◌, inl, inr, None, Ordering}
 use Rattle.std.specs.List.{list_any}
 use Rattle.std.specs.Option.{option_or}
@@ -65,7 +65,7 @@ right_false : (a b : Bool) → (a || b) ≡ false → b ≡ false
 right_false true b e = absurd (false≢true (sym e))
 right_false false b e = e
 
--- where no key stands twice, the table has a row for each
+-- if no key repeats, the table has as many rows as were walked
 pub length_table : (C : CatalogData) (rows : List Row) → is_twice C rows ≡ false → length (table_of C rows) ≡ length rows
 length_table C [] h = refl
 length_table C (r ∷ rs) h =

@@ -1,4 +1,4 @@
--- A list in pieces of equal length.
+-- A list in pieces of the same length.
 use Rattle.std.proofs.Common.{◌≡◌, ℕ, zero, suc, ◌+◌, ◌-◌, ◌*◌, ◌<◌, ◌≤◌, List, [], ◌∷◌, ◌++◌, take, drop, length, refl, sym, ap, ◌∙◌, Bool, true, false, Some, None, arith, cond, min}
 use Rattle.std.specs.List.{find}
 use Rattle.std.proofs.lemmas.Option.{none-some}
@@ -42,7 +42,7 @@ module _ {X : Type 0} (p : X → Bool) where
         ap (find p) (split_at (i * c) xs) ∙ find_none (take (i * c) xs) (drop (i * c) xs) (before_none i h) ∙ ap (find p) (split_at c (drop (i * c) xs))
         ∙ find_some (take c (drop (i * c) xs)) (drop c (drop (i * c) xs)) y e
 
--- where a piece ends by the length of the list, it is the same piece
+-- a piece that ends with the list is the same piece
 pub cut_piece : {X : Type 0} (a b : ℕ) (xs : List X) → b ≤ a → take (min a (length xs) - b) (drop b xs) ≡ take (a - b) (drop b xs)
 cut_piece a b xs h = go (nat_lt (length xs) a) refl
   where
@@ -57,6 +57,6 @@ cut_piece a b xs h = go (nat_lt (length xs) a) refl
         let m : min a (length xs) ≡ a = omega arith in
         ap (λ n. take (n - b) (drop b xs)) m
 
--- where no piece has one that passes, none does
+-- if no piece has an element that passes, the list has none
 pub no_piece : {X : Type 0} (p : X → Bool) (c : ℕ) (xs : List X) (count : ℕ) → length xs ≤ count * c → ((k : ℕ) → k < count → find p (take c (drop (k * c) xs)) ≡ None) → find p xs ≡ None
 no_piece p c xs count l h = ap (find p) (sym (take_all (count * c) xs l)) ∙ before_none p c xs count h

@@ -1,4 +1,4 @@
--- The pieces of a column: what they hold, and that they fit its code.
+-- The pieces of a column: what they hold, and that they fit its encoding.
 use Rattle.std.proofs.Common.{◌≡◌, ℕ, suc, ◌+◌, ◌-◌, ◌*◌, ◌/◌, ◌<◌, ◌≤◌, List, [], ◌∷◌, ◌++◌, map, take, drop, length, refl, sym, ap, subst, ◌∙◌, Some, arith, pos}
 use Rattle.std.specs.Prelude.{slice_index, ◌≤ℤ◌}
 use Rattle.std.specs.List.{slice_get}
@@ -31,7 +31,7 @@ kind_of_column C kinds n k e l at =
 cell_at : (rows : List Row) (n r : ℕ) → r < length rows → cell (map (λ (row : Row). cell row n) rows) r ≡ cell (row_at rows r) n
 cell_at rows n r l = get_or_from_slice_get (map (λ (row : Row). cell row n) rows) r (cell (row_at rows r) n) (Value.Int (pos 0)) (slice_get_map (λ (row : Row). cell row n) rows r (row_at rows r) (slice_get-get_or rows r [] l))
 
--- its cells at some rows
+-- the cells of a column at some rows
 pub cells_are : (rows : List Row) (n : ℕ) (numbers : List ℕ) → ((k : ℕ) → k < length numbers → slice_index numbers k < length rows) → map (cell (map (λ (row : Row). cell row n) rows)) numbers ≡ map (λ r. cell (row_at rows r) n) numbers
 cells_are rows n [] below = refl
 cells_are rows n (r ∷ rs) below =
@@ -40,7 +40,7 @@ cells_are rows n (r ∷ rs) below =
 
 -- ---- parts of a list
 
--- the values of a projection's column stand in the table's column at the places of the rows
+-- the values of a projection's column are those of the table's column at the rows with these numbers
 pub placed_values : (C : CatalogData) (p j : ℕ) (rows : List Row) (numbers : List ℕ) (n : ℕ) (v : List Value) → n ≡ slice_index (projection C p).columns j → v ≡ map (λ (row : Row). cell row n) rows
     → ((k : ℕ) → k < length numbers → slice_index numbers k < length rows) → cells_at v numbers ≡ values_at C p rows j numbers
 placed_values C p j rows numbers n v number held below =
@@ -93,18 +93,18 @@ module _ (C : CatalogData) (p : ℕ) (rows : List Row) (j : ℕ) (numbers : List
   pub few_values : length numbers ≤ row_limit → length (values_at C p rows j numbers) ≤ row_limit
   few_values few = let l = length-map numbers value_of in omega (arith, few, l)
 
-  -- the cells of a piece rise where all do
+  -- the ints of a piece never decrease if those of the column never do
   pub cut_rises : MayRise → (cut k : ℕ) → code_at C p j ≡ Code.Differences → (kind_at C p j ≡ Kind.Int) × Rises (values_at C p rows j (cut_at cut numbers k))
   cut_rises rise cut k e =
       let r = rise e in
       let same : take cut (drop (k * cut) (map value_of numbers)) ≡ map value_of (cut_at cut numbers k) = ap (take cut) (drop-map value_of (k * cut) numbers) ∙ take-map value_of cut (drop (k * cut) numbers) in
       (r.0, subst Rises same (rises_take cut (drop (k * cut) (map value_of numbers)) (rises_drop (k * cut) (map value_of numbers) r.1)))
 
-  -- a piece fits
+  -- each piece fits
   pub cut_fits : MayRise → (cut k : ℕ) → FitsCode (code_at C p j) (kind_at C p j) (values_at C p rows j (cut_at cut numbers k))
   cut_fits rise cut k = fits_code (code_at C p j) (kind_at C p j) (values_at C p rows j (cut_at cut numbers k)) (cut_rises rise cut k)
 
-  -- so do the first cells
+  -- and so do the first cells
   pub front_fits : MayRise → length numbers ≤ row_limit → (n : ℕ) → CanEncode (code_at C p j) (kind_at C p j) (values_at C p rows j (take n numbers))
   front_fits rise few n =
       let a = length-take n numbers in
@@ -120,7 +120,7 @@ module _ (C : CatalogData) (p : ℕ) (rows : List Row) (j : ℕ) (numbers : List
       let e : k * cut + cut ≡ (k + 1) * cut = grind arith in
       sym (ap (λ n. map value_of (take n numbers)) (sym e) ∙ ap (map value_of) (take-add (k * cut) cut numbers) ∙ map-append value_of (take (k * cut) numbers) (take cut (drop (k * cut) numbers)))
 
-  -- before the first piece
+  -- no pieces yet
   pub none_of : (cut : ℕ) → values_at C p rows j (take (0 * cut) numbers) ≡ []
   none_of cut = let a : 0 * cut ≡ 0 = grind arith in ap (λ n. map value_of (take n numbers)) a
 

@@ -65,7 +65,7 @@ module _ {A B : Type 0} (E : A → B → Bool) where
         go true k = absurd (n (same_length xs (map f (numbers_below top)) k ∙ long))
         go false k = refl
 
--- where an entry with no key has no segment, the entry at a key is what stands there
+-- if an entry without a key has no segment, the entry for a key is the stored one
 pub raw_is : (xs : List Place) → ((e : Place) → IsIn e xs → e.1 ≡ 0 → e.0 ≡ 0) → (i : ℕ) → i < length xs → raw_entry xs (i + 1) ≡ get_or xs i no_place
 raw_is xs h i l =
     ap (raw_entry xs) (let step : i + 1 ≡ suc i = omega arith in step) ∙ ap (λ o. unwrap_or (placed_entry o) no_place) there ∙ by_key ((get_or xs i no_place).1 == 0) refl

@@ -1,4 +1,4 @@
--- No store has 2^32 rows: an image has at most 1,048,576, a projection at most 16 images, a catalog at most 8 projections.
+-- No store has 2^32 rows: an image has at most 1,048,576 rows, a projection 16 images, and a catalog 8 projections.
 use Rattle.std.proofs.Common.{◌≡◌, ℕ, zero, suc, ◌+◌, ◌*◌, ◌<◌, ◌≤◌, ◌^◌, List, [], ◌∷◌, ◌++◌, map, length, refl, sym, ap, subst, Bool, true, false, cond, not, Option, Some, None, arith, Result, Ok, Err, length-append}
 use Rattle.std.specs.List.{filter, filter_map, cons_option, flat_map, find, range_with_len}
 use Rattle.std.specs.Option.{option_and_then, option_map_or}
@@ -134,7 +134,7 @@ module _ (C : CatalogData) (cat : IsCatalog C) (F : FileContents) (L : Sites) (S
           omega (arith, ap length same, repeats_few C found, chosen, surviving_few)
       go (Some at) k = absurd (cc)
 
-  -- the rows to which a walk leads are few
+  -- a walk leads to fewer than 2^32 rows
   pub rows_few : (rule : Safety) (rows : List Row) → IsWalkedBy rule C L S (Ok rows) → length rows < 2 ^ 32
   rows_few Safety.Whole rows (P, plan, e) = omega (arith, walked_few P plan rows e)
   rows_few Safety.Rows rows e = omega (arith, by_rows_few rows e)

@@ -1,4 +1,4 @@
--- The first element that passes a test, from the pieces of a run.
+-- The first element that passes a test, from the tasks of a round.
 use Rattle.std.proofs.Common.{◌≡◌, ℕ, zero, suc, ◌<◌, List, [], ◌∷◌, length, refl, sym, ap, ◌∙◌, Bool, true, false, not, Option, Some, None, arith, cond, get_or}
 use Rattle.std.specs.List.{find, slice_get}
 use Rattle.std.specs.Option.{option_map, option_and_then}
@@ -36,7 +36,7 @@ module _ {X F : Type 0} (p : X → Bool) (f : X → F) where
   turned false true u e h = ap not e
   turned false false u e h = absurd (Rattle.cs_schema.proofs.Ascending.false≢true h)
 
-  -- what is stated of a piece, from the test that its body makes
+  -- what is stated of a task, from the test that it makes
   pub piece_sound : (xs : List X) (i : ℕ) (d : X) (b : Bool) → i < length xs → b ≡ true → b ≡ not (p (get_or xs i d)) → None ≡ option_and_then (λ x. when (p x) (f x)) (slice_get xs i)
   piece_sound xs i d b l e h = sym (ap (option_and_then (λ x. when (p x) (f x))) (slice_get-get_or xs i d l) ∙ ap (λ t. when t (f (get_or xs i d))) (turned b (p (get_or xs i d)) true e h))
 

@@ -1,4 +1,4 @@
--- Rows by their indexes in the segments of a table, and the keys that they have there after a recovery.
+-- The indices of rows in the segments of a table, and the keys that the rows have there after a recovery.
 use Rattle.std.proofs.Common.{◌≡◌, ◌≢◌, ℕ, ◌+◌, ◌-◌, ◌<◌, ◌≤◌, List, [], ◌∷◌, map, length, refl, sym, ap, ◌∙◌, Bool, true, false, cond, Some, None, arith, ◌==◌, eqb-true, eq-eqb, get_or}
 use Rattle.std.specs.Prelude.{nat_lt, slice_index}
 use Rattle.std.specs.List.{filter, slice_get, position, position_or_len, enumerate_from, range_with_len}
@@ -26,7 +26,7 @@ use Rattle.cs_rebuild.proofs.Numbers.{by_equal, differ}
 
 -- ---- the index of a row
 
--- a row stands once in a list that ascends strictly
+-- a row occurs once in a strictly ascending list
 one_place : {X : Type 0} (cmp : X → X → Rattle.std.specs.declared.cmp.Ordering.Ordering) (total : Rattle.std.specs.Cmp.IsTotalOrder cmp) (xs : List X) → Rattle.std.specs.List.Sorted.IsStrictlySortedBy cmp xs → (x : X) (i j : ℕ)
     → slice_get xs i ≡ Some x → slice_get xs j ≡ Some x → i ≡ j
 one_place cmp total xs sorted x i j a b =
@@ -101,7 +101,7 @@ in_range_at n m key a b =
     (λ k l. ap (λ x. x == key) (get_or-range_with_len n m k 0 (omega arith)) ∙ differ (n + k) key (λ e. absurd (omega (arith, e, l))))
     (λ l. ap (λ x. x == key) (get_or-range_with_len n m (key - n) 0 (omega arith)) ∙ eq-eqb (n + (key - n)) key (omega arith))
 
--- a key that is not in a range
+-- the position of a key that is not in a range
 out_of_range : (n m key : ℕ) → ((k : ℕ) → k < m → n + k ≢ key) → position_or_len (λ k. k == key) (range_with_len n m) ≡ m
 out_of_range n m key apart =
     let long : length (range_with_len n m) ≡ m = length-range_with_len n m in

@@ -1,4 +1,4 @@
--- The file of a lost segment, as its columns are joined and written, and put into it one after the other.
+-- The file of a lost segment, to which encoded columns are appended.
 use Rattle.std.proofs.Common.{◌≡◌, ℕ, ◌+◌, ◌<◌, ◌≤◌, List, [], ◌∷◌, ◌++◌, map, length, sym, ap, subst, ◌∙◌, arith, Result, Ok, Err}
 use Rattle.std.specs.Prelude.{IfOk, OnOk, vec_len}
 use Rattle.std.specs.List.{ReversedBelow}
@@ -59,7 +59,7 @@ module _ (C : CatalogData) (p : ℕ) (rows : List Row) (numbers : List ℕ) wher
     pub fits_column : IsBase C p (base_at C p rows numbers) → FitsColumn (code_at C p j) (kind_at C p j) (values_at C p rows j numbers)
     fits_column h = let w = width_is in subst (FitsColumn (code_at C p j) (kind_at C p j)) column_is (h.columns j (omega arith))
 
-    -- one column more
+    -- one more column
     pub column_put : (s : ℕ) (old new text : List ℕ) → IsColumnText (code_at C p j) (kind_at C p j) (values_at C p rows j numbers) text → old ≡ text_before C p s (base_at C p rows numbers) j → new ≡ old ++ body_part (code_at C p j) (kind_at C p j) text
         → new ≡ text_before C p s (base_at C p rows numbers) (j + 1)
     column_put s old new text t e k =
@@ -68,12 +68,12 @@ module _ (C : CatalogData) (p : ℕ) (rows : List Row) (numbers : List ℕ) wher
         let kind : Kind = kind_at C p j in
         text_more C p s (base_at C p rows numbers) j old new (omega arith) e (k ∙ ap (λ x. old ++ body_part code kind x) (t.is ∙ ap (column_text code) (sym column_is)))
 
--- what was sealed is the file of a base, of whose text it is the body
+-- sealing the whole body of a base gives its file
 pub file_whole : {V E : Type 0} (items : V → List ℕ) (C : CatalogData) (p s j : ℕ) (b : Base) (r : Result V E) (body : List ℕ) → IsBase C p b → length b.columns ≤ j → body ≡ text_before C p s b j → IfOk r (λ out. items out ≡ sealed body) → IfOk r (λ out. items out ≡ segment_text C p s b)
 file_whole items C p s j b (Ok out) body h l e k = k ∙ ap sealed (text_whole C p s b j body h l e)
 file_whole items C p s j b (Err x) body h l e k = tt
 
--- ---- plain cells, whose texts follow one another
+-- ---- plain cells, whose bytes are concatenated
 
 plain_joined : (x y : List Value) → column_text Code.Plain (x ++ y) ≡ column_text Code.Plain x ++ column_text Code.Plain y
 plain_joined = plain_text-append cell_bytes
@@ -81,38 +81,38 @@ plain_joined = plain_text-append cell_bytes
 joined_push : (texts : List (Vec ℕ)) (text : Vec ℕ) → joined (texts ++ text ∷ []) ≡ joined texts ++ text.items
 joined_push texts text = flat_map-append (λ (piece : Vec ℕ). piece.items) texts (text ∷ []) ∙ ap (λ last. joined texts ++ last) (append-nil text.items)
 
--- before the first piece
+-- no pieces yet
 pub plain_begun : (texts : List (Vec ℕ)) (v : List Value) → texts ≡ [] → v ≡ [] → joined texts ≡ column_text Code.Plain v
 plain_begun texts v e k = ap joined e ∙ sym (ap (column_text Code.Plain) k)
 
--- one piece more
+-- one more piece
 pub plain_grown : (before after : List (Vec ℕ)) (text : Vec ℕ) (piece : Piece) (kind : Kind) (v w : List Value)
     → after ≡ before ++ text ∷ [] → IsTextOf piece text.items → IsPieceOf piece Code.Plain kind w → joined before ≡ column_text Code.Plain v → joined after ≡ column_text Code.Plain (v ++ w)
 plain_grown before after text piece kind v w e written is held =
     ap joined e ∙ joined_push before text ∙ ap (λ x. x ++ text.items) held ∙ ap (λ x. column_text Code.Plain v ++ x) (written Code.Plain kind w is) ∙ sym (plain_joined v w)
 
--- the texts of all pieces are the text of the column
+-- the bytes of all pieces are those of the column
 pub column_whole : (code known : Code) (kind : Kind) (v : List Value) (text : List ℕ) → code ≡ known → text ≡ column_text known v → IsColumnText code kind v text
 column_whole code known kind v text same held =
     let is : text ≡ column_text code v = held ∙ ap (λ x. column_text x v) (sym same) in
     record { is = is; short = λ fits. short_text code kind v text fits is }
 
--- the text of a piece alone is the text of the column that the piece stands for
+-- the bytes of a single piece are those of the column that the piece stands for
 pub text_alone : (none texts : List (Vec ℕ)) (text : Vec ℕ) (piece : Piece) (code : Code) (kind : Kind) (v : List Value)
     → none ≡ [] → texts ≡ none ++ text ∷ [] → IsTextOf piece text.items → IsShortTextOf piece text.items → IsPieceOf piece code kind v → IsColumnText code kind v (joined texts)
 text_alone none texts text piece code kind v empty pushed written short is =
     let alone : joined texts ≡ text.items = ap joined (pushed ∙ ap (λ front. front ++ text ∷ []) empty) ∙ append-nil text.items in
     subst (IsColumnText code kind v) (sym alone) (record { is = written code kind v is; short = short code kind v is })
 
--- the pieces of a column, from their end
+-- the pieces of a column, in reverse
 pub pieces_left : (work : LostSegment) (j : ℕ) (pieces rest : Vec Piece) → ArePiecesOf work j pieces.items → vec_len rest ≡ vec_len pieces → ReversedBelow pieces.items rest.items (vec_len pieces) → (length rest.items ≡ work.per) × AreLeft (IsPieceAt work j) work.per rest.items
 pieces_left work j pieces rest are long back =
     let count : vec_len pieces ≡ length pieces.items = pieces.ok.0 in
     let same : length rest.items ≡ length pieces.items = sym rest.ok.0 ∙ long ∙ count in
     (same ∙ are.count, all_left (IsPieceAt work j) work.per pieces.items rest.items are.count same (subst (ReversedBelow pieces.items rest.items) count back) are.each)
 
--- ---- the work of a segment of a store
+-- ---- a segment of a store
 
--- what is known of a work is known of what it was made of, and the other way round
+-- what is known of a segment is known of the values it was made of, and the other way round
 pub on_segment : (P : OrderedStore → ℕ → List ℕ → Type 0) {g h : OrderedStore} {p q : ℕ} {ns ms : List ℕ} → h ≡ g → q ≡ p → ms ≡ ns → P h q ms → P g p ns
 on_segment P {g} {h} {p} {q} {ns} {ms} a b d k = subst (λ x. P x p ns) a (subst (λ x. P h x ns) b (subst (λ x. P h q x) d k))

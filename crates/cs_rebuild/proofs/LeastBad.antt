@@ -1,4 +1,4 @@
--- The least bad file, by its body or by its digest.
+-- The first bad file by name, by its body or by its digest.
 use Rattle.std.proofs.Common.{◌≡◌, ℕ, List, refl, sym, ap, subst, ◌∙◌, inl, inr, take, length, ◌-◌, ◌⊎◌, Option, Some, None, Ordering}
 use Rattle.std.specs.Option.{option_map}
 use Rattle.std.specs.Ordering.{ordering_reverse, nat_cmp}
@@ -25,26 +25,26 @@ use Rattle.cs_rebuild.specs.Steps.{AreBodiesSound, AreRead, IsBadFile}
 use Rattle.cs_rebuild.proofs.Names.{name_tail}
 use Rattle.cs_rebuild.proofs.Sealing.{same_file}
 
--- where the digests of the surviving files are right, these are read as they are
+-- if the digests of the surviving files are right, the files are as they were read
 pub read_as_sealed : (C : CatalogData) → IsCatalog C → (F : FileContents) (L : Sites) → AreSealedAmong F (surviving C L) → SameSurvivors C L (resealed F) F
 read_as_sealed C cat F L are n h = same_file F n (λ bytes e. are n bytes ((surviving_names C L cat n).1 h) e)
 
 segment_first : (p s : ℕ) → name_cmp (FileName.Seg p s) (FileName.Del p s) ≡ Less
 segment_first p s = name_tail (FileName.Seg p s) (FileName.Del p s) refl refl
 
--- a file is sound, or not, by its bytes, and a delta by those of its segment too
+-- whether a file is sound depends on its bytes, and for a delta also on those of its segment
 sound_under : (C : CatalogData) (F G : FileContents) (n : FileName) → G n ≡ F n → ((p s : ℕ) → n ≡ FileName.Del p s → G (FileName.Seg p s) ≡ F (FileName.Seg p s)) → IsSound C F n → IsSound C G n
 sound_under C F G (FileName.Seg p s) e f h = (h.0, h.1, e ∙ h.2, h.3)
 sound_under C F G (FileName.Del p s) e f h = (h.0, image_under C F G p s h.0 (f p s refl) e h.1)
 sound_under C F G (FileName.Jix p s q) e f h = (h.0, join_under F G p s q h.0 e h.1)
 
--- bytes that no body is sealed to are no sound file
+-- bytes that are not a sealed body are not a sound file
 unsealed_bad : (C : CatalogData) (F : FileContents) (n : FileName) (bytes : List ℕ) → F n ≡ Some bytes → ((body : List ℕ) → bytes ≡ sealed body → ⊥) → IsSound C F n → ⊥
 unsealed_bad C F (FileName.Seg p s) bytes e none h = none (segment_body C p s h.1) (same_Some bytes h.0 (sym e ∙ h.2) ∙ h.3.text)
 unsealed_bad C F (FileName.Del p s) bytes e none h = none (delta_body h.1.changes) (same_Some bytes h.1.delta_bytes (sym e ∙ h.1.has_delta) ∙ h.1.delta_file.text)
 unsealed_bad C F (FileName.Jix p s q) bytes e none h = none (join_index_body p s q h.0) (same_Some bytes h.1.bytes (sym e ∙ h.1.has_file) ∙ h.1.file.text)
 
--- some names, with each delta's segment, whose files are read as they are
+-- some names, including each delta's segment, whose files are as they were read
 module _ (C : CatalogData) (F : FileContents) (L : Sites) (Q : FileName → Type 0) (same : (m : FileName) → Q m → F m ≡ resealed F m) (with_segment : (p s : ℕ) → Q (FileName.Del p s) → Q (FileName.Seg p s)) where
   segment_same : (m : FileName) → Q m → (p s : ℕ) → m ≡ FileName.Del p s → F (FileName.Seg p s) ≡ resealed F (FileName.Seg p s)
   segment_same m q p s e = same (FileName.Seg p s) (with_segment p s (subst Q e q))
@@ -55,7 +55,7 @@ module _ (C : CatalogData) (F : FileContents) (L : Sites) (Q : FileName → Type
   body_sound : (m : FileName) → Q m → IsSound C F m → IsSound C (resealed F) m
   body_sound m q = sound_under C F (resealed F) m (sym (same m q)) (λ p s e. sym (segment_same m q p s e))
 
-  -- the least bad body is the least bad file
+  -- the first bad body is the first bad file
   bad_body : (n : FileName) (f : Fault) → Q n → ((m : FileName) → Survives C L m → name_cmp m n ≡ Less → Q m) → IsFirstBadFile C (resealed F) L n f → IsBadFile C F L f
   bad_body n f q lesser bad = (
     n,
@@ -67,7 +67,7 @@ module _ (C : CatalogData) (F : FileContents) (L : Sites) (Q : FileName → Type
     },
   )
 
--- where each digest is right
+-- if each digest is right
 pub sealed_bad : (C : CatalogData) → IsCatalog C → (F : FileContents) (L : Sites) → AreSealedAmong F (surviving C L) → (f : Fault) → IsBadFile C (resealed F) L f → IsBadFile C F L f
 sealed_bad C cat F L are f bad = bad_body C F L (Survives C L) (read_as_sealed C cat F L are) (λ p s v. v) bad.0 f bad.1.survives (λ m v less. v) bad.1
 
@@ -81,7 +81,7 @@ module _ (C : CatalogData) (cat : IsCatalog C) (F : FileContents) (L : Sites) (n
   segment_before : (p s : ℕ) → Before (FileName.Del p s) → Before (FileName.Seg p s)
   segment_before p s b = (b.0, name_cmp_total.trans (FileName.Seg p s) (FileName.Del p s) name (segment_first p s) b.1)
 
-  -- the file with the wrong digest is the least bad one if the bodies before it are sound
+  -- the file with the wrong digest is the first bad one if the bodies before it are sound
   digest_first : ((m : FileName) → Before m → IsSound C (resealed F) m) → IsBadFile C F L (Fault.Damaged name)
   digest_first sound = (
     name,
@@ -97,11 +97,11 @@ module _ (C : CatalogData) (cat : IsCatalog C) (F : FileContents) (L : Sites) (n
   digest_bad sound = digest_first (λ m b. sound m b.0)
 
   module _ (n : FileName) (f : Fault) (bad : IsFirstBadFile C (resealed F) L n f) where
-    -- a bad body before it is the least bad file
+    -- a bad body before the wrong digest is the first bad file
     pub body_first : name_cmp n name ≡ Less → IsBadFile C F L f
     body_first less = bad_body C F L Before same_before segment_before n f (bad.survives, less) (λ m v before. (v, name_cmp_total.trans m n name before less)) bad
 
-    -- else the wrong digest is
+    -- otherwise the file with the wrong digest is
     pub digest_before : (name_cmp n name ≡ Less → ⊥) → IsBadFile C F L (Fault.Damaged name)
     digest_before not_less = digest_first (λ m b. bad.before m b.0 (before m b.1 (name_cmp n name) refl))
       where

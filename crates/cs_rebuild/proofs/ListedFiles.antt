@@ -1,4 +1,4 @@
--- The files that a loss leaves to be written: their lists, what is made of them, and what is left to put.
+-- The files to write after a loss: their lists, what is made of them, and which remain to be put.
 use Rattle.std.proofs.Common.{◌≡◌, ℕ, suc, ◌+◌, ◌<◌, List, [], ◌∷◌, ◌++◌, All, map, length, refl, sym, ap, subst, ◌∙◌, Bool, true, false, not, cond, ◌&&◌, ◌||◌, ◌⊎◌, inl, inr, None, Some, arith, append_assoc, Result, Ok, Err, get_or}
 use Rattle.std.specs.Prelude.{nat_lt, Contains, IfOk, MatchResult}
 use Rattle.std.specs.List.{AllZip, flat_map}
@@ -28,14 +28,14 @@ use Rattle.cs_rebuild.proofs.WrittenFiles.{kept_join, kept_base, kept_delta}
 
 -- ---- the lists
 
--- a list of lists, one number further
+-- concatenated lists, with one more list
 pub one_pushed : {B : Type 0} (f : ℕ → List B) (n : ℕ) (old now new : List B) → now ≡ old ++ flat_map f (numbers_below n) → new ≡ now ++ f n → new ≡ old ++ flat_map f (numbers_below (n + 1))
 one_pushed f n old now new so_far e =
     let same : 0 + n ≡ n = omega arith in
     let more = flat_more f 0 n ∙ ap (λ k. flat_map f (numbers_below n) ++ f k) same in
     e ∙ ap (λ l. l ++ f n) so_far ∙ append_assoc old (flat_map f (numbers_below n)) (f n) ∙ ap (λ l. old ++ l) (sym more)
 
--- one file more
+-- one more file
 module _ (g : OrderedStore) (old new : List LostFile) (file : LostFile) (pushed : new ≡ old ++ file ∷ []) where
   pub each_pushed : All (IsToWrite g) old → IsToWrite g file → All (IsToWrite g) new
   each_pushed each one = subst (All (IsToWrite g)) (sym pushed) (All-append (IsToWrite g) old (file ∷ []) each (All-cons (IsToWrite g) file [] one (All-nil (IsToWrite g))))
@@ -134,7 +134,7 @@ module _ (C : CatalogData) (L : Sites) where
       below : (n k : ℕ) → IsIn k (numbers_below n) → k < n
       below n k j = let r = in_range 0 n k j in omega (arith, r)
 
-  -- the loss affects each of them
+  -- the loss affects each of these join indexes
   pub each_affected : (joins : List (ℕ × ℕ × ℕ)) → joins ≡ affected_joins C L → All (λ a. IsAffectedJoin C L a.0 a.1 a.2) joins
   each_affected joins are k d lt = joined_at (get_or joins k d) (subst (IsIn (get_or joins k d)) are (in_at joins k (get_or joins k d) (slice_get-get_or joins k d lt)))
 
@@ -147,7 +147,7 @@ module _ {A X : Type 0} (R : A → X → Type 0) where
   all_ok E (a ∷ froms) [] h = absurd h
   all_ok E (a ∷ froms) (x ∷ xs) h = (h.0, all_ok E froms xs h.1)
 
-  -- results that are all there, by what they were made from
+  -- if all results are there, each by what it was made from
   pub each_there : {E V : Type 0} (items : V → List X) (froms : List A) (results : List (Result X E)) (r : Result V E)
       → AllZip (λ a o. IfOk o (R a)) froms results → MatchResult r (λ v. (xs : List X) × (results ≡ map Ok xs) × (items v ≡ xs)) (λ e. Contains results (Err e))
       → IfOk r (λ v. AllZip R froms (items v))
@@ -173,7 +173,7 @@ module _ {A X : Type 0} (wanted : A → FileName) (name : X → FileName) (text 
   texts_made (a ∷ froms) [] h = absurd h
   texts_made (a ∷ froms) (x ∷ xs) h = All-cons HasText x xs h.0.text_is (texts_made froms xs h.1)
 
--- ---- what is left to put
+-- ---- what remains to be put
 
 all_split : {X : Type 0} (P : X → Type 0) (xs : List X) (x : X) → All P (xs ++ x ∷ []) → All P xs × P x
 all_split P [] x h = (All-nil P, h 0 x (omega arith))
@@ -181,12 +181,12 @@ all_split P (y ∷ ys) x h =
     let r = all_split P ys x (λ k d l. h (suc k) d (omega arith)) in
     (All-cons P y ys (h 0 y (omega arith)) r.0, r.1)
 
--- of the files that are left, the last is taken
+-- the last of the remaining files is taken
 pub last_taken : {X : Type 0} (P : X → Type 0) (rest new : List X) (x : X) → rest ≡ new ++ x ∷ [] → All P rest → All P new × P x
 last_taken P rest new x split h = all_split P new x (subst (All P) split h)
 
 module _ {X : Type 0} (name : X → FileName) (all : FileContents) where
-  -- each name is that of a file that is left, or written
+  -- under each name is a remaining file, or the right one was put
   abbrev pub IsLeftOrWritten : List X → Files → Type 0
   IsLeftOrWritten rest out = (n : FileName) → IsIn n (map name rest) ⊎ HasWritten all out n
 

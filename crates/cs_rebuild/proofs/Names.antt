@@ -1,4 +1,4 @@
--- The names of one segment's files, in their order.
+-- The names of one segment's files, in order.
 use Rattle.std.proofs.Common.{◌≡◌, ℕ, ◌+◌, ◌<◌, List, [], ◌∷◌, ◌++◌, map, length, refl, sym, ap, ◌∙◌, subst, Bool, true, false, inl, inr, arith, append-nil}
 use Rattle.std.specs.Prelude.{nat_lt, cond, ◌==◌}
 use Rattle.std.specs.List.{filter}
@@ -24,7 +24,7 @@ use Rattle.std.proofs.lemmas.List.Elements.{filter-append}
 use Rattle.std.proofs.lemmas.List.FromFn.{map-range_with_len_more}
 use Rattle.cs_rebuild.specs.Reading.{IsRefused, IsNameOf, AreSoundFiles, IsFirstBadOf, IsFirstBadJoin, HoldsBase}
 
--- what of a name follows its segment
+-- the part of a name after its segment
 abbrev pub tail_of : FileName → List ℕ
 tail_of (FileName.Seg p s) = 0 ∷ []
 tail_of (FileName.Del p s) = 1 ∷ []

@@ -1,4 +1,4 @@
--- Numbers that are equal or not, and tests that decide the same.
+-- Equal and unequal numbers, and equivalent tests.
 use Rattle.std.proofs.Common.{◌≡◌, ◌≢◌, ℕ, refl, sym, ◌∙◌, Bool, true, false, not, ◌==◌, eqb-true, eq-eqb}
 use Rattle.cs_schema.proofs.Ascending.{false≢true}
 
@@ -17,7 +17,7 @@ differ x y n = go (x == y) refl
     go true e = absurd (n (eqb-true x y e))
     go false e = refl
 
--- tests that hold of the same
+-- equivalent tests
 pub decided : (b t : Bool) → (b ≡ true → t ≡ true) → (t ≡ true → b ≡ true) → b ≡ not (not t)
 decided true true f g = refl
 decided true false f g = sym (f refl)

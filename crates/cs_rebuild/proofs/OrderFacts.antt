@@ -1,4 +1,4 @@
--- Where the orders say that a row stands.
+-- The place of a row in the orders.
 use Rattle.std.proofs.Common.{◌≡◌, ℕ, ◌<◌, List, [], length, refl, sym, ap, ◌∙◌, Bool, true, false, Some, arith, get_or}
 use Rattle.std.specs.Prelude.{nat_lt}
 use Rattle.std.specs.List.{slice_get}
@@ -15,7 +15,7 @@ use Rattle.cs_order.specs.Tables.{table_of}
 use Rattle.cs_rebuild.specs.StoreFacts.{HaveOrders, AreInOrder, HaveRoomInRanges}
 
 module _ (C : CatalogData) (rows : List Row) (o : OrdersData) (room : HaveOrders C o) (each : AreInOrder C rows o) where
-  -- a place is one of a segment that there is
+  -- a place is in a segment that exists
   pub segment_there : (q u i row : ℕ) → q < length C.projections → slice_get (numbers_in o q u) i ≡ Some row → u < segments C q
   segment_there q u i row h at = go (nat_lt u (segments C q)) refl
     where

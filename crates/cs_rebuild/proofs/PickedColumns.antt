@@ -1,4 +1,4 @@
--- Rows that are picked by their numbers, in columns.
+-- Rows that are selected by their numbers, in columns.
 use Rattle.std.proofs.Common.{◌≡◌, ℕ, List, [], ◌∷◌, map, length, refl, ap, subst, Result, Ok, Err}
 use Rattle.std.specs.Prelude.{IfOk}
 use Rattle.std.specs.List.{AllZip, range_with_len}

@@ -1,4 +1,4 @@
--- The cells at some places of a column.
+-- The cells of a column at some indices.
 use Rattle.std.proofs.Common.{◌≡◌, ℕ, zero, suc, ◌<◌, List, [], ◌∷◌, ◌++◌, length, map, take, drop, get_or, refl, arith}
 use Rattle.std.specs.Prelude.{flat_map, slice_index}
 

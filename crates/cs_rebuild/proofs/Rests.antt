@@ -1,4 +1,4 @@
--- Pieces that are taken from the end of a list, the first last.
+-- Pieces that are taken from the end of a reversed list.
 use Rattle.std.proofs.Common.{◌≡◌, ℕ, zero, suc, ◌+◌, ◌-◌, ◌<◌, List, [], ◌∷◌, ◌++◌, length, length-append, refl, sym, ap, subst, ◌∙◌, Some, arith, get_or}
 use Rattle.std.specs.List.{ReversedBelow, slice_get}
 use Rattle.std.proofs.lemmas.Option.{slice_get-get_or, slice_get_within, get_or_from_slice_get, none-some}
@@ -26,7 +26,7 @@ module _ {X : Type 0} where
         let place : total - 1 - length new ≡ i = omega (arith, l, long) in
         subst (λ n. P n x) place (h (length new) x (ap (λ l. slice_get l (length new)) e ∙ last_at new x))
 
-    -- the list from its end
+    -- the reversed list
     pub all_left : (xs rest : List X) → length xs ≡ total → length rest ≡ length xs → ReversedBelow xs rest (length xs) → ((i : ℕ) (out : X) → slice_get xs i ≡ Some out → P i out) → AreLeft rest
     all_left xs rest l long back h m out at =
         let inside : m < length rest = slice_get_within rest m out at in

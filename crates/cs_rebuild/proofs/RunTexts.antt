@@ -1,4 +1,4 @@
--- The parts of the text of a column of runs, one for each piece.
+-- The bytes of a column of runs, in one part for each piece.
 use Rattle.std.proofs.Common.{◌≡◌, ℕ, suc, ◌+◌, ◌-◌, ◌*◌, ◌/◌, ◌<◌, ◌≤◌, min, List, [], ◌∷◌, ◌++◌, length, Some, refl, sym, ap, ◌∙◌, arith}
 use Rattle.std.specs.Global.{Vec}
 use Rattle.std.specs.List.{slice_get}
@@ -12,7 +12,7 @@ use Rattle.cs_rebuild.specs.Encoding.{pieces_of}
 use Rattle.cs_segment.specs.Growing.{joined}
 
 module _ (v : List Value) (cut n : ℕ) where
-  -- where the k-th piece begins
+  -- the index at which the k-th piece begins
   abbrev pub starts : ℕ → ℕ
   starts k = min (k * cut) n
 
@@ -39,7 +39,7 @@ module _ (v : List Value) (cut n : ℕ) where
       times : (a b : ℕ) → a * cut ≤ (a + b) * cut
       times a b = let x : (a + b) * cut ≡ a * cut + b * cut = grind arith in omega (arith, x)
 
-  -- the parts of all pieces, one after the other
+  -- the concatenated parts of all pieces
   pub parts_joined : (texts : List (Vec ℕ)) → AreParts 0 texts → joined texts ≡ part_text cell_bytes value_eq v (min (0 * cut) n) (min (length texts * cut) n)
   parts_joined texts h = let all : 0 + length texts ≡ length texts = omega arith in parts_from 0 texts h ∙ ap (λ m. part_text cell_bytes value_eq v (starts 0) (starts m)) all
 
@@ -54,7 +54,7 @@ covered cut per n some e =
     let same : (q + (per - q)) * cut ≡ per * cut = ap (λ m. m * cut) all in
     omega (arith, l, parts, same, some)
 
--- and their parts are the text of all values
+-- so their parts are the bytes of the whole column
 pub parts_whole : (v : List Value) (cut per : ℕ) (texts : List (Vec ℕ)) → 1 ≤ cut → per ≡ pieces_of (length v) cut → length texts ≡ per → AreParts v cut (length v) 0 texts → joined texts ≡ runs_text cell_bytes value_eq v
 parts_whole v cut per texts some e count h =
     let front : min (0 * cut) (length v) ≡ 0 = let x : 0 * cut ≡ 0 = grind arith in omega (arith, x) in

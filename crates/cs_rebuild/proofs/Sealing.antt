@@ -16,7 +16,7 @@ use Rattle.cs_schema.proofs.Lists.{append_left, append_right, at_in, in_append, 
 use Rattle.cs_segment.specs.Bodies.{IsSealed}
 use Rattle.cs_rebuild.specs.Reading.{AreSealedAmong, AreThere, reseal, resealed}
 
--- a file that ends in the digest of its body is read as it is
+-- a file that ends in the digest of its body is as it was read
 pub same_file : (F : FileContents) (n : FileName) → ((bytes : List ℕ) → F n ≡ Some bytes → bytes ≡ reseal bytes) → F n ≡ resealed F n
 same_file F n is = go (F n) refl
   where
@@ -26,7 +26,7 @@ same_file F n is = go (F n) refl
 
 -- ---- the files under some names
 
--- a name more, with its file
+-- one more name, with a file
 pub there_more : (F : FileContents) (names : List FileName) (n : FileName) (there : List (Bor (List ℕ))) (f : Bor (List ℕ)) → AreThere F names there → Some f.now ≡ F n → AreThere F (names ++ n ∷ []) (there ++ f ∷ [])
 there_more F names n there f so is m bytes i e = elim (in_append names (n ∷ []) m i) [
   | inl before ↦ let r = so m bytes before e in (r.0, append_left there (f ∷ []) r.0 r.1, r.2)
@@ -36,7 +36,7 @@ there_more F names n there f so is m bytes i e = elim (in_append names (n ∷ []
   ]
 ]
 
--- a name more, without a file
+-- one more name, without a file
 pub not_there : (F : FileContents) (names : List FileName) (n : FileName) (there : List (Bor (List ℕ))) → AreThere F names there → None ≡ F n → AreThere F (names ++ n ∷ []) there
 not_there F names n there so is m bytes i e = elim (in_append names (n ∷ []) m i) [
   | inl before ↦ so m bytes before e
@@ -53,11 +53,11 @@ each_in xs x is P all =
     let at = at_in xs x is in
     subst P (get_or_from_slice_get xs at.0 x x at.1) (all at.0 x (slice_get_within xs at.0 x at.1))
 
--- what stands in a list stands in its permutations
+-- an element of a list is in its permutations
 pub in_permuted : {X : Type 0} (xs ys : List X) → IsPermutation xs ys → (x : X) → IsIn x xs → IsIn x ys
 in_permuted xs ys moved x is = each_in xs x is (λ y. IsIn y ys) (All-permutation (λ y. IsIn y ys) ys xs (IsPermutation-sym xs ys moved) (λ k d low. in_at ys k (get_or ys k d) (slice_get-get_or ys k d low)))
 
--- what is told of the files of each group is told of each file
+-- what holds of the files of each group holds of each file
 pub each_told : (files : List (Bor (List ℕ))) (groups : List ℕ) (count : ℕ) → ((k : ℕ) → k < length files → get_or groups k 0 < count)
     → All (λ group. (k : ℕ) (f : Bor (List ℕ)) → slice_get files k ≡ Some f → get_or groups k 0 ≡ group → IsSealed f.now true) (range_with_len 0 (count - 0))
     → (f : Bor (List ℕ)) → IsIn f files → IsSealed f.now true
@@ -70,14 +70,14 @@ each_told files groups count below all f is =
 
 -- ---- digests in the order of names
 
--- a name more, whose digest is right
+-- one more name, whose digest is right
 pub sealed_more : (F : FileContents) (names : List FileName) (n : FileName) → AreSealedAmong F names → ((bytes : List ℕ) → F n ≡ Some bytes → bytes ≡ reseal bytes) → AreSealedAmong F (names ++ n ∷ [])
 sealed_more F names n so is m bytes i e = elim (in_append names (n ∷ []) m i) [
   | inl before ↦ so m bytes before e
   | inr last ↦ elim last [ inl here ↦ is bytes (ap F (sym here) ∙ e) | inr none ↦ absurd none ]
 ]
 
--- a lesser name of an ascending list stands before
+-- a smaller name of an ascending list comes before
 pub stands_before : (names : List FileName) → IsStrictlySortedBy name_cmp names → (i : ℕ) (d : FileName) → i < length names → (m : FileName) → IsIn m names → name_cmp m (get_or names i d) ≡ Less → IsIn m (take i names)
 unfolding IsStrictlySortedBy
 stands_before [] sorted i d low m is less = absurd is

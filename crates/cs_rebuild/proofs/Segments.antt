@@ -1,4 +1,4 @@
--- The surviving segments in their order, and the least bad file.
+-- The surviving segments in order, and the first bad file.
 use Rattle.std.proofs.Common.{◌≡◌, ℕ, zero, suc, ◌+◌, ◌<◌, List, [], ◌∷◌, ◌++◌, map, length, refl, sym, ap, ◌∙◌, subst, Bool, true, false, not, ◌⊎◌, inl, inr, Some, arith, Ordering, cond}
 use Rattle.std.specs.Prelude.{nat_lt, ◌==◌}
 use Rattle.std.specs.List.{filter, slice_get, flat_map, range_with_len}
@@ -71,7 +71,7 @@ order_rows C a (suc n) =
 pub survivors_in_order : (C : CatalogData) (L : Sites) → InOrder (surviving_segments C L)
 survivors_in_order C L = order_filter (λ (a : ℕ × ℕ). not (lost C L a.0 a.1)) (all_segments C) (order_rows C 0 (length C.projections))
 
--- what comes before an element stands at a lesser index
+-- what comes before an element has a smaller index
 pub place_before : (xs : List (ℕ × ℕ)) → InOrder xs → (i : ℕ) (a b : ℕ × ℕ) → slice_get xs i ≡ Some a → IsIn b xs → Before b a → (k : ℕ) × (k < i) × (slice_get xs k ≡ Some b)
 place_before [] h i a b e j l = absurd j
 place_before (x ∷ xs) h zero a b e (inl s) l = let t : x ≡ a = same_Some x a e in absurd (not_both a a (subst (λ z. Before z a) (s ∙ t) l) (subst (λ z. Before z a) (s ∙ t) l))
@@ -110,7 +110,7 @@ segment_there C (FileName.Seg p s) h = h
 segment_there C (FileName.Del p s) h = h
 segment_there C (FileName.Jix p s q) h = h.0
 
--- the least bad file of the first segment with a bad file is the least bad file
+-- the first bad file of the first segment with a bad file is the first bad file by name
 pub least_bad : (C : CatalogData) (F : FileContents) (L : Sites) (segs : List (ℕ × ℕ)) → segs ≡ surviving_segments C L → (count : ℕ) (f : Fault) → IsFirstFault (FilesFaultAt C F segs) count f → (n : FileName) × IsFirstBadFile C F L n f
 least_bad C F L segs all count f h =
     let a = h.here.0 in

@@ -1,4 +1,4 @@
--- What a sound store gives to those who write what is lost.
+-- Facts about a sound store for writing what is lost.
 use Rattle.std.proofs.Common.{◌≡◌, ℕ, ◌<◌, List, [], ◌∷◌, map, length, refl, sym, ap, subst, ◌∙◌, Option, Some, None, Ok, pos}
 use Rattle.std.specs.Prelude.{slice_index}
 use Rattle.std.specs.Option.{option_or}
@@ -64,7 +64,7 @@ module _ (C : CatalogData) (cat : IsCatalog C) (F : FileContents) (L : Sites) (v
     same = judged_contents C cat L (contents_of v) w.rows (table_of C w.rows) (record { is = refl; once = none_twice C w.rows sound.rows_sound; full = none_full; misplaced = sound.placed; misled = sound.led });
   }
 
--- what the join indexes of a store that holds its table lead to
+-- the entries of the join indexes of a store that holds its table
 module _ (C : CatalogData) (cat : IsCatalog C) (F : FileContents) (L : Sites) (v : SurvivorsData) (w : WalkedData) (sound : HoldsTable C F L v w) where
   abbrev T : List Row
   T = table_of C w.rows

@@ -1,4 +1,4 @@
--- What is known of a store whose rows are in order.
+-- Facts about a store whose rows are in order.
 use Rattle.std.proofs.Common.{◌≡◌, ℕ, ◌<◌, ◌≤◌, List, map, length, sym, subst, ap, inl, inr, Option, Some, None, arith, get_or}
 use Rattle.std.proofs.lemmas.List.{length-map}
 use Rattle.std.specs.Option.{option_or}
@@ -63,7 +63,7 @@ none_or : {X : Type 0} (a b : Option X) → option_or a b ≡ None → b ≡ Non
 none_or None b e = e
 none_or (Some x) b e = absurd (none-some x (sym e))
 
--- rows of which no range is too large
+-- rows without a range that is too large
 pub fits : (C : CatalogData) (rows : List Row) → row_fault C rows ≡ None → Fits C (table_of C rows)
 fits C rows sound = full_fits C (table_of C rows) (none_or (twice C rows) (full C (table_of C rows)) sound)
 
@@ -84,7 +84,7 @@ module _ (C : CatalogData) (rows : List Row) (o : OrdersData) (are : AreOrdersOf
       let same = ap length (are.each p s h.0) in
       omega (arith, fit, long, same)
 
--- ---- what is looked up on a store, where it is looked up on the same one
+-- ---- what is looked up on a store that equals another
 
 module _ (g h : OrderedStore) (same : h ≡ g) (p s q a b c : ℕ) (one : a ≡ p) (two : b ≡ s) where
   pub same_top : (image_after h.catalog.now h.loss (held_on h) (table_on h) a b).top ≡ (image_after g.catalog.now g.loss (held_on g) (table_on g) p s).top

@@ -1,4 +1,4 @@
--- A survey of segments and join indexes, one step further.
+-- The lists of surviving segments and join indexes, one step further.
 use Rattle.std.proofs.Common.{◌≡◌, ℕ, suc, ◌+◌, ◌<◌, List, [], ◌∷◌, ◌++◌, map, length, take, ap, ◌∙◌, true, false, not, cond, arith, append-nil, get_or}
 use Rattle.std.specs.List.{filter, flat_map}
 use Rattle.std.proofs.lemmas.Grind.{flat_map-append}

@@ -1,4 +1,4 @@
--- What the steps find is what the verdict is.
+-- The results of the steps give the verdict.
 use Rattle.std.proofs.Common.{◌≡◌, ℕ, ◌≤◌, List, [], refl, sym, ap, subst, ◌∙◌, inl, inr, Option, Some, None, Result, Ok, Err}
 use Rattle.std.specs.Prelude.{IfErr}
 use Rattle.std.specs.Option.{option_or}
@@ -33,17 +33,17 @@ use Rattle.cs_rebuild.specs.declared.wanted.Answer.{Answer}
 use Rattle.cs_rebuild.specs.declared.wanted.Wanted.{Wanted}
 use Rattle.cs_rebuild.specs.Steps.{IsBadFile, IsStray, IsUnordered, row_fault, AreSound, safety_refusal}
 
--- what the exit of a `?` answers
+-- what a `?` returns
 pub passed : {T E : Type 0} (r : Result T E) (f : E) (Q : E → Type 0) → IsErrAnd r (λ e. e ≡ f) → Q f → IfErr r Q
 passed (Ok x) f Q h q = tt
 passed (Err e) f Q h q = subst Q (sym h) q
 
--- where there is an error, what it is
+-- what holds of the error, if there is one
 pub on_error : {T E : Type 0} (r : Result T E) (P Q : E → Type 0) → IfErr r P → ((e : E) → P e → Q e) → IfErr r Q
 on_error (Ok x) P Q h f = tt
 on_error (Err e) P Q h f = f e h
 
--- what is known of a store is known of what it was made of
+-- what is known of a store is known of the values it was made of
 pub on_store : (X : CatalogData → Sites → SurvivorsData → WalkedData → Type 0) {C D : CatalogData} {L M : Sites} {v u : SurvivorsData} {w t : WalkedData} → D ≡ C → M ≡ L → u ≡ v → t ≡ w → X D M u t → X C L v w
 on_store X {C} {D} {L} {M} {v} {u} {w} {t} a b d e h = subst (λ c. X c L v w) a (subst (λ l. X D l v w) b (subst (λ s. X D M s w) d (subst (λ r. X D M u r) e h)))
 
@@ -51,7 +51,7 @@ pub memory_or : (f : Fault) {P Q : Type 0} → MemoryOr f P → (P → Q) → Me
 memory_or f (inl m) g = inl m
 memory_or f (inr p) g = inr (g p)
 
--- a fault that is none of a task
+-- a fault that no task has is out of memory
 pub only_memory : (f : Fault) {P : Type 0} → MemoryOr f P → (P → ⊥) → f ≡ Fault.Memory
 only_memory f (inl m) never = m
 only_memory f (inr p) never = absurd (never p)
@@ -103,7 +103,7 @@ module _ (C : CatalogData) (F : FileContents) (L : Sites) where
 
 -- ---- the loss
 
--- the loss is one of the catalog's sites where it names only these
+-- a loss that names only sites of the catalog is a loss of the catalog
 pub is_loss : (C : CatalogData) (L : Sites) → IsSites L → NamesItsSites C L → IsLoss C L
 is_loss C L sites names = (sites.0, λ x m. ((sites.1 x m).0, names x m))
 
@@ -112,7 +112,7 @@ names_sites C L loss x m = (loss.1 x m).1
 
 -- ---- the answers
 
--- what is answered of a safe loss is the answer
+-- the answer about a safe loss is the answer
 pub rebuild_answer : (C : CatalogData) (F : FileContents) (L : Sites) → NamesItsSites C L → IsSafe C L → (out : Files) → IsAnswer Wanted.Files C F L (Ok (Answer.Files out)) → IsRebuildAnswer C F L (Ok out)
 rebuild_answer C F L named safe out a = (a.0, IsRebuildVerdict.safe named safe a.1, a.2)
 

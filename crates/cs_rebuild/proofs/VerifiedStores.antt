@@ -1,4 +1,4 @@
--- A store whose rows are in order, of which no surviving file contradicts the table.
+-- A store whose rows are in order, and that no surviving file contradicts.
 use Rattle.std.proofs.Common.{◌≡◌, ◌⊎◌, inl, inr, refl, sym, Option, Some, None, Ok, Err}
 use Rattle.std.specs.Option.{option_or}
 use Rattle.std.proofs.lemmas.Option.{none-some}
@@ -22,18 +22,18 @@ use Rattle.cs_rebuild.specs.declared.wanted.Wanted.{Wanted}
 use Rattle.cs_rebuild.proofs.SoundFacts.{holds_table}
 use Rattle.cs_rebuild.proofs.Verdicts.{on_store, misplaced_rows, misled_rows, sound_verdict}
 
--- of two that are none, each is
+-- if both are none, each is
 pub neither_is : {X : Type 0} (a b : Option X) → option_or a b ≡ None → (a ≡ None) × (b ≡ None)
 neither_is None b e = (refl, e)
 neither_is (Some x) b e = absurd (none-some x (sym e))
 
--- of two, the first that is some
+-- the first of two that is some
 either_is : {X : Type 0} (a b : Option X) (x : X) → option_or a b ≡ Some x → (a ≡ Some x) ⊎ ((a ≡ None) × (b ≡ Some x))
 either_is None b x e = inr (refl, e)
 either_is (Some y) b x e = inl e
 
 module _ {C : CatalogData} {L : Sites} {v : SurvivorsData} (store : OrderedStore) (of : IsStoreOf C L v store) (ordered : AreOrdered C L v store.walked store.orders) where
-  -- its contradiction, said of what it was made of
+  -- its contradiction, stated of the values it was made of
   contradicted : (o : Option Fault) → contradiction_on store ≡ o → option_or (misplaced C L (held_by v) (table_of C store.walked.rows)) (misled C L (held_by v) (table_of C store.walked.rows)) ≡ o
   contradicted o e = on_store (λ D K x w. option_or (misplaced D K (held_by x) (table_of D w.rows)) (misled D K (held_by x) (table_of D w.rows)) ≡ o) {w = store.walked} {t = store.walked} of.catalog of.loss of.survivors refl e
 
@@ -55,7 +55,7 @@ module _ {C : CatalogData} {L : Sites} {v : SurvivorsData} (store : OrderedStore
         let held = holds_table C cat read.0 L v store.walked store.orders (sound read.0 read.1) in
         (read.0, on_store (λ D K x w. HoldsTable D read.0 K x w) {w = store.walked} {t = store.walked} (sym of.catalog) (sym of.loss) (sym of.survivors) refl held)
 
-  -- what contradicts it is the verdict
+  -- a contradiction is the verdict
   pub contradiction_is : (f : Fault) → contradiction_on store ≡ Some f → (F : FileContents) → AreRead C F L v → IsVerdict C F L (Err f)
   contradiction_is f e F read = go (either_is _ _ f (contradicted (Some f) e))
     where
@@ -63,7 +63,7 @@ module _ {C : CatalogData} {L : Sites} {v : SurvivorsData} (store : OrderedStore
       go (inl h) = misplaced_rows C F L (held_by v) read.reads store.walked.rows ordered.walked.walk ordered.rows_sound f h
       go (inr h) = misled_rows C F L (held_by v) read.reads store.walked.rows ordered.walked.walk ordered.rows_sound h.0 f h.1
 
--- what is written of a sound store is what is wanted
+-- what is written for a sound store is what is wanted
 pub recovered : {C : CatalogData} {L : Sites} {v : SurvivorsData} (store : OrderedStore) → IsStoreOf C L v store → (F : FileContents) → AreSound C F L v store.walked store.orders
     → (out : Files) → ((n : FileName) → contents_of out n ≡ written_on store n) → IsAnswer Wanted.Files C F L (Ok (Answer.Files out))
 recovered {C} {L} {v} store of F sound out files = (

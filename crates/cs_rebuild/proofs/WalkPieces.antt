@@ -1,4 +1,4 @@
--- A walk from the walks of its pieces.
+-- A walk, composed of the walks of its pieces.
 use Rattle.std.proofs.Common.{◌≡◌, ℕ, zero, suc, ◌+◌, ◌*◌, ◌<◌, ◌≤◌, List, [], ◌∷◌, ◌++◌, take, drop, length, refl, sym, ap, ◌∙◌, subst, Option, Some, None, Result, Ok, Err, arith}
 use Rattle.std.specs.List.{find, flat_map, slice_get}
 use Rattle.std.specs.Option.{option_map, option_map_or}
@@ -26,7 +26,7 @@ drop_more c zero xs = ap (λ n. drop n xs) (let e : 0 + c ≡ c = omega arith in
 drop_more c (suc a) [] = none_dropped (suc a + c) ∙ sym (none_dropped c)
 drop_more c (suc a) (x ∷ xs) = ap (λ n. drop n (x ∷ xs)) (let e : suc a + c ≡ suc (a + c) = omega arith in e) ∙ drop_more c a xs
 
--- rows x are walked: p says which are astray, e where, and f what the others lead to
+-- the rows to walk: p tests whether a row is led astray, e gives where, and f the rows to which the others lead
 module _ {X : Type 0} (p : X → Rattle.std.proofs.Common.Bool) (e : X → Stray) (f : List X → List Row) where
   abbrev pub among : List X → Result (List Row) Stray
   among xs = option_map_or (λ x. Err (e x)) (find p xs) (Ok (f xs))
@@ -75,7 +75,7 @@ module _ {X : Type 0} (p : X → Rattle.std.proofs.Common.Bool) (e : X → Stray
     abbrev pub FaultAt : ℕ → Option Fault → Type 0
     FaultAt i fault = fault ≡ option_map (λ x. fault_of (e x)) (find p (piece_of cut xs i))
 
-    -- the first row that is astray, from the first piece that has one
+    -- the first row that is led astray is in the first piece that has one
     pub first_astray : (count : ℕ) (fault : Fault) → IsFirstFault FaultAt count fault → (at : Stray) × (among xs ≡ Err at) × (fault ≡ fault_of at)
     first_astray count fault h =
         let s = stray_in (find p (piece_of cut xs h.at)) fault h.here in
@@ -95,7 +95,7 @@ module _ {X : Type 0} (p : X → Rattle.std.proofs.Common.Bool) (e : X → Stray
           ∙ ap (λ l. f (take cut ys) ++ l) (rest ∙ ap (λ l. f (take (length outs * cut) l)) next)
           ∙ sym (ap (λ n. f (take n ys)) count ∙ ap f (take-add cut (length outs * cut) ys) ∙ join (take cut ys) (take (length outs * cut) (drop cut ys)))
 
-      -- all rows lead somewhere, and these are the rows of all pieces
+      -- if no row is led astray, the rows are those of all pieces
       pub all_walked : (count : ℕ) → length xs ≤ count * cut → AllSound FaultAt count → (outs : List WalkedData) → length outs ≡ count → AnswersInOrder (λ i (w : WalkedData). w.rows ≡ f (piece_of cut xs i)) outs → among xs ≡ Ok (flat_map (λ w. w.rows) outs)
       all_walked count cover sound outs long each =
           let clear = no_piece p cut xs count cover (λ k l. none_in (find p (piece_of cut xs k)) (sound k l)) in

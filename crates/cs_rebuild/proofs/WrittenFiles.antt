@@ -28,7 +28,7 @@ use Rattle.cs_rebuild.specs.Writing.{HasWritten, KeepsWritten}
 
 -- ---- the entries of a join index
 
--- what was made of each number below one
+-- what was made for each number below one
 pub made_of_each : {Y : Type 0} (R : ℕ → Y → Type 0) (f : ℕ → Y) → ((i : ℕ) (y : Y) → R i y → y ≡ f i) → (n m : ℕ) (numbers : List ℕ) (ys : List Y) → n ≡ m → numbers ≡ range_with_len 0 (n - 0) → AllZip R numbers ys → ys ≡ map f (numbers_below m)
 made_of_each R f told n m numbers ys same e h =
     let whole : n - 0 ≡ m = omega arith in
@@ -38,7 +38,7 @@ pub text_of : {B E : Type 0} (bytes : B → List ℕ) (p s q : ℕ) (entries all
 text_of bytes p s q entries all (Ok b) e h = h.text ∙ ap (join_index_text p s q) e
 text_of bytes p s q entries all (Err x) e h = tt
 
--- ---- one file more
+-- ---- one more file
 
 tied : (m n : FileName) (o : Ordering) → name_cmp m n ≡ o → is_eq o ≡ true → m ≡ n
 tied m n Less e t = absurd (false≢true t)
@@ -79,7 +79,7 @@ module _ (all : FileContents) where
   pub one_put : (out new : Files) (n : FileName) (bytes : List ℕ) → all n ≡ Some bytes → new ≡ insert out n bytes → KeepsWritten all out new × HasWritten all new n
   one_put out new n bytes is e = (subst (KeepsWritten all out) (sym e) (put_kept out n bytes is), subst (λ f. HasWritten all f n) (sym e) (put_there out n bytes is))
 
--- ---- where nothing has to stand under a name
+-- ---- names under which nothing has to be
 
 module _ (C : CatalogData) (L : Sites) (S : Contents) (T : List Row) where
   abbrev all : FileContents
@@ -92,6 +92,6 @@ module _ (C : CatalogData) (L : Sites) (S : Contents) (T : List Row) where
   pub kept_delta : (p s : ℕ) → is_lost C L p s ≡ false → all (FileName.Del p s) ≡ None
   kept_delta p s e = ap (λ b. when b (delta_text (no_changes p s (length (rows_of C T p s))))) e
 
-  -- a join index that the loss doesn't affect
+  -- a join index that the loss does not affect
   pub kept_join : (p s q : ℕ) → is_affected C L p s q ≡ false → all (FileName.Jix p s q) ≡ None
   kept_join p s q e = ap (λ b. when b (join_index_text p s q (entries_for C L S T p s q))) e

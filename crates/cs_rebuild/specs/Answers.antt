@@ -1,4 +1,4 @@
--- What is answered of a store's files once a loss is known to be safe.
+-- Answers about a store's files, once a loss is known to be safe.
 use Rattle.std.specs.Prelude.{◌≡◌, List, Result, Ok, Err, length}
 use Rattle.cs_schema.specs.CatalogData.{CatalogData}
 use Rattle.cs_schema.specs.FileNames.{FileContents}
@@ -15,19 +15,19 @@ use Rattle.cs_rebuild.specs.Steps.{AreRead, IsBadFile}
 use Rattle.cs_rebuild.specs.declared.wanted.Answer.{Answer}
 use Rattle.cs_rebuild.specs.declared.wanted.Wanted.{Wanted}
 
--- what is wanted of a table: the files that recover it, the number of its rows, or its rows as columns
+-- what is wanted of a table: the files that recover it, the number of its rows, or its rows in columns
 abbrev pub Gives : Wanted → CatalogData → FileContents → Sites → List Row → Answer → Type 0
 Gives Wanted.Files C F L T (Answer.Files out) = AreExpected C F L T (contents_of out)
 Gives Wanted.Count C F L T (Answer.Count n) = n ≡ length T
 Gives Wanted.Columns C F L T (Answer.Columns columns) = AreColumnsOf C T columns.items
 Gives _ C F L T _ = ⊥
 
--- what is wanted of the table of the verdict, or its fault
+-- what is wanted of the table of the verdict, or the verdict's fault
 abbrev pub IsAnswer : Wanted → CatalogData → FileContents → Sites → Result Answer Fault → Type 0
 IsAnswer wanted C F L (Ok answer) = (T : List Row) × IsVerdict C F L (Ok T) × Gives wanted C F L T answer
 IsAnswer wanted C F L (Err f) = MemoryOr f (IsVerdict C F L (Err f))
 
--- what is answered of the survivors that were read, or the fault of the least bad file
+-- the answer about the survivors that were read, or the fault of the first bad file
 abbrev pub IsAnswerOfRead : Wanted → CatalogData → FileContents → Sites → Result (Result Answer Fault) Fault → Type 0
 IsAnswerOfRead wanted C F L (Ok answer) = (v : SurvivorsData) × AreRead C F L v × ((G : FileContents) → AreRead C G L v → IsAnswer wanted C G L answer)
 IsAnswerOfRead wanted C F L (Err f) = MemoryOr f (IsBadFile C F L f)

@@ -1,4 +1,4 @@
--- Columns that come from outside.
+-- Columns that a caller passes.
 use Rattle.std.specs.Prelude.{ℕ, ◌≤◌, All, IsUtf8, List, length}
 use Rattle.cs_schema.specs.declared.cells.Cells.{Cells}
 use Rattle.cs_schema.specs.Values.{IsOfKind, kind_of, values}

@@ -7,11 +7,11 @@ use Rattle.cs_schema.specs.Rows.{Row, cell, project}
 use Rattle.cs_order.specs.Orders.{row_at}
 use Rattle.cs_segment.specs.SegmentFile.{Base, base_of}
 
--- how many pieces a column of n rows has: one where it has no rows
+-- the number of pieces of a column with n rows, which is at least one
 abbrev pub pieces_of : ℕ → ℕ → ℕ
 pieces_of n cut = max 1 ((n + cut - 1) / cut)
 
--- the values of column j of a projection at some rows, by their numbers
+-- the values of column j of a projection at the rows with these numbers
 abbrev pub values_at : CatalogData → ℕ → List Row → ℕ → List ℕ → List Value
 values_at C p rows j numbers = map (λ r. cell (row_at rows r) (slice_index (projection C p).columns j)) numbers
 
@@ -19,10 +19,10 @@ values_at C p rows j numbers = map (λ r. cell (row_at rows r) (slice_index (pro
 abbrev pub cut_at : ℕ → List ℕ → ℕ → List ℕ
 cut_at cut numbers k = take cut (drop (k * cut) numbers)
 
--- the base of some rows, by their numbers
+-- the base of the rows with these numbers
 abbrev pub base_at : CatalogData → ℕ → List Row → List ℕ → Base
 base_at C p rows numbers = base_of C p (map (project C p) (map (row_at rows) numbers))
 
--- no int is below the one before it, by positions
+-- no int is less than its predecessor
 abbrev pub Rises : List Value → Type 0
 Rises v = (i : ℕ) → i + 1 < length v → int_of (cell v i) ≤ℤ int_of (cell v (i + 1))

@@ -1,10 +1,10 @@
--- The files of a store, as one of those who read them has them.
+-- The files of a store, as one reader has them.
 use Rattle.std.specs.Prelude.{Option, Some, None}
 use Rattle.std.specs.Arc.{arc_value}
 use Rattle.cs_store.specs.FileSet.{Files}
 use Rattle.cs_rebuild.specs.declared.held.Held.{Held}
 
--- the files, where they were not let go of
+-- the files, unless they were released
 abbrev pub held_files : Held → Option Files
 held_files (Held.Lent files) = Some files.now
 held_files (Held.Shared files) = Some (arc_value files)

@@ -15,3 +15,5 @@ pub mod Rounds
 pub mod Writing
 pub mod LostFiles
 pub mod OnStore
+pub mod StoreColumns
+pub mod SegmentSources

@@ -1,4 +1,4 @@
--- What the reading of one segment's files finds.
+-- What reading one segment's files finds.
 use Rattle.std.specs.Prelude.{◌≡◌, ℕ, ◌-◌, ◌<◌, ◌≤◌, true, List, map, Option, Some, None, Vec, Result, IfOk, IfErr, length, slice_get, take}
 use Rattle.std.specs.Borrow.{Bor}
 use Rattle.std.specs.Option.{option_map}
@@ -23,21 +23,21 @@ use Rattle.cs_recovery.specs.Contents.{IsImageOf, IsJoinOf}
 use Rattle.cs_recovery.specs.Verdicts.{IsSound, FileFault}
 use Rattle.cs_rebuild.specs.declared.files_of.SegmentFiles.{SegmentFiles}
 
--- ---- bodies, and the digests beside them
+-- ---- bodies and digests
 
--- the body of a file, with the digest that it has
+-- the body of a file, with the right digest
 abbrev pub reseal : List ℕ → List ℕ
 reseal bytes = sealed (take (length bytes - 32) bytes)
 
--- the files as their bodies are read, whatever their digests are
+-- the files with the right digests, whatever their digests are
 abbrev pub resealed : FileContents → FileContents
 resealed F n = option_map reseal (F n)
 
--- among these names, each file that is there ends in the digest of its body
+-- each file that exists under these names ends in the digest of its body
 abbrev pub AreSealedAmong : FileContents → List FileName → Type 0
 AreSealedAmong F names = (n : FileName) (bytes : List ℕ) → IsIn n names → F n ≡ Some bytes → bytes ≡ reseal bytes
 
--- the least of some names whose file ends in another digest
+-- the first of some names whose file ends in another digest
 pub record IsFirstUnsealed (F : FileContents) (names : List FileName) (n : FileName) : Type 0 where
   pub named : IsIn n names
   pub bytes : List ℕ
@@ -45,31 +45,31 @@ pub record IsFirstUnsealed (F : FileContents) (names : List FileName) (n : FileN
   pub unsealed : (body : List ℕ) → bytes ≡ sealed body → ⊥
   pub before : (m : FileName) (b : List ℕ) → IsIn m names → name_cmp m n ≡ Less → F m ≡ Some b → b ≡ reseal b
 
--- what is found of the digests of the files under some names
+-- the result of comparing the digests of the files under some names
 abbrev pub AreDigestsAmong : FileContents → List FileName → Option FileName → Type 0
 AreDigestsAmong F names None = AreSealedAmong F names
 AreDigestsAmong F names (Some n) = IsFirstUnsealed F names n
 
--- what is found of the digests of surviving files
+-- the result of comparing the digests of the surviving files
 abbrev pub AreDigests : CatalogData → Sites → FileContents → Option FileName → Type 0
 AreDigests C L F = AreDigestsAmong F (surviving C L)
 
--- among these are the files under some names, those that are there
+-- the list has each file that exists under these names
 abbrev pub AreThere : FileContents → List FileName → List (Bor (List ℕ)) → Type 0
 AreThere F names there = (n : FileName) (bytes : List ℕ) → IsIn n names → F n ≡ Some bytes → (f : Bor (List ℕ)) × IsIn f there × (f.now ≡ bytes)
 
 -- ---- one segment
 
--- how a file that could not be read is refused
+-- the fault of a file that could not be read
 abbrev pub file_refusal : FileName → ReadFault → Fault
 file_refusal n ReadFault.Memory = Fault.Memory
 file_refusal n ReadFault.Damaged = Fault.Damaged n
 
--- the file under the name is bad, and this is why
+-- the file under the name is bad, and why
 abbrev pub IsRefused : CatalogData → FileContents → FileName → Fault → Type 0
 IsRefused C F n f = (¬ IsSound C F n) × FileFault F n f
 
--- the name is one of this segment
+-- the name belongs to this segment
 abbrev pub IsNameOf : ℕ × ℕ → FileName → Type 0
 IsNameOf a n = (projection_of n ≡ a.0) × (segment_of n ≡ a.1)
 
@@ -77,7 +77,7 @@ IsNameOf a n = (projection_of n ≡ a.0) × (segment_of n ≡ a.1)
 abbrev pub AreSoundFiles : CatalogData → FileContents → ℕ × ℕ → Type 0
 AreSoundFiles C F a = (n : FileName) → HasName C n → IsNameOf a n → IsSound C F n
 
--- the least bad file of a segment, and why
+-- the first bad file of a segment by name, and why
 pub record IsFirstBadOf (C : CatalogData) (F : FileContents) (a : ℕ × ℕ) (f : Fault) : Type 0 where
   pub name : FileName
   pub has : HasName C name
@@ -85,12 +85,12 @@ pub record IsFirstBadOf (C : CatalogData) (F : FileContents) (a : ℕ × ℕ) (f
   pub refused : IsRefused C F name f
   pub before : (m : FileName) → HasName C m → IsNameOf a m → name_cmp m name ≡ Less → IsSound C F m
 
--- what the fault of a segment's files is
+-- the fault of a segment's files, if any
 abbrev pub IsFilesFault : CatalogData → FileContents → ℕ × ℕ → Option Fault → Type 0
 IsFilesFault C F a None = AreSoundFiles C F a
 IsFilesFault C F a (Some f) = IsFirstBadOf C F a f
 
--- the projections to which a projection declares a join
+-- the projections to which a projection declares a join index
 abbrev pub joins_of : CatalogData → ℕ → List ℕ
 joins_of C p = filter (has_join C p) (numbers_below (length C.projections))
 
@@ -104,7 +104,7 @@ pub record AreFilesOf (C : CatalogData) (F : FileContents) (a : ℕ × ℕ) (out
   pub targets : map (λ j. j.0) out.joins.items ≡ joins_of C a.0
   pub joins : (j : ℕ × List Place) → IsIn j out.joins.items → IsJoinOf F a.0 a.1 j.0 j.1
 
--- the segment's file holds the base, and no other
+-- the segment's file holds this base, and no other
 pub record HoldsBase (C : CatalogData) (F : FileContents) (p s : ℕ) (segment : SegmentData) : Type 0 where
   pub bytes : List ℕ
   pub there : F (FileName.Seg p s) ≡ Some bytes
@@ -127,11 +127,11 @@ pub record IsFirstBadJoin (C : CatalogData) (F : FileContents) (p s : ℕ) (f : 
   pub refused : IsRefused C F (FileName.Jix p s target) f
   pub before : (r : ℕ) → r < target → has_join C p r ≡ true → IsSound C F (FileName.Jix p s r)
 
--- what the reading of a segment's file finds
+-- the result of reading a segment's file
 abbrev pub IsBaseRead : CatalogData → FileContents → ℕ → ℕ → Result SegmentData Fault → Type 0
 IsBaseRead C F p s r = IfOk r (HoldsBase C F p s) × IfErr r (λ f. MemoryOr f (IsRefused C F (FileName.Seg p s) f))
 
--- what the reading of a segment's delta and join indexes finds, each for itself
+-- the results of reading a segment's delta and its join indexes, each independent of the other
 pub record AreOthersRead (C : CatalogData) (F : FileContents) (p s : ℕ) (r : Result DeltaData Fault × Result (Vec (ℕ × List Place) Global) Fault) : Type 0 where
   pub changes : IfOk r.0 (HoldsChanges C F p s)
   pub refused : IfErr r.0 (λ f. MemoryOr f (IsRefused C F (FileName.Del p s) f))
@@ -139,25 +139,26 @@ pub record AreOthersRead (C : CatalogData) (F : FileContents) (p s : ℕ) (r : R
   pub joins : IfOk r.1 (λ joins. (j : ℕ × List Place) → IsIn j joins.items → IsJoinOf F p s j.0 j.1)
   pub bad : IfErr r.1 (λ f. MemoryOr f (IsFirstBadJoin C F p s f))
 
--- what the fault of the i-th of some segments is, and what an answer there meets
+-- the fault of the i-th of some segments, and below, what its files hold
 abbrev pub FilesFaultAt : CatalogData → FileContents → List (ℕ × ℕ) → ℕ → Option Fault → Type 0
 FilesFaultAt C F segments i fault = (a : ℕ × ℕ) × (slice_get segments i ≡ Some a) × IsFilesFault C F a fault
 
 abbrev pub FilesAnswerAt : CatalogData → FileContents → List (ℕ × ℕ) → ℕ → SegmentFiles → Type 0
 FilesAnswerAt C F segments i out = (a : ℕ × ℕ) × (slice_get segments i ≡ Some a) × AreFilesOf C F a out
 
--- ---- what is kept
+-- ---- what is stored
 
--- the image and the join indexes of a segment, as its files hold them, are kept
+-- the image and the join indexes of a segment are stored, as its files hold them
 pub record IsKept (C : CatalogData) (F : FileContents) (v : SurvivorsData) (a : ℕ × ℕ) : Type 0 where
   pub image : (m : KindedImage) × (image_at v a.0 a.1 ≡ Some m) × IsImageOf C F a.0 a.1 m.image
   pub joins : (q : ℕ) → IsIn q (joins_of C a.0) → (entries : List Place) × (join_at v a.0 a.1 q ≡ Some entries) × IsJoinOf F a.0 a.1 q entries
 
--- what is kept of the other segments is not changed
+-- what is stored of the other segments does not change
 pub record AreOthersKept (v : SurvivorsData) (a : ℕ × ℕ) (w : SurvivorsData) : Type 0 where
   pub images : (p s : ℕ) → ((p ≡ a.0) × (s ≡ a.1) → ⊥) → image_at w p s ≡ image_at v p s
   pub joins : (p s q : ℕ) → ((p ≡ a.0) × (s ≡ a.1) → ⊥) → join_at w p s q ≡ join_at v p s q
 
--- the join indexes of a list, from the n-th on, are there under their targets, or others of the list in their place
+-- the join indexes of a list, from the n-th on, are stored under their targets, or others of the list with the same
+-- targets
 abbrev pub AreJoinsKept : SurvivorsData → ℕ → ℕ → List (ℕ × List Place) → ℕ → Type 0
 AreJoinsKept v p s joins n = (k : ℕ) (j : ℕ × List Place) → n ≤ k → slice_get joins k ≡ Some j → (entries : List Place) × IsIn (j.0, entries) joins × (join_at v p s j.0 ≡ Some entries)

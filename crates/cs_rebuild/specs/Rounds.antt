@@ -2,7 +2,7 @@
 use Rattle.std.specs.Prelude.{◌≡◌, ℕ, ◌<◌, Bool, true, false, Option, Some, None}
 use Rattle.cs_store.specs.declared.fault.Fault.{Fault}
 
--- want of memory, as a test
+-- the fault is out of memory
 abbrev pub is_memory : Fault → Bool
 is_memory Fault.Memory = true
 is_memory Fault.Site = false
@@ -18,7 +18,7 @@ is_memory (Fault.Misled p s q) = false
 is_memory (Fault.Read n) = false
 is_memory (Fault.Write n) = false
 
--- no fault, or one that is not want of memory
+-- no fault, or a fault other than out of memory
 abbrev pub IsNoMemory : Option Fault → Type 0
 IsNoMemory None = Unit {0}
 IsNoMemory (Some f) = is_memory f ≡ false

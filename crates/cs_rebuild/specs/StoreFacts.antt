@@ -1,4 +1,4 @@
--- What is known of a store whose rows are in order: facts that each piece of work may use.
+-- Facts about a store whose rows are in order, on which tasks rely.
 use Rattle.std.specs.Prelude.{◌≡◌, ◌≢◌, ℕ, ◌<◌, ◌≤◌, List, [], map, length, slice_index, slice_index_or, None}
 use Rattle.cs_schema.specs.declared.cells.Value.{Value}
 use Rattle.cs_schema.specs.declared.file_name.FileName.{FileName}
@@ -33,14 +33,14 @@ AreJoinsThere C L v = (p s q : ℕ) → Survives C L (FileName.Jix p s q) → jo
 abbrev pub HaveWidths : CatalogData → Sites → SurvivorsData → Type 0
 HaveWidths C L v = (p s : ℕ) (x : List Value) → Survives C L (FileName.Seg p s) → IsIn x (image_rows ((contents_of v).image p s)) → length x ≡ length (projection C p).columns
 
--- the keys of an image are from 1 to its top, which is at most the limit
+-- the keys of an image are at least 1 and at most the limit
 abbrev pub HaveKeys : CatalogData → Sites → SurvivorsData → Type 0
 HaveKeys C L v = (p s i : ℕ) → Survives C L (FileName.Seg p s) → i < length ((contents_of v).image p s).pairs → (1 ≤ slice_index (image_keys ((contents_of v).image p s)) i) × (slice_index (image_keys ((contents_of v).image p s)) i ≤ key_limit)
 
 abbrev pub HaveTops : CatalogData → Sites → SurvivorsData → Type 0
 HaveTops C L v = (p s : ℕ) → Survives C L (FileName.Seg p s) → ((contents_of v).image p s).top ≤ key_limit
 
--- an entry with no key has no segment
+-- an entry without a key has no segment
 abbrev pub HaveEntries : CatalogData → Sites → SurvivorsData → Type 0
 HaveEntries C L v = (p s q : ℕ) (e : Place) → Survives C L (FileName.Jix p s q) → IsIn e ((contents_of v).join p s q) → e.1 ≡ 0 → e.0 ≡ 0
 
@@ -53,7 +53,7 @@ HaveOrders C o = (p : ℕ) → p < length C.projections → (p < length o.segmen
 abbrev pub AreNumbersBelow : CatalogData → List Row → OrdersData → Type 0
 AreNumbersBelow C rows o = (p s k : ℕ) → p < length C.projections → k < length (numbers_in o p s) → slice_index (numbers_in o p s) k < length rows
 
--- they give the table's rows in their order
+-- the numbers give the table's rows in order
 abbrev pub AreInOrder : CatalogData → List Row → OrdersData → Type 0
 AreInOrder C rows o = (p s : ℕ) → p < length C.projections → map (row_at rows) (numbers_in o p s) ≡ rows_of C (table_of C rows) p s
 

@@ -1,15 +1,15 @@
--- The segments of a store and their join indexes, as far as a survey has come.
+-- The surviving segments of a store and their join indexes, as they are listed.
 use Rattle.std.specs.Prelude.{ℕ, not, List, map, length}
 use Rattle.std.specs.List.{filter, flat_map}
 use Rattle.cs_schema.specs.CatalogData.{CatalogData, has_join, segments}
 use Rattle.cs_schema.specs.Lists.{numbers_below}
 use Rattle.cs_schema.specs.Losses.{lost, Sites}
 
--- those of the first n segments of a projection that survive
+-- the surviving segments among the first n of a projection
 abbrev pub survivors_of : CatalogData → Sites → ℕ → ℕ → List (ℕ × ℕ)
 survivors_of C L p n = filter (λ (a : ℕ × ℕ). not (lost C L a.0 a.1)) (map (λ s. (p, s)) (numbers_below n))
 
--- the join indexes of a segment to those of the first n projections to which one is declared
+-- the join indexes of a segment into the first n projections
 abbrev pub joins_at : CatalogData → ℕ → ℕ → ℕ → List (ℕ × ℕ × ℕ)
 joins_at C p s n = map (λ q. (p, s, q)) (filter (has_join C p) (numbers_below n))
 

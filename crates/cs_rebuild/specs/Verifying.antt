@@ -19,11 +19,11 @@ use Rattle.cs_recovery.specs.Places.{entries_for, entry_for}
 use Rattle.cs_rebuild.specs.OnStore.{held_on, table_on}
 use Rattle.cs_rebuild.specs.declared.places.Entries.{Entries}
 
--- the image of a segment is not of the table's rows
+-- the image of a segment does not have the table's rows
 abbrev pub is_misplaced : CatalogData → Contents → List Row → ℕ × ℕ → Bool
 is_misplaced C S T a = not (pointwise (pointwise value_eq) (image_rows (S.image a.0 a.1)) (map (project C a.0) (rows_of C T a.0 a.1)))
 
--- the fault of a segment
+-- the fault of a segment, if any
 abbrev pub misplaced_at : CatalogData → Contents → List Row → ℕ × ℕ → Option Fault
 misplaced_at C S T a = when (is_misplaced C S T a) (Fault.Misplaced a.0 a.1)
 
@@ -34,14 +34,14 @@ PlacedFaultAt C S T segments i fault = fault ≡ option_and_then (misplaced_at C
 abbrev pub is_misled : CatalogData → Sites → Contents → List Row → ℕ × ℕ × ℕ → Bool
 is_misled C L S T a = not (pointwise (agrees C L a.2) (S.join a.0 a.1 a.2) (entries_for C L S T a.0 a.1 a.2))
 
--- the fault of a join index
+-- the fault of a join index, if any
 abbrev pub misled_at : CatalogData → Sites → Contents → List Row → ℕ × ℕ × ℕ → Option Fault
 misled_at C L S T a = when (is_misled C L S T a) (Fault.Misled a.0 a.1 a.2)
 
 abbrev pub JoinedFaultAt : CatalogData → Sites → Contents → List Row → List (ℕ × ℕ × ℕ) → ℕ → Option Fault → Type 0
 JoinedFaultAt C L S T joins i fault = fault ≡ option_and_then (misled_at C L S T) (slice_get joins i)
 
--- the entry at a key as the file has it, where an entry with no key has no segment
+-- the entry for a key as the file has it: an entry without a key has no segment
 abbrev pub raw_entry : List Place → ℕ → Place
 raw_entry entries key = unwrap_or (entry_at entries key) no_place
 
@@ -49,7 +49,7 @@ raw_entry entries key = unwrap_or (entry_at entries key) no_place
 abbrev pub HasNoKeylessPlace : List Place → Type 0
 HasNoKeylessPlace entries = (e : Place) → IsIn e entries → e.1 ≡ 0 → e.0 ≡ 0
 
--- the entries at the keys above one number, up to another, agree with the expected ones
+-- the entries for the keys above `from` and up to `to` agree with the expected ones
 abbrev pub AreLed : Entries → List Place → ℕ → ℕ → Type 0
 AreLed e entries from to =
     (m : ℕ) → from ≤ m → m < to

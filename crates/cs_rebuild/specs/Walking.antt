@@ -1,18 +1,21 @@
--- What the walks of pieces of rows find, by the rule of whole projections and by rows.
-use Rattle.std.specs.Prelude.{◌≡◌, ℕ, ◌<◌, ◌*◌, List, map, length, take, drop, slice_index_or, Option, None, IfSome}
+-- What walks of pieces of rows find, by whole projections and by rows.
+use Rattle.std.specs.Prelude.{◌≡◌, ℕ, ◌<◌, ◌*◌, List, map, length, take, drop, slice_index_or, Option, None, IfSome, Result, Err}
 use Rattle.std.specs.Option.{option_map, unwrap_or}
 use Rattle.std.specs.List.{find, filter_map}
 use Rattle.cs_store.specs.declared.fault.Fault.{Fault}
+use Rattle.cs_store.specs.Fault.{MemoryOr}
 use Rattle.cs_schema.specs.CatalogData.{CatalogData, column}
 use Rattle.cs_schema.specs.declared.cells.Cells.{Cells}
 use Rattle.cs_schema.specs.Values.{values, kind_of}
 use Rattle.cs_schema.specs.Rows.{Row, cell}
 use Rattle.cs_schema.specs.Losses.{Sites}
 use Rattle.cs_safety.specs.PlanData.{PlanData}
-use Rattle.cs_rows.specs.Walk.{Contents, At, projection_rows, walked_row, is_astray}
+use Rattle.cs_rows.specs.Walk.{Contents, At, Stray, projection_rows, walked_row, is_astray}
+use Rattle.cs_rows.specs.Survivors.{contents_of}
 use Rattle.cs_rows.specs.WalkByRows.{Reached, surviving_rows}
 use Rattle.cs_rows.specs.RangeByRows.{is_stray_row, fresh_row}
 use Rattle.cs_rows.specs.WalkedView.{WalkedData}
+use Rattle.cs_rows.specs.declared.plan_walk.PlanWalk.{PlanWalk}
 
 -- the i-th piece of a list
 abbrev pub piece_of : {X : Type 0} → ℕ → List X → ℕ → List X
@@ -22,34 +25,46 @@ piece_of cut xs i = take cut (drop (i * cut) xs)
 abbrev pub HasTableKinds : CatalogData → WalkedData → Type 0
 HasTableKinds C w = w.kinds ≡ map (λ c. c.kind) C.columns
 
--- the cells that rows have in a column of the table
+-- the cells of rows in a column of the table
 abbrev pub IsColumnOf : CatalogData → List Row → ℕ → Cells → Type 0
 IsColumnOf C rows c cells = (kind_of cells ≡ (column C c).kind) × (values cells ≡ map (λ row. cell row c) rows)
 
--- what is lent in place of the table's columns has the cells of the rows
+-- each borrowed column of the table has the cells of the rows
 abbrev pub AreLent : CatalogData → List Row → List (Option Cells) → Type 0
 AreLent C rows lent = (c : ℕ) → c < length C.columns → IfSome (slice_index_or lent c None) (IsColumnOf C rows c)
+
+-- out of memory, or the fault of the row at which the walk is led astray
+abbrev pub IsWalkRefusal : Result (List Row) Stray → Fault → Type 0
+IsWalkRefusal walked fault = MemoryOr fault ((at : Stray) × (walked ≡ Err at) × (fault ≡ Fault.Astray at.0 at.1 at.2))
 
 -- ---- by whole projections
 
 abbrev pub stray_fault : PlanData → At → Fault
 stray_fault P at = Fault.Astray P.anchor at.0 at.1
 
--- the fault of the i-th piece: that of its first row that is astray
+-- the fault of the i-th piece: that of its first row that is led astray
 abbrev pub WalkFaultAt : CatalogData → Contents → PlanData → ℕ → ℕ → Option Fault → Type 0
 WalkFaultAt C S P cut i fault = fault ≡ option_map (stray_fault P) (find (is_astray C S P) (piece_of cut (projection_rows C S P.anchor) i))
 
--- an answer at the i-th piece: the rows to which its rows lead
+-- the answer for the i-th piece: the rows to which its rows lead
 abbrev pub WalkAnswerAt : CatalogData → Contents → PlanData → ℕ → ℕ → WalkedData → Type 0
 WalkAnswerAt C S P cut i w = HasTableKinds C w × (w.rows ≡ map (walked_row C S P) (piece_of cut (projection_rows C S P.anchor) i))
 
--- what is lent in place of the table's columns has the cells of the anchor's rows
+-- each borrowed column of the table has the cells of the anchor's rows
 pub record AreAnchorColumns (C : CatalogData) (S : Contents) (P : PlanData) (lent : List (Option Cells)) : Type 0 where
   pub are : AreLent C (map (walked_row C S P) (projection_rows C S P.anchor)) lent
 
--- what was copied for a column of the table, or is lent in its place, has the cells of the anchor's rows
+-- the borrowed column, or else the copied one, has the cells of the anchor's rows
 pub record IsAnchorColumn (C : CatalogData) (S : Contents) (P : PlanData) (lent : List (Option Cells)) (c : ℕ) (cells : Cells) : Type 0 where
   pub is : IsColumnOf C (map (walked_row C S P) (projection_rows C S P.anchor)) c (unwrap_or (slice_index_or lent c None) cells)
+
+-- each borrowed column of the table has the cells to which the anchor's rows lead
+abbrev pub AreLentByAnchor : PlanWalk → List (Option Cells) → Type 0
+AreLentByAnchor walk lent = AreAnchorColumns walk.survivors.now.catalog (contents_of walk.survivors.now) walk.plan.now lent
+
+-- the borrowed column, or else the copied one, has the cells to which the anchor's rows lead
+abbrev pub IsOfAnchor : PlanWalk → List (Option Cells) → ℕ → Cells → Type 0
+IsOfAnchor walk lent c cells = IsAnchorColumn walk.survivors.now.catalog (contents_of walk.survivors.now) walk.plan.now lent c cells
 
 -- ---- by rows
 

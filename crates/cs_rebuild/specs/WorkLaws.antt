@@ -1,4 +1,4 @@
--- Laws of the works: want of memory is no piece's own fault, and a piece has one fault at most.
+-- A task has at most one fault.
 use Rattle.std.specs.Prelude.{◌≡◌, ℕ, List, Option, Some, None}
 use Rattle.std.specs.Ordering.{ordering_reverse}
 use Rattle.std.specs.declared.cmp.Ordering.{Ordering}
@@ -13,7 +13,7 @@ use Rattle.cs_schema.specs.NameOrder.{name_cmp_total, name_cmp-IsAntisymmetric}
 use Rattle.cs_recovery.specs.Verdicts.{FileFault}
 use Rattle.cs_rebuild.specs.Reading.{IsFilesFault, IsFirstBadOf, FilesFaultAt}
 
--- a fault that is what a function gives is one fault
+-- two faults that equal the same value are equal
 pub one_value : {X : Type 0} (o f g : X) → f ≡ o → g ≡ o → f ≡ g
 one_value o f g a b = a ∙ sym b
 
@@ -44,7 +44,3 @@ one_of C F a (Some f) (Some g) h k = ap Some (one_bad C F a f g h k)
 
 pub one_files_fault : (C : CatalogData) (F : FileContents) (segments : List (ℕ × ℕ)) (i : ℕ) (f g : Option Fault) → FilesFaultAt C F segments i f → FilesFaultAt C F segments i g → f ≡ g
 one_files_fault C F segments i f g h k = one_of C F k.0 f g (subst (λ a. IsFilesFault C F a f) (same_Some h.0 k.0 (sym h.1 ∙ k.1)) h.2) k.2
-
--- ---- walks
-
--- ---- comparisons

@@ -3,13 +3,13 @@ ghost use Rattle.std.specs.Prelude.{◌≡◌, ◌<◌, ◌+◌, ◌++◌, All, 
 ghost use Rattle.cs_schema.specs.CatalogData.{HasSegment, segments};
 ghost use Rattle.cs_jix.specs.JoinIndex.{join_index_text};
 ghost use Rattle.cs_recovery.specs.Expected.{is_affected};
-ghost use Rattle.cs_recovery.specs.Places.{entries_for};
-ghost use Rattle.cs_rebuild.specs.OnStore.{IsEntryOn, IsSound, held_on, table_on, written_on};
+ghost use Rattle.cs_rebuild.specs.OnStore.{IsEntryOn, IsSound, written_on, entries_on};
 ghost use Rattle.cs_rebuild.specs.LostFiles.{IsFileOf, IsAffectedJoin, join_name, joins_at, joins_in, affected_joins};
 
 use crate::ordered_store::OrderedStore;
 use crate::places::Entries;
 use crate::run::Run;
+use crate::thresholds::LEAST_ENTRIES;
 use cs_board::Gate;
 use cs_jix::write_jix;
 use cs_safety::alive;
@@ -19,7 +19,7 @@ use std::alloc::{AllocError, Global};
 use std::marker::Sync;
 use std::thread::Threads;
 
-/// Whether the loss affects a join index: its segment is lost, or a segment of its target.
+/// Whether a loss affects a join index: it takes the segment of the index, or a segment of its target.
 pub fn is_affected(store: &OrderedStore<'_>, p: u16, s: u16, q: u16) -> bool
     requires segment { HasSegment store.now.catalog.now p s }
     requires target { q < length store.now.catalog.now.projections }
@@ -34,7 +34,7 @@ pub fn is_affected(store: &OrderedStore<'_>, p: u16, s: u16, q: u16) -> bool
     !alive(store.catalog, store.loss, q)
 }
 
-/// Puts the join indexes of a segment that the loss affects at the end of a list.
+/// Appends the join indexes of a segment that the loss affects.
 fn push_joins(
     joins: &mut Vec<(u16, u16, u16)>,
     store: &OrderedStore<'_>,
@@ -42,7 +42,8 @@ fn push_joins(
     s: u16,
 ) -> Result<(), AllocError>
     requires segment { HasSegment store.now.catalog.now p s }
-    ensures { OnOk result (joins.new.items ≡ joins.old.items ++ joins_at store.now.catalog.now store.now.loss p s (length store.now.catalog.now.projections)) }
+    ensures { OnOk result (joins.new.items ≡ joins.old.items
+        ++ joins_at store.now.catalog.now store.now.loss p s (length store.now.catalog.now.projections)) }
 {
     for q in 0..store.catalog.projection_count() {
         if !is_affected(store, p, s, q) {
@@ -53,7 +54,7 @@ fn push_joins(
     Ok(())
 }
 
-/// Puts the join indexes of a projection that the loss affects at the end of a list.
+/// Appends the join indexes of a projection that the loss affects.
 fn push_projection(
     joins: &mut Vec<(u16, u16, u16)>,
     store: &OrderedStore<'_>,
@@ -82,10 +83,8 @@ fn affected_joins(
     Ok(joins)
 }
 
-/// How few entries are worth a thread, where threads are free.
-const LEAST_ENTRIES: usize = 1024;
-
-/// How few entries of a join index are worth a thread of their own: with a join index for each worker none are.
+/// The minimum number of entries that one thread makes. If there are as many join indexes as workers, one thread makes
+/// all entries of each.
 fn least_entries(workers: u32, joins: usize) -> usize {
     if joins < workers as usize {
         LEAST_ENTRIES
@@ -94,13 +93,13 @@ fn least_entries(workers: u32, joins: usize) -> usize {
     }
 }
 
-/// The entries of a join index after the recovery, each looked for by one of several threads.
+/// The entries of a join index after the recovery, made by several threads.
 fn entries_of<R: Threads + Sync, G: Gate + Sync>(
     run: &Run<'_, R, G>,
     entries: &Entries<'_>,
     least: usize,
 ) -> Result<Vec<(u16, u32)>, AllocError>
-    ensures { IfOk result (λ list. list.items ≡ entries_for entries.now.store.now.catalog.now entries.now.store.now.loss (held_on entries.now.store.now) (table_on entries.now.store.now) entries.now.p entries.now.s entries.now.q) }
+    ensures { IfOk result (λ list. list.items ≡ entries_on entries.now.store.now entries.now.p entries.now.s entries.now.q) }
 {
     (0..entries.top())
         .into_par_iter()
@@ -114,7 +113,7 @@ fn entries_of<R: Threads + Sync, G: Gate + Sync>(
         .collect(run.rt, run.alloc)
 }
 
-/// The file of a join index after the recovery.
+/// The file of a join index after the recovery, with its digest.
 fn join_bytes<R: Threads + Sync, G: Gate + Sync>(
     run: &Run<'_, R, G>,
     store: &OrderedStore<'_>,
@@ -124,7 +123,7 @@ fn join_bytes<R: Threads + Sync, G: Gate + Sync>(
     requires segment { HasSegment store.now.catalog.now join.0 join.1 }
     requires target { join.2 < length store.now.catalog.now.projections }
     requires sound { IsSound store.now }
-    ensures { IfOk result (λ bytes. bytes.items ≡ join_index_text join.0 join.1 join.2 (entries_for store.now.catalog.now store.now.loss (held_on store.now) (table_on store.now) join.0 join.1 join.2)) }
+    ensures { IfOk result (λ bytes. bytes.items ≡ join_index_text join.0 join.1 join.2 (entries_on store.now join.0 join.1 join.2)) }
 {
     let _rules = store.catalog.projection_count();
     let (p, s, q) = join;
@@ -132,7 +131,7 @@ fn join_bytes<R: Threads + Sync, G: Gate + Sync>(
     write_jix(run.alloc, p, s, q, entries.as_slice())
 }
 
-/// The file of a join index that the loss affects, with its name.
+/// The name and the file of a join index that the loss affects.
 fn make_join<R: Threads + Sync, G: Gate + Sync>(
     run: &Run<'_, R, G>,
     store: &OrderedStore<'_>,
@@ -148,7 +147,8 @@ fn make_join<R: Threads + Sync, G: Gate + Sync>(
     Ok((FileName::Jix { p, s, q }, bytes))
 }
 
-/// The join indexes that the loss affects, with their names, each made in a thread of its own.
+/// The names and the files of the join indexes that the loss affects, made in parallel. Fails only if memory is
+/// refused.
 pub fn joins_after<R: Threads + Sync, G: Gate + Sync>(
     run: &Run<'_, R, G>,
     store: &OrderedStore<'_>,
@@ -161,7 +161,7 @@ pub fn joins_after<R: Threads + Sync, G: Gate + Sync>(
     let least = least_entries(run.workers, joins.len());
     joins
         .into_par_iter()
-        // a file is worth a thread
+        // each file is worth a thread
         .with_min_len(1)
         .map(
             |join: (u16, u16, u16)| -> Result<(FileName, Vec<u8>), AllocError>

@@ -1,17 +1,17 @@
-//! The walk of a plan that reads each column at its anchor: its rows are followed in pieces, and beside each column is lent by
-//! the anchor's image, or copied once from its images in a thread of its own.
-ghost use Rattle.std.specs.Prelude.{◌≡◌, ◌<◌, ◌≤◌, ◌*◌, length, map, Ok, Err, IfOk, IfErr, OnOk};
+//! The walk of a plan that reads each column at its anchor.
+//!
+//! While the anchor's rows are followed in pieces, its columns are borrowed from its image or copied from its images,
+//! in parallel.
+ghost use Rattle.std.specs.Prelude.{◌≡◌, ◌<◌, ◌≤◌, ◌*◌, length, Ok, IfOk, IfErr, OnOk};
 ghost use Rattle.cs_schema.specs.CatalogRules.{IsCatalog};
-ghost use Rattle.cs_store.specs.Fault.{MemoryOr};
-ghost use Rattle.cs_store.specs.declared.fault.Fault.{Fault as FaultData};
 ghost use Rattle.cs_rows.specs.Survivors.{contents_of};
 ghost use Rattle.cs_rows.specs.Columns.{ColumnsFit};
 ghost use Rattle.cs_rows.specs.Range.{ReadsAnchorAlone};
 ghost use Rattle.cs_rows.specs.RowSteps.{AreRows};
 ghost use Rattle.cs_rows.specs.TableView.{over};
-ghost use Rattle.cs_rows.specs.Walk.{Stray, projection_rows, walked, walked_row};
-ghost use Rattle.cs_rebuild.specs.Walking.{AreAnchorColumns, HasTableKinds, IsAnchorColumn, WalkFaultAt};
+ghost use Rattle.cs_rebuild.specs.Walking.{HasTableKinds, WalkFaultAt, AreLentByAnchor, IsOfAnchor, IsWalkRefusal};
 ghost use Rattle.cs_rebuild.specs.WorkLaws.{one_value};
+ghost use Rattle.cs_rows.specs.PlanWalks.{anchor_rows, walk_result, walked_rows};
 
 use crate::lending::lent_columns;
 use crate::rounds::Tasks;
@@ -26,7 +26,7 @@ use std::alloc::{AllocError, Global};
 use std::marker::Sync;
 use std::thread::{Threads, join_mut};
 
-/// The following of the anchor's rows along a plan, in pieces of `cut` rows.
+/// Follows the anchor's rows along a plan, in pieces of `cut` rows.
 #[derive(Drop)]
 struct FollowWork<'a> {
     walk: &'a PlanWalk<'a, 'a>,
@@ -40,7 +40,8 @@ impl Tasks for FollowWork<'_> {
 
     ghost tasks = { λ work. work.pieces };
 
-    ghost fault_at = { λ work i fault. WalkFaultAt work.walk.now.survivors.now.catalog (contents_of work.walk.now.survivors.now) work.walk.now.plan.now work.cut i fault };
+    ghost fault_at = { λ work i fault. WalkFaultAt work.walk.now.survivors.now.catalog
+        (contents_of work.walk.now.survivors.now) work.walk.now.plan.now work.cut i fault };
 
     ghost answers = { λ work i out. Unit {0} };
 
@@ -61,7 +62,7 @@ impl Tasks for FollowWork<'_> {
     ghost one_fault = { λ work i f g below a b. one_value _ f g a b };
 }
 
-/// A copy of the anchor's cells in a column, or none where the column is lent.
+/// A copy of the anchor's cells in a column, or no cells if the column is borrowed.
 fn copy_unless_lent(
     alloc: Global,
     walk: &PlanWalk<'_, '_>,
@@ -70,8 +71,8 @@ fn copy_unless_lent(
 ) -> Result<Cells, AllocError>
     requires read { ReadsAnchorAlone walk.now.survivors.now.catalog walk.now.plan.now }
     requires column { c < length walk.now.survivors.now.catalog.columns }
-    requires lent { AreAnchorColumns walk.now.survivors.now.catalog (contents_of walk.now.survivors.now) walk.now.plan.now lent.now }
-    ensures { IfOk result (IsAnchorColumn walk.now.survivors.now.catalog (contents_of walk.now.survivors.now) walk.now.plan.now lent.now c) }
+    requires lent { AreLentByAnchor walk.now lent.now }
+    ensures { IfOk result (IsOfAnchor walk.now lent.now c) }
 {
     if lent.has(c) {
         return Ok(Cells::new(alloc, walk.kind(c)));
@@ -79,7 +80,7 @@ fn copy_unless_lent(
     walk.anchor_column(alloc, c)
 }
 
-/// The columns of the anchor's rows that are not lent, each copied in a thread of its own.
+/// The columns of the anchor's rows that are not borrowed, copied in parallel.
 fn copy_columns<R: Threads + Sync>(
     rt: &R,
     alloc: Global,
@@ -87,21 +88,21 @@ fn copy_columns<R: Threads + Sync>(
     lent: &Lent<'_>,
 ) -> Result<Vec<Cells>, AllocError>
     requires read { ReadsAnchorAlone walk.now.survivors.now.catalog walk.now.plan.now }
-    requires lent { AreAnchorColumns walk.now.survivors.now.catalog (contents_of walk.now.survivors.now) walk.now.plan.now lent.now }
+    requires lent { AreLentByAnchor walk.now lent.now }
     ensures fit { IfOk result (λ columns. ColumnsFit walk.now.survivors.now.catalog (over columns.items lent.now)) }
-    ensures rows { IfOk result (λ columns. AreRows walk.now.survivors.now.catalog (map (walked_row walk.now.survivors.now.catalog (contents_of walk.now.survivors.now) walk.now.plan.now) (projection_rows walk.now.survivors.now.catalog (contents_of walk.now.survivors.now) walk.now.plan.now.anchor)) (over columns.items lent.now)) }
+    ensures rows { IfOk result (λ columns. AreRows walk.now.survivors.now.catalog (walked_rows walk.now) (over columns.items lent.now)) }
     ensures rules { IsCatalog walk.now.survivors.now.catalog }
 {
     (0..walk.column_count())
         .into_par_iter()
-        // a column is worth a thread
+        // each column is worth a thread
         .with_min_len(1)
         .map(
             |c: usize| -> Result<Cells, AllocError>
                 requires column { c < length walk.now.survivors.now.catalog.columns }
                 requires read { ReadsAnchorAlone walk.now.survivors.now.catalog walk.now.plan.now }
-                requires lent { AreAnchorColumns walk.now.survivors.now.catalog (contents_of walk.now.survivors.now) walk.now.plan.now lent.now }
-                ensures { IfOk result (IsAnchorColumn walk.entry.now.survivors.now.catalog (contents_of walk.entry.now.survivors.now) walk.entry.now.plan.now lent.entry.now c) }
+                requires lent { AreLentByAnchor walk.now lent.now }
+                ensures { IfOk result (IsOfAnchor walk.entry.now lent.entry.now c) }
             { copy_unless_lent(alloc, walk, lent, c) },
         )
         .collect::<Result<Vec<Cells>, AllocError>>(rt, alloc)?
@@ -115,7 +116,7 @@ fn anchor_table<'a, R: Threads + Sync>(
 ) -> Result<Table<'a>, AllocError>
     requires read { ReadsAnchorAlone walk.now.survivors.now.catalog walk.now.plan.now }
     ensures kinds { IfOk result (HasTableKinds walk.now.survivors.now.catalog) }
-    ensures rows { IfOk result (λ table. table.rows ≡ map (walked_row walk.now.survivors.now.catalog (contents_of walk.now.survivors.now) walk.now.plan.now) (projection_rows walk.now.survivors.now.catalog (contents_of walk.now.survivors.now) walk.now.plan.now.anchor)) }
+    ensures rows { IfOk result (λ table. table.rows ≡ walked_rows walk.now) }
 {
     let lent = lent_columns(alloc, walk)?;
     let columns = copy_columns(rt, alloc, walk, &lent)?;
@@ -128,9 +129,9 @@ fn follow_all<R: Threads + Sync, G: Gate + Sync>(
     walk: &PlanWalk<'_, '_>,
     pieces: u32,
 ) -> Result<(), Fault>
-    requires pieces { length (projection_rows walk.now.survivors.now.catalog (contents_of walk.now.survivors.now) walk.now.plan.now.anchor) ≤ pieces * run.now.cut }
-    ensures ok { OnOk result (walked walk.now.survivors.now.catalog (contents_of walk.now.survivors.now) walk.now.plan.now ≡ Ok (map (walked_row walk.now.survivors.now.catalog (contents_of walk.now.survivors.now) walk.now.plan.now) (projection_rows walk.now.survivors.now.catalog (contents_of walk.now.survivors.now) walk.now.plan.now.anchor))) }
-    ensures err { IfErr result (λ fault. MemoryOr fault ((at : Stray) × (walked walk.now.survivors.now.catalog (contents_of walk.now.survivors.now) walk.now.plan.now ≡ Err at) × (fault ≡ FaultData.Astray at.0 at.1 at.2))) }
+    requires pieces { length (anchor_rows walk.now) ≤ pieces * run.now.cut }
+    ensures ok { OnOk result (walk_result walk.now ≡ Ok (walked_rows walk.now)) }
+    ensures err { IfErr result (IsWalkRefusal (walk_result walk.now)) }
 {
     let work = FollowWork {
         walk: &*walk,
@@ -143,31 +144,31 @@ fn follow_all<R: Threads + Sync, G: Gate + Sync>(
     }
 }
 
-/// The anchor's rows in the table's columns, where the plan reads each at the anchor. The gate is entered for each of the
-/// pieces, in which the rows are followed; the columns are copied beside.
+/// The table of the anchor's rows, if the plan reads each column at the anchor, or the fault of the first row that is
+/// led astray. The gate is told of each piece in which rows are followed.
 pub fn walk_anchored<'a, R: Threads + Sync, G: Gate + Sync>(
     run: &Run<'_, R, G>,
     walk: &PlanWalk<'_, 'a>,
     pieces: u32,
 ) -> Result<Table<'a>, Fault>
     requires read { ReadsAnchorAlone walk.now.survivors.now.catalog walk.now.plan.now }
-    requires pieces { length (projection_rows walk.now.survivors.now.catalog (contents_of walk.now.survivors.now) walk.now.plan.now.anchor) ≤ pieces * run.now.cut }
+    requires pieces { length (anchor_rows walk.now) ≤ pieces * run.now.cut }
     ensures kinds { IfOk result (HasTableKinds walk.now.survivors.now.catalog) }
-    ensures rows { IfOk result (λ rows. walked walk.now.survivors.now.catalog (contents_of walk.now.survivors.now) walk.now.plan.now ≡ Ok rows.rows) }
-    ensures err { IfErr result (λ fault. MemoryOr fault ((at : Stray) × (walked walk.now.survivors.now.catalog (contents_of walk.now.survivors.now) walk.now.plan.now ≡ Err at) × (fault ≡ FaultData.Astray at.0 at.1 at.2))) }
+    ensures rows { IfOk result (λ rows. walk_result walk.now ≡ Ok rows.rows) }
+    ensures err { IfErr result (IsWalkRefusal (walk_result walk.now)) }
 {
-    // of a closure over a struct of references `join` says nothing
+    // `join` guarantees nothing for a closure over a struct of references
     let (followed, table) = join_mut(
         run.rt,
         &mut || -> Result<(), Fault>
-            requires { length (projection_rows walk.now.survivors.now.catalog (contents_of walk.now.survivors.now) walk.now.plan.now.anchor) ≤ pieces * run.now.cut }
-            ensures ok { OnOk result (walked walk.entry.now.survivors.now.catalog (contents_of walk.entry.now.survivors.now) walk.entry.now.plan.now ≡ Ok (map (walked_row walk.entry.now.survivors.now.catalog (contents_of walk.entry.now.survivors.now) walk.entry.now.plan.now) (projection_rows walk.entry.now.survivors.now.catalog (contents_of walk.entry.now.survivors.now) walk.entry.now.plan.now.anchor))) }
-            ensures err { IfErr result (λ fault. MemoryOr fault ((at : Stray) × (walked walk.entry.now.survivors.now.catalog (contents_of walk.entry.now.survivors.now) walk.entry.now.plan.now ≡ Err at) × (fault ≡ FaultData.Astray at.0 at.1 at.2))) }
+            requires { length (anchor_rows walk.now) ≤ pieces * run.now.cut }
+            ensures ok { OnOk result (walk_result walk.entry.now ≡ Ok (walked_rows walk.entry.now)) }
+            ensures err { IfErr result (IsWalkRefusal (walk_result walk.entry.now)) }
         { follow_all(run, walk, pieces) },
         &mut || -> Result<Table<'_>, AllocError>
             requires { ReadsAnchorAlone walk.now.survivors.now.catalog walk.now.plan.now }
             ensures kinds { IfOk result (HasTableKinds walk.entry.now.survivors.now.catalog) }
-            ensures rows { IfOk result (λ table. table.rows ≡ map (walked_row walk.entry.now.survivors.now.catalog (contents_of walk.entry.now.survivors.now) walk.entry.now.plan.now) (projection_rows walk.entry.now.survivors.now.catalog (contents_of walk.entry.now.survivors.now) walk.entry.now.plan.now.anchor)) }
+            ensures rows { IfOk result (λ table. table.rows ≡ walked_rows walk.entry.now) }
         { anchor_table(run.rt, run.alloc, walk) },
     );
     match followed {

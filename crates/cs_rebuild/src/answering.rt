@@ -1,4 +1,4 @@
-//! The one way from the files of a store to what is answered of its table, beside the digests of its files.
+//! The way from the files of a store to an answer about its table, in parallel with the digests of the files.
 ghost use Rattle.std.specs.Prelude.{◌≡◌, Some, IfOk};
 ghost use Rattle.cs_store.specs.FileSet.{Files, contents_of};
 ghost use Rattle.cs_safety.specs.Safety.{IsSafe};
@@ -20,7 +20,7 @@ use std::alloc::AllocError;
 use std::marker::Sync;
 use std::thread::{Threads, join_mut};
 
-/// The least surviving file with a wrong digest. The files are let go of.
+/// The first surviving file by name with a wrong digest, if any. Releases the files.
 fn compare_digests<R: Threads + Sync, G>(
     run: &Run<'_, R, G>,
     catalog: &Catalog,
@@ -35,8 +35,8 @@ fn compare_digests<R: Threads + Sync, G>(
     unsealed
 }
 
-/// The answer, of the bodies of the files that survive, or the refusal of the least bad one. The files are let go of once they
-/// are read.
+/// The answer, given the bodies of the files that survive, or the fault of the first bad one by name. Releases the
+/// files once they are read.
 fn answer_bodies<R: Threads + Sync, G: Gate + Sync>(
     run: &Run<'_, R, G>,
     catalog: &Catalog,
@@ -56,7 +56,8 @@ fn answer_bodies<R: Threads + Sync, G: Gate + Sync>(
     }
 }
 
-/// The least wrong digest, and beside it the answer: hashing one file is sequential, and takes longer than reading it.
+/// The first file with a wrong digest and, in parallel, the answer. Hashing a file is sequential and takes longer than
+/// reading it.
 fn answer_beside<R: Threads + Sync, G: Gate + Sync>(
     run: &Run<'_, R, G>,
     catalog: &Catalog,
@@ -73,22 +74,24 @@ fn answer_beside<R: Threads + Sync, G: Gate + Sync>(
     ensures digests { IfOk result.0 (λ unsealed. (F : Files) → held_files files.old ≡ Some F → AreDigests catalog.now loss (contents_of F) unsealed) }
     ensures answer { (F : Files) → held_files shared.old ≡ Some F → IsAnswerOfRead wanted catalog.now (resealed (contents_of F)) loss result.1 }
 {
-    // of a closure over a struct of references `join` says nothing
+    // `join` guarantees nothing for a closure over a struct of references
     join_mut(
         run.rt,
         &mut || -> Result<Option<FileName>, AllocError>
             requires { (F : Files) × held_files files.now ≡ Some F }
-            ensures { IfOk result (λ unsealed. (F : Files) → held_files files.entry.now ≡ Some F → AreDigests catalog.entry.now loss (contents_of F) unsealed) }
+            ensures { IfOk result (λ unsealed. (F : Files) → held_files files.entry.now ≡ Some F
+                → AreDigests catalog.entry.now loss (contents_of F) unsealed) }
         { compare_digests(run, catalog, loss, files) },
         &mut || -> Result<Result<Answer, Fault>, Fault>
             requires { IsSafe catalog.now loss × ((F : Files) × held_files shared.now ≡ Some F) }
-            ensures { (F : Files) → held_files shared.entry.now ≡ Some F → IsAnswerOfRead wanted catalog.entry.now (resealed (contents_of F)) loss result }
+            ensures { (F : Files) → held_files shared.entry.now ≡ Some F
+                → IsAnswerOfRead wanted catalog.entry.now (resealed (contents_of F)) loss result }
         { answer_bodies(run, catalog, loss, shared, wanted) },
     )
 }
 
-/// What is answered of the files that survive a safe loss, or the refusal of the least bad one. Two readers share the files, and
-/// let go of them.
+/// What is wanted of the table that survives a safe loss, or the first fault that applies. `files` and `shared` are the
+/// same files, for two readers that release them.
 pub fn answer<R: Threads + Sync, G: Gate + Sync>(
     run: &Run<'_, R, G>,
     catalog: &Catalog,

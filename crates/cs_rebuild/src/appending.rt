@@ -1,5 +1,5 @@
-//! Joining the rows of walked pieces, a column in each thread: most of the time goes to memory that is touched for the
-//! first time.
+//! Concatenation of the rows of walked pieces, in parallel by column. Most of the time is spent on memory that is
+//! touched for the first time.
 ghost use Rattle.std.specs.Prelude.{◌≡◌, ◌<◌, All, length, slice_index_or, IfOk, None};
 ghost use Rattle.std.specs.List.{flat_map};
 ghost use Rattle.std.specs.Option.{unwrap_or};
@@ -10,7 +10,6 @@ ghost use Rattle.cs_rows.specs.TableView.{over};
 ghost use Rattle.cs_rows.specs.WalkedView.{IsWide};
 ghost use Rattle.cs_rebuild.specs.Walking.{AreLent, HasTableKinds, IsColumnOf};
 
-use crate::lending::column_count;
 use cs_rows::joining::{join_column, rows_in};
 use cs_rows::{Lent, Table, Walked};
 use cs_schema::{Catalog, Cells};
@@ -19,7 +18,7 @@ use std::alloc::{AllocError, Global};
 use std::marker::Sync;
 use std::thread::Threads;
 
-/// The cells that all pieces have in a column, or none where the column is lent.
+/// The cells of all pieces in a column, or no cells if the column is borrowed.
 fn join_unless_lent(
     alloc: Global,
     catalog: &Catalog,
@@ -30,7 +29,8 @@ fn join_unless_lent(
     requires column { c < length catalog.now.columns }
     requires kinds { All (HasTableKinds catalog.now) all.now }
     requires lent { AreLent catalog.now (flat_map (λ piece. piece.rows) all.now) lent.now }
-    ensures { IfOk result (λ cells. IsColumnOf catalog.now (flat_map (λ piece. piece.rows) all.now) c (unwrap_or (slice_index_or lent.now c None) cells)) }
+    ensures { IfOk result (λ cells. IsColumnOf catalog.now (flat_map (λ piece. piece.rows) all.now) c
+        (unwrap_or (slice_index_or lent.now c None) cells)) }
 {
     if lent.has(c) {
         return Ok(Cells::new(alloc, catalog.columns[c].kind));
@@ -38,7 +38,7 @@ fn join_unless_lent(
     join_column(alloc, catalog, all, c)
 }
 
-/// The columns of all pieces that are not lent, each joined in a thread of its own.
+/// The columns of all pieces that are not borrowed, concatenated in parallel.
 fn join_columns<R: Threads + Sync>(
     rt: &R,
     alloc: Global,
@@ -53,24 +53,26 @@ fn join_columns<R: Threads + Sync>(
     ensures wide { All IsWide all.now }
     ensures rules { IsCatalog catalog.now }
 {
-    // tells how wide the rows are
+    // for its clause on the width of the rows
     let _rows = rows_in(all);
-    (0..column_count(catalog))
+    (0..catalog.column_count())
         .into_par_iter()
-        // a column is worth a thread
+        // each column is worth a thread
         .with_min_len(1)
         .map(
             |c: usize| -> Result<Cells, AllocError>
                 requires column { c < length catalog.now.columns }
                 requires kinds { All (HasTableKinds catalog.now) all.now }
                 requires lent { AreLent catalog.now (flat_map (λ piece. piece.rows) all.now) lent.now }
-                ensures { IfOk result (λ cells. IsColumnOf catalog.entry.now (flat_map (λ piece. piece.rows) all.entry.now) c (unwrap_or (slice_index_or lent.entry.now c None) cells)) }
+                ensures { IfOk result (λ cells. IsColumnOf catalog.entry.now
+                    (flat_map (λ piece. piece.rows) all.entry.now) c
+                    (unwrap_or (slice_index_or lent.entry.now c None) cells)) }
             { join_unless_lent(alloc, catalog, all, lent, c) },
         )
         .collect::<Result<Vec<Cells>, AllocError>>(rt, alloc)?
 }
 
-/// The table of the rows of all pieces, one after the other. Columns that are lent are not joined.
+/// The table of the rows of all pieces, one after the other. Borrowed columns are not copied.
 pub fn join_table<'a, R: Threads + Sync>(
     rt: &R,
     alloc: Global,

@@ -17,7 +17,7 @@ use cs_store::{Fault, FileSet};
 use std::marker::Sync;
 use std::thread::Threads;
 
-/// Each site of a catalog.
+/// All sites of a catalog.
 fn every_site(catalog: &Catalog) -> Loss
     ensures { result ≡ sites_of catalog.now }
 {
@@ -29,12 +29,12 @@ fn every_site(catalog: &Catalog) -> Loss
     loss
 }
 
-/// The files of a new store that holds the table of some rows, which come in any order, as a column of cells for each column
-/// of the table (`are_columns` tells whether they are that). No column is copied.
+/// The files of a new store. Its table has the rows of these columns, in any order: one column of cells for each column
+/// of the table, as `are_columns` tests. No column is copied.
 ///
-/// The first refusal that applies comes: `Twice` where a primary key stands twice, `Full` of the least range with more than
-/// 1,048,576 rows. `Memory` may take the place of any answer, and does where there are more than 4,294,967,295 rows: no
-/// catalog has room for so many.
+/// Returns the first fault that applies: `Twice` if two rows have the same primary key, `Full` of the first range with
+/// more than 1,048,576 rows. `Memory` may take the place of any answer, and does if there are more than 4,294,967,295
+/// rows, for which no catalog has room.
 pub fn build<R: Threads + Sync, G: Gate + Sync>(
     run: &Run<'_, R, G>,
     catalog: &Catalog,

@@ -1,7 +1,7 @@
-//! The pieces of one column of a lost segment, encoded by the run.
+//! The pieces of one column of a lost segment, encoded as part of a round.
 ghost use Rattle.std.specs.Prelude.{◌≡◌, ◌<◌, None, length, IfOk};
 ghost use Rattle.cs_schema.specs.CatalogData.{projection};
-ghost use Rattle.cs_rebuild.specs.Joining.{ArePiecesOf, IsPieceAt};
+ghost use Rattle.cs_rebuild.specs.Joining.{ArePiecesOf, IsPieceAt, HasColumn};
 ghost use Rattle.cs_rebuild.specs.WorkLaws.{one_value};
 
 use crate::cutting::cut_of;
@@ -15,7 +15,7 @@ use std::alloc::AllocError;
 use std::marker::Sync;
 use std::thread::Threads;
 
-/// The encoding of one of a segment's columns.
+/// Encodes one of a segment's columns.
 #[derive(Drop)]
 struct ColumnWork<'a> {
     segment: &'a LostSegment<'a>,
@@ -55,16 +55,16 @@ impl Tasks for ColumnWork<'_> {
 }
 
 impl LostSegment<'_> {
-    /// The pieces of a column, encoded by the run: those of the columns before it come before them in the round.
+    /// Encodes a column in pieces, as part of the open round. The pieces come after those of the columns before it.
     pub fn encode_column<R: Threads + Sync, G: Gate + Sync>(
         &self,
         run: &Run<'_, R, G>,
         j: usize,
     ) -> Result<Vec<Piece>, AllocError>
-        requires column { j < length (projection self.now.store.now.catalog.now self.now.p).columns }
+        requires column { HasColumn self.now j }
         ensures { IfOk result (λ pieces. ArePiecesOf self.now j pieces.items) }
     {
-        // columns are few
+        // for its clause on the number of columns
         let _width = self.store.catalog.width(self.p);
         let work = ColumnWork { segment: self, j };
         match run.part((j as u32).wrapping_mul(self.per), &work) {

@@ -1,42 +1,23 @@
-//! The columns of a projection, as columns of the table, and copies of cells.
+//! The columns of a projection by their numbers in the table, and copies of cells.
 ghost use Rattle.std.specs.Prelude.{◌≡◌, ◌<◌, ℕ, IfOk, length, map, slice_index};
 ghost use Rattle.cs_schema.specs.CatalogData.{projection};
-ghost use Rattle.cs_schema.specs.CatalogRules.{IsCatalog};
 ghost use Rattle.cs_schema.specs.Rows.{cell};
 ghost use Rattle.cs_schema.specs.Values.{kind_of, values};
 
 use cs_schema::{Catalog, Cells};
 use std::alloc::{AllocError, Global};
 
-fn column_number(catalog: &Catalog, p: u16, j: usize) -> u8
-    requires projection { p < length catalog.now.projections }
-    requires column { j < length (projection catalog.now p).columns }
-    ensures { result ≡ slice_index (projection catalog.now p).columns j }
-{
-    catalog.projection(p).columns[j]
-}
-
-/// The columns of a projection, each by its number in the table.
-pub fn columns_of(catalog: &Catalog, p: u16) -> &[u8]
-    requires { p < length catalog.now.projections }
-    ensures columns { result.now ≡ (projection catalog.now p).columns }
-    ensures rules { IsCatalog catalog.now }
-{
-    catalog.projection(p).columns.as_slice()
-}
-
-/// The number in the table of a projection's column.
+/// The number in the table of the `j`-th column of a projection.
 pub fn table_column(catalog: &Catalog, p: u16, j: usize) -> usize
     requires projection { p < length catalog.now.projections }
     requires column { j < length (projection catalog.now p).columns }
     ensures number { result ≡ slice_index (projection catalog.now p).columns j }
     ensures exists { result < length catalog.now.columns }
 {
-    let _rules = catalog.projection_count();
-    column_number(catalog, p, j) as usize
+    catalog.columns_of(p)[j] as usize
 }
 
-/// Copies of the cells of a column at some places, in their order.
+/// Copies of a column's cells at these indices, in this order.
 pub fn cells_at(alloc: Global, column: &Cells, numbers: &[u32]) -> Result<Cells, AllocError>
     requires { (k : ℕ) → k < length numbers.now → slice_index numbers.now k < length (values column.now) }
     ensures kind { IfOk result (λ cells. kind_of cells ≡ kind_of column.now) }

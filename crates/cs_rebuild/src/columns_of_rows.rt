@@ -1,4 +1,4 @@
-//! Rows in columns, as they come from outside: nothing is copied of them.
+//! Rows that a caller passes in columns. Nothing is copied.
 ghost use Rattle.std.specs.Prelude.{◌≡◌, ◌↔◌, All, FitsSigned, IfOk, IsTrue};
 ghost use Rattle.std.specs.Int.{w64};
 ghost use Rattle.cs_schema.specs.Values.{IsOfKind, kind_of, values};
@@ -6,17 +6,16 @@ ghost use Rattle.cs_rows.specs.WalkedView.{AreColumns, walked_data};
 ghost use Rattle.cs_recovery.specs.Columns.{AreTableColumns};
 ghost use Rattle.cs_rebuild.specs.Building.{IsOneKind, IsShortText};
 
-use crate::lending::column_count;
 use cs_rows::{Lent, Table};
 use cs_schema::{Catalog, Cells, Texts};
 use std::alloc::{AllocError, Global};
 
-/// Whether there is one column for each column of a catalog's table, of its kind, and all have one length. `build` takes no
-/// others.
+/// Whether these are columns for `build`: one for each column of the catalog's table, of its kind, and all of the same
+/// length.
 pub fn are_columns(catalog: &Catalog, rows: &[Cells]) -> bool
     ensures { IsTrue result ↔ AreTableColumns catalog.now rows.now }
 {
-    let count = column_count(catalog);
+    let count = catalog.column_count();
     if rows.len() != count {
         return false;
     }
@@ -31,7 +30,7 @@ pub fn are_columns(catalog: &Catalog, rows: &[Cells]) -> bool
     true
 }
 
-/// Ints have 64 bits: what their type says.
+/// Establishes that ints have 64 bits, as their type says.
 fn see_ints(ints: &[i64])
     ensures { All (FitsSigned w64) ints.now }
 {
@@ -40,7 +39,7 @@ fn see_ints(ints: &[i64])
     }
 }
 
-/// Texts are UTF-8 of at most 255 bytes: what their type says.
+/// Establishes that texts are UTF-8 of at most 255 bytes, as their type says.
 fn see_texts(texts: &Texts)
     ensures { All IsShortText texts.now }
 {
@@ -49,7 +48,7 @@ fn see_texts(texts: &Texts)
     }
 }
 
-/// The cells of a column are of its kind: what its type says.
+/// Establishes that the cells of a column are of its kind, as its type says.
 fn see_cells(column: &Cells)
     ensures { IsOneKind column.now }
 {
@@ -59,7 +58,7 @@ fn see_cells(column: &Cells)
     }
 }
 
-/// The cells of each column are of its kind.
+/// Establishes that the cells of each column are of its kind.
 pub fn see_columns(rows: &[Cells])
     ensures { All IsOneKind rows.now }
 {
@@ -68,7 +67,7 @@ pub fn see_columns(rows: &[Cells])
     }
 }
 
-/// The rows of columns, which are lent.
+/// The rows of these columns, all borrowed.
 pub fn lend_columns<'a>(alloc: Global, rows: &'a [Cells]) -> Result<Table<'a>, AllocError>
     requires { AreColumns rows.now }
     ensures { IfOk result (λ table. table ≡ walked_data rows.now) }

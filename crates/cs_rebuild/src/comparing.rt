@@ -1,4 +1,4 @@
-//! Comparing an image with rows of the table: a large one in several threads.
+//! Comparing an image with rows of the table. A large image is compared by several threads.
 ghost use Rattle.std.specs.Prelude.{◌≡◌, ◌<◌, ◌≤◌, ◌↔◌, ℕ, IsTrue, List, length, map, slice_index};
 ghost use Rattle.cs_schema.specs.declared.cells.Value.{Value};
 ghost use Rattle.cs_schema.specs.CatalogData.{projection};
@@ -10,16 +10,13 @@ ghost use Rattle.cs_delta.specs.Image.{image_rows};
 ghost use Rattle.cs_order.specs.Orders.{row_at};
 ghost use Rattle.cs_rebuild.specs.Comparing.{AreAlike, AreBeside, AreComparable, IsColumnThere};
 
-use crate::columns::columns_of;
+use crate::thresholds::PART;
 use cs_delta::Image;
 use cs_rows::Table;
 use cs_schema::{Catalog, Cells};
 use std::thread::{Threads, join};
 
-/// How many cells or entries one thread compares.
-pub(crate) const PART: u32 = 131_072;
-
-/// Whether cells are, from a start up to an end, those of a column at the rows of these numbers.
+/// Whether the cells `start..end` equal those of a column at the rows with these numbers.
 fn has_cells(cells: &Cells, column: &Cells, numbers: &[u32], start: usize, end: usize) -> bool
     requires beside { AreBeside (values cells.now) (values column.now) numbers.now }
     requires within { end ≤ length numbers.now }
@@ -33,8 +30,8 @@ fn has_cells(cells: &Cells, column: &Cells, numbers: &[u32], start: usize, end: 
     true
 }
 
-/// Whether the first cells of a column are those of another one at the rows of these numbers, each `PART` of them compared by a
-/// thread of its own.
+/// Whether the first `end` cells equal those of a column at the rows with these numbers. Parts of `PART` cells are
+/// compared in parallel.
 fn has_first<R: Threads>(rt: &R, cells: &Cells, column: &Cells, numbers: &[u32], end: usize) -> bool
     requires beside { AreBeside (values cells.now) (values column.now) numbers.now }
     requires within { end ≤ length numbers.now }
@@ -59,7 +56,7 @@ fn has_first<R: Threads>(rt: &R, cells: &Cells, column: &Cells, numbers: &[u32],
     here && before
 }
 
-/// Whether column `j` of the image has the cells of the rows of these numbers.
+/// Whether column `j` of an image has the cells of the rows with these numbers.
 fn has_column<R: Threads>(
     rt: &R,
     image: &Image,
@@ -76,7 +73,7 @@ fn has_column<R: Threads>(
     has_first(rt, image.column(j), column, numbers, numbers.len())
 }
 
-/// Whether an image has the walked rows of these numbers, as a projection keeps them.
+/// Whether an image has the walked rows with these numbers, projected to the columns of a projection.
 pub fn has_rows<R: Threads>(
     rt: &R,
     catalog: &Catalog,
@@ -97,7 +94,7 @@ pub fn has_rows<R: Threads>(
         return false;
     }
     let width = catalog.width(p);
-    let columns = columns_of(catalog, p);
+    let columns = catalog.columns_of(p);
     for j in 0..width {
         if !has_column(rt, image, walked, columns, numbers, j) {
             return false;

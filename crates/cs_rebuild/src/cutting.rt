@@ -14,7 +14,7 @@ pub fn count_pieces(rows: usize, cut: u32) -> u32
     ((rows - 1) / cut as usize) as u32 + 1
 }
 
-/// How many pieces a column of so many rows has.
+/// The number of pieces of `cut` rows of a column with `rows` rows: at least one.
 pub fn pieces_in(rows: usize, cut: u32) -> u32
     requires rows { rows ≤ 1048576 }
     requires cut { 1 ≤ cut }
@@ -27,7 +27,7 @@ pub fn pieces_in(rows: usize, cut: u32) -> u32
     ((rows + cut as usize - 1) / cut as usize) as u32
 }
 
-/// The numbers of the k-th piece of `cut` numbers.
+/// The `k`-th piece of `cut` numbers.
 pub fn cut_of(numbers: &[u32], cut: u32, k: u32) -> &[u32]
     requires { cut ≤ 1048576 }
     ensures { result.now ≡ cut_at cut numbers.now k }

@@ -1,4 +1,4 @@
-//! The digests of surviving files, compared apart from the reading of their bodies.
+//! The digests of surviving files, compared independently of the files' bodies.
 ghost use Rattle.std.specs.Prelude.{◌≡◌, ◌<◌, IsTrue, IfOk, List, ℕ};
 ghost use Rattle.std.specs.Borrow.{Bor};
 ghost use Rattle.cs_schema.specs.FileNames.{name_cmp};
@@ -17,7 +17,7 @@ use std::cmp::Reverse;
 use std::marker::Sync;
 use std::thread::Threads;
 
-/// The files under some names, those that are there.
+/// The files under these names, as far as they exist.
 fn files_there<'a>(
     alloc: Global,
     names: &[FileName],
@@ -35,7 +35,7 @@ fn files_there<'a>(
     Ok(there)
 }
 
-/// Files in the order of their lengths, the longest first.
+/// The files by length, the longest first.
 fn longest_first<'a>(files: Vec<&'a [u8]>) -> Vec<&'a [u8]>
     ensures { (f : Bor (List ℕ)) → IsIn f files.entry.items → IsIn f result.items }
 {
@@ -44,14 +44,15 @@ fn longest_first<'a>(files: Vec<&'a [u8]>) -> Vec<&'a [u8]>
     files
 }
 
-/// The number of hashing threads for so many workers. No round waits for them, so they leave processors to the rounds.
+/// The number of hashing threads for a number of workers. No round waits for digests, so they leave processors to the
+/// rounds.
 fn digests_at_once(workers: u32) -> usize
     ensures { 0 < result }
 {
     (workers as usize / 2).max(2)
 }
 
-/// Whether each file under these names, if it is there, ends in the digest of its body. Without memory it is not told.
+/// Whether each file under these names that exists ends in the digest of its body. False if memory is refused.
 fn are_sealed<R: Threads + Sync, G>(
     run: &Run<'_, R, G>,
     names: &[FileName],
@@ -69,7 +70,7 @@ fn are_sealed<R: Threads + Sync, G>(
     }
 }
 
-/// The first of some ascending names whose file is there and does not end in the digest of its body.
+/// The first of some ascending names whose file exists and does not end in the digest of its body.
 fn first_unsealed(names: &[FileName], files: &FileSet) -> Option<FileName>
     requires { IsStrictlySortedBy name_cmp names.now }
     ensures { AreDigestsAmong (contents_of files.now) names.now result }
@@ -85,8 +86,10 @@ fn first_unsealed(names: &[FileName], files: &FileSet) -> Option<FileName>
     None
 }
 
-/// The least surviving file that does not end in the digest of its body. Files are hashed side by side; only if one is wrong are
-/// they hashed again in the order of names.
+/// The first surviving file by name that does not end in the digest of its body, if any.
+///
+/// Files are hashed in parallel. Only if one is wrong are they hashed again, in the order of names. Fails only if
+/// memory is refused.
 pub fn least_unsealed<R: Threads + Sync, G>(
     run: &Run<'_, R, G>,
     catalog: &Catalog,

@@ -1,4 +1,4 @@
-//! What `rebuild`, `check` and `table` answer of what survives a safe loss.
+//! The answers of `rebuild`, `check` and `table` about what survives a safe loss.
 ghost use Rattle.std.specs.Prelude.{◌≡◌};
 ghost use Rattle.cs_schema.specs.FileNames.{FileContents};
 ghost use Rattle.cs_safety.specs.Safety.{IsSafe};
@@ -71,7 +71,7 @@ fn table_columns<R: Threads + Sync, G: Gate + Sync>(
         Ok(store) => store,
         Err(fault) => return Err(fault),
     };
-    // the orders are let go of before the rows are copied
+    // the orders are freed before the rows are copied
     let OrderedStore { walked, .. } = store.into_ordered();
     match rows_by_key(run, catalog, walked) {
         Ok(columns) => Ok(Answer::Columns(columns)),
@@ -79,7 +79,7 @@ fn table_columns<R: Threads + Sync, G: Gate + Sync>(
     }
 }
 
-/// What is wanted of the table that survives a safe loss, or the fault of the survivors.
+/// What is wanted of the table that survives a safe loss, or the first fault of the survivors.
 pub fn answer_survivors<R: Threads + Sync, G: Gate + Sync>(
     run: &Run<'_, R, G>,
     catalog: &Catalog,

@@ -1,5 +1,5 @@
 //! Reading the bodies of one segment's files.
-ghost use Rattle.std.specs.Prelude.{◌≡◌, ◌<◌, ℕ, None, Some, Err, List, map, IfOk, IfErr};
+ghost use Rattle.std.specs.Prelude.{◌≡◌, ℕ, None, Some, Err, List, map, IfOk, IfErr};
 ghost use Rattle.cs_schema.specs.CatalogData.{HasSegment};
 ghost use Rattle.cs_schema.specs.CatalogRules.{IsCatalog};
 ghost use Rattle.cs_schema.specs.Lists.{IsIn};
@@ -11,8 +11,10 @@ ghost use Rattle.cs_jix.specs.JoinIndex.{Place};
 ghost use Rattle.cs_recovery.specs.Contents.{IsJoinOf};
 ghost use Rattle.cs_segment.specs.SegmentData.{IsSegmentOf};
 ghost use Rattle.cs_segment.specs.SegmentFile.{Base, IsSegmentFile, sealed};
-ghost use Rattle.cs_rebuild.specs.Reading.{file_refusal, IsRefused, HoldsBase, HoldsChanges, IsKindedImageOf, IsFirstBadOf, IsFirstBadJoin, IsBaseRead, AreOthersRead, AreSoundFiles, AreFilesOf, joins_of, resealed};
+ghost use Rattle.cs_rebuild.specs.Reading.{file_refusal, joins_of, resealed};
+ghost use Rattle.cs_rebuild.specs.Reading.{AreFilesOf, AreSoundFiles, IsFirstBadJoin, IsFirstBadOf, IsKindedImageOf};
 
+use crate::thresholds::WORTH_THREADS;
 use cs_delta::{Delta, Image, merge_owned, read_delta_text};
 use cs_jix::{JoinIndex, read_jix_text};
 use cs_schema::{Catalog, FileName};
@@ -23,10 +25,7 @@ use cs_store::{Fault, FileSet};
 use std::alloc::Global;
 use std::thread::{Threads, join_mut};
 
-/// How many bytes of a segment's file are worth the start of threads.
-const WORTH_THREADS: usize = 524_288;
-
-/// The body of the file under a name: all but the digest at its end.
+/// The body of the file under a name: all except the digest at its end.
 fn body_of(files: &FileSet, name: FileName) -> Result<&[u8], Fault>
     ensures ok { IfOk result (λ body. resealed (contents_of files.now) name ≡ Some (sealed body.now)) }
     ensures err { IfErr result (λ fault. (resealed (contents_of files.now) name ≡ None) × (fault ≡ FaultData.Missing name)) }
@@ -37,7 +36,7 @@ fn body_of(files: &FileSet, name: FileName) -> Result<&[u8], Fault>
     }
 }
 
-/// How a file that could not be read is refused.
+/// The fault of a store in which this file cannot be read.
 fn refusal(name: FileName, fault: FileFault) -> Fault
     ensures { result ≡ file_refusal name fault }
 {
@@ -47,7 +46,7 @@ fn refusal(name: FileName, fault: FileFault) -> Fault
     }
 }
 
-/// What the files of a segment hold: its image, and its join indexes with their targets.
+/// What the files of a segment hold: its image, and its join indexes with the numbers of their targets.
 #[derive(Drop)]
 pub struct SegmentFiles {
     pub image: Image,
@@ -60,7 +59,7 @@ pub(crate) struct SegmentSource<'a> {
     pub(crate) alloc: Global,
     pub(crate) catalog: &'a Catalog,
     pub(crate) files: &'a FileSet,
-    /// Whether a large file is read by threads of its own.
+    /// Whether several threads may read a large segment file.
     pub(crate) in_threads: bool,
     pub(crate) p: u16,
     pub(crate) s: u16,
@@ -68,6 +67,8 @@ pub(crate) struct SegmentSource<'a> {
 }
 
 impl SegmentSource<'_> {
+    ghost use Rattle.cs_rebuild.specs.SegmentSources.{AreOtherResults, IsBaseResult, IsFileRefusal, ReadsBase, ReadsChanges, bodies_of};
+
     /// The name of the segment file.
     fn base_name(&self) -> FileName
         ensures { result ≡ NameData.Seg self.now.p self.now.s }
@@ -91,8 +92,10 @@ impl SegmentSource<'_> {
     /// The segment whose file has this body.
     fn segment_of<R: Threads>(&self, rt: &R, body: &[u8]) -> Result<Segment, FileFault>
         ensures found { IfOk result (IsSegmentOf self.now.catalog.now self.now.p self.now.s (sealed body.now)) }
-        ensures refused { result ≡ Err FileFault.Damaged → (b : Base) → IsSegmentFile self.now.catalog.now self.now.p self.now.s (sealed body.now) b → ⊥ }
-        ensures only { IfOk result (λ segment. (b : Base) → IsSegmentFile self.now.catalog.now self.now.p self.now.s (sealed body.now) b → b ≡ segment.base) }
+        ensures refused { result ≡ Err FileFault.Damaged → (b : Base)
+            → IsSegmentFile self.now.catalog.now self.now.p self.now.s (sealed body.now) b → ⊥ }
+        ensures only { IfOk result (λ segment. (b : Base) → IsSegmentFile self.now.catalog.now self.now.p
+            self.now.s (sealed body.now) b → b ≡ segment.base) }
     {
         if self.in_threads && body.len() >= WORTH_THREADS {
             return par_read_text(rt, self.alloc, self.catalog, self.p, self.s, body);
@@ -102,8 +105,8 @@ impl SegmentSource<'_> {
 
     /// Reads the segment file.
     fn read_base<R: Threads>(&self, rt: &R) -> Result<Segment, Fault>
-        ensures ok { IfOk result (HoldsBase self.now.catalog.now (resealed (contents_of self.now.files.now)) self.now.p self.now.s) }
-        ensures err { IfErr result (λ fault. MemoryOr fault (IsRefused self.now.catalog.now (resealed (contents_of self.now.files.now)) (NameData.Seg self.now.p self.now.s) fault)) }
+        ensures ok { IfOk result (ReadsBase self.now) }
+        ensures err { IfErr result (IsFileRefusal self.now (NameData.Seg self.now.p self.now.s)) }
     {
         let name = self.base_name();
         let body = match body_of(self.files, name) {
@@ -118,8 +121,8 @@ impl SegmentSource<'_> {
 
     /// Reads the delta.
     fn read_changes(&self) -> Result<Delta, Fault>
-        ensures ok { IfOk result (HoldsChanges self.now.catalog.now (resealed (contents_of self.now.files.now)) self.now.p self.now.s) }
-        ensures err { IfErr result (λ fault. MemoryOr fault (IsRefused self.now.catalog.now (resealed (contents_of self.now.files.now)) (NameData.Del self.now.p self.now.s) fault)) }
+        ensures ok { IfOk result (ReadsChanges self.now) }
+        ensures err { IfErr result (IsFileRefusal self.now (NameData.Del self.now.p self.now.s)) }
     {
         let name = self.delta_name();
         let body = match body_of(self.files, name) {
@@ -134,8 +137,8 @@ impl SegmentSource<'_> {
 
     /// Reads the join index to a projection.
     fn read_join(&self, q: u16) -> Result<JoinIndex, Fault>
-        ensures ok { IfOk result (IsJoinOf (resealed (contents_of self.now.files.now)) self.now.p self.now.s q) }
-        ensures err { IfErr result (λ fault. MemoryOr fault (IsRefused self.now.catalog.now (resealed (contents_of self.now.files.now)) (NameData.Jix self.now.p self.now.s q) fault)) }
+        ensures ok { IfOk result (IsJoinOf (bodies_of self.now) self.now.p self.now.s q) }
+        ensures err { IfErr result (IsFileRefusal self.now (NameData.Jix self.now.p self.now.s q)) }
     {
         let name = FileName::Jix {
             p: self.p,
@@ -152,13 +155,13 @@ impl SegmentSource<'_> {
         }
     }
 
-    /// The image of the segment. A delta that cannot be merged is damaged.
+    /// The image of the segment. A delta that does not fit its segment is damaged.
     fn merge_image(&self, segment: Segment, delta: &Delta) -> Result<Image, Fault>
-        requires base { HoldsBase self.now.catalog.now (resealed (contents_of self.now.files.now)) self.now.p self.now.s segment }
-        requires changes { HoldsChanges self.now.catalog.now (resealed (contents_of self.now.files.now)) self.now.p self.now.s delta.now }
+        requires base { ReadsBase self.now segment }
+        requires changes { ReadsChanges self.now delta.now }
         requires rules { IsCatalog self.now.catalog.now }
-        ensures ok { IfOk result (IsKindedImageOf self.now.catalog.now (resealed (contents_of self.now.files.now)) self.now.p self.now.s) }
-        ensures err { IfErr result (λ fault. MemoryOr fault (IsRefused self.now.catalog.now (resealed (contents_of self.now.files.now)) (NameData.Del self.now.p self.now.s) fault)) }
+        ensures ok { IfOk result (IsKindedImageOf self.now.catalog.now (bodies_of self.now) self.now.p self.now.s) }
+        ensures err { IfErr result (IsFileRefusal self.now (NameData.Del self.now.p self.now.s)) }
     {
         match merge_owned(self.alloc, segment, delta) {
             Ok(image) => Ok(image),
@@ -169,8 +172,9 @@ impl SegmentSource<'_> {
     /// The join indexes, with their targets.
     fn read_joins(&self) -> Result<Vec<(u16, JoinIndex)>, Fault>
         ensures targets { IfOk result (λ joins. map (λ j. j.0) joins.items ≡ joins_of self.now.catalog.now self.now.p) }
-        ensures joins { IfOk result (λ joins. (j : ℕ × List Place) → IsIn j joins.items → IsJoinOf (resealed (contents_of self.now.files.now)) self.now.p self.now.s j.0 j.1) }
-        ensures err { IfErr result (λ fault. MemoryOr fault (IsFirstBadJoin self.now.catalog.now (resealed (contents_of self.now.files.now)) self.now.p self.now.s fault)) }
+        ensures joins { IfOk result (λ joins. (j : ℕ × List Place) → IsIn j joins.items
+            → IsJoinOf (bodies_of self.now) self.now.p self.now.s j.0 j.1) }
+        ensures err { IfErr result (λ fault. MemoryOr fault (IsFirstBadJoin self.now.catalog.now (bodies_of self.now) self.now.p self.now.s fault)) }
         ensures rules { IsCatalog self.now.catalog.now }
     {
         let mut joins = Vec::new(self.alloc);
@@ -190,15 +194,15 @@ impl SegmentSource<'_> {
         Ok(joins)
     }
 
-    /// What the delta and the join indexes hold, each whether or not the other can be read.
+    /// Reads the delta and the join indexes, each whether or not the other can be read.
     fn read_others(&self) -> (Result<Delta, Fault>, Result<Vec<(u16, JoinIndex)>, Fault>)
-        ensures others { AreOthersRead self.now.catalog.now (resealed (contents_of self.now.files.now)) self.now.p self.now.s result }
+        ensures others { AreOtherResults self.now result }
         ensures rules { IsCatalog self.now.catalog.now }
     {
         (self.read_changes(), self.read_joins())
     }
 
-    /// Whether the segment file is worth a thread of its own.
+    /// Whether the segment file is large enough for several threads.
     fn is_large(&self) -> bool {
         match self.files.get(self.base_name()) {
             Some(bytes) => bytes.len() >= WORTH_THREADS,
@@ -206,8 +210,8 @@ impl SegmentSource<'_> {
         }
     }
 
-    /// What the files hold, each whether or not another can be read. Those beside a large segment file may be read by a thread
-    /// of their own.
+    /// Reads the files, each whether or not another can be read. The delta and the join indexes may be read in parallel
+    /// with a large segment file.
     fn read_each<R: Threads>(
         &self,
         rt: &R,
@@ -215,32 +219,32 @@ impl SegmentSource<'_> {
         (Result<Delta, Fault>, Result<Vec<(u16, JoinIndex)>, Fault>),
         Result<Segment, Fault>,
     )
-        ensures others { AreOthersRead self.now.catalog.now (resealed (contents_of self.now.files.now)) self.now.p self.now.s result.0 }
-        ensures base { IsBaseRead self.now.catalog.now (resealed (contents_of self.now.files.now)) self.now.p self.now.s result.1 }
+        ensures others { AreOtherResults self.now result.0 }
+        ensures base { IsBaseResult self.now result.1 }
         ensures rules { IsCatalog self.now.catalog.now }
     {
         if !self.in_threads || !self.is_large() {
             let base = self.read_base(rt);
             return (self.read_others(), base);
         }
-        // of a closure over a struct of references `join` says nothing
+        // `join` guarantees nothing for a closure over a struct of references
         join_mut(
             rt,
             &mut || -> (Result<Delta, Fault>, Result<Vec<(u16, JoinIndex)>, Fault>)
-                ensures others { AreOthersRead self.entry.now.catalog.now (resealed (contents_of self.entry.now.files.now)) self.entry.now.p self.entry.now.s result }
+                ensures others { AreOtherResults self.entry.now result }
                 ensures rules { IsCatalog self.entry.now.catalog.now }
             { self.read_others() },
             &mut || -> Result<Segment, Fault>
-                ensures { IsBaseRead self.entry.now.catalog.now (resealed (contents_of self.entry.now.files.now)) self.entry.now.p self.entry.now.s result }
+                ensures { IsBaseResult self.entry.now result }
             { self.read_base(rt) },
         )
     }
 
-    /// What the files hold, or the refusal of the least bad one.
+    /// What the files hold, or the fault of the first bad one by name.
     pub(crate) fn read<R: Threads>(&self, rt: &R) -> Result<SegmentFiles, Fault>
-        ensures sound { IfOk result (λ _. AreSoundFiles self.now.catalog.now (resealed (contents_of self.now.files.now)) (self.now.p, self.now.s)) }
-        ensures ok { IfOk result (AreFilesOf self.now.catalog.now (resealed (contents_of self.now.files.now)) (self.now.p, self.now.s)) }
-        ensures err { IfErr result (λ fault. MemoryOr fault (IsFirstBadOf self.now.catalog.now (resealed (contents_of self.now.files.now)) (self.now.p, self.now.s) fault)) }
+        ensures sound { IfOk result (λ _. AreSoundFiles self.now.catalog.now (bodies_of self.now) (self.now.p, self.now.s)) }
+        ensures ok { IfOk result (AreFilesOf self.now.catalog.now (bodies_of self.now) (self.now.p, self.now.s)) }
+        ensures err { IfErr result (λ fault. MemoryOr fault (IsFirstBadOf self.now.catalog.now (bodies_of self.now) (self.now.p, self.now.s) fault)) }
     {
         let ((delta, joins), segment) = self.read_each(rt);
         let segment = match segment {

@@ -1,4 +1,4 @@
-//! Files dealt into groups that are about as long as one another, each for a thread that tells of its files' digests.
+//! Distribution of files over groups of about the same length. Each group is hashed by one thread.
 ghost use Rattle.std.specs.Prelude.{◌≡◌, ◌<◌, ◌≤◌, ℕ, List, Some, true, IsTrue, IfOk, length, slice_index_or};
 ghost use Rattle.std.specs.Borrow.{Bor};
 ghost use Rattle.std.specs.List.{slice_get};
@@ -11,7 +11,7 @@ use std::alloc::{AllocError, Global};
 use std::marker::Sync;
 use std::thread::Threads;
 
-/// The place of the least of some numbers.
+/// The index of the smallest number.
 fn least(numbers: &[usize]) -> usize
     requires { 0 < length numbers.now }
     ensures { result < length numbers.now }
@@ -25,7 +25,7 @@ fn least(numbers: &[usize]) -> usize
     found
 }
 
-/// The group of each file, of so many: the one that is the shortest so far.
+/// The group of each file: the shortest so far of `count` groups.
 fn groups_of(alloc: Global, files: &[&[u8]], count: usize) -> Result<Vec<usize>, AllocError>
     requires { 0 < count }
     ensures each { IfOk result (λ groups. length groups.items ≡ length files.now) }
@@ -42,7 +42,7 @@ fn groups_of(alloc: Global, files: &[&[u8]], count: usize) -> Result<Vec<usize>,
     Ok(groups)
 }
 
-/// The files of one group, in their order.
+/// The files of one group, in order.
 fn files_in<'a>(
     alloc: Global,
     files: &[&'a [u8]],
@@ -50,7 +50,8 @@ fn files_in<'a>(
     group: usize,
 ) -> Result<Vec<&'a [u8]>, AllocError>
     requires { length groups.now ≡ length files.now }
-    ensures { IfOk result (λ own. (k : ℕ) (f : Bor (List ℕ)) → slice_get files.now k ≡ Some f → slice_index_or groups.now k 0 ≡ group → IsIn f own.items) }
+    ensures { IfOk result (λ own. (k : ℕ) (f : Bor (List ℕ)) → slice_get files.now k ≡ Some f
+        → slice_index_or groups.now k 0 ≡ group → IsIn f own.items) }
 {
     let mut own = Vec::new(alloc);
     for i in 0..files.len() {
@@ -62,10 +63,11 @@ fn files_in<'a>(
     Ok(own)
 }
 
-/// Whether each file of one group is a sealed text. For want of memory it isn't told.
+/// Whether each file of one group ends in the digest of its body. False if memory is refused.
 fn has_sealed(alloc: Global, files: &[&[u8]], groups: &[usize], group: usize) -> bool
     requires { length groups.now ≡ length files.now }
-    ensures { IsTrue result → (k : ℕ) (f : Bor (List ℕ)) → slice_get files.now k ≡ Some f → slice_index_or groups.now k 0 ≡ group → IsSealed f.now true }
+    ensures { IsTrue result → (k : ℕ) (f : Bor (List ℕ)) → slice_get files.now k ≡ Some f
+        → slice_index_or groups.now k 0 ≡ group → IsSealed f.now true }
 {
     match files_in(alloc, files, groups, group) {
         Ok(own) => are_sealed(alloc, own.as_slice()),
@@ -73,8 +75,8 @@ fn has_sealed(alloc: Global, files: &[&[u8]], groups: &[usize], group: usize) ->
     }
 }
 
-/// Whether each of some files is a sealed text, told by so many threads: in the least time where the longest files stand first.
-/// For want of memory it isn't told.
+/// Whether each of these files ends in the digest of its body. They are hashed in `at_once` groups in parallel, which
+/// is fastest if the longest files come first. False if memory is refused.
 pub fn are_sealed_at_once<R: Threads + Sync>(
     rt: &R,
     alloc: Global,
@@ -90,13 +92,14 @@ pub fn are_sealed_at_once<R: Threads + Sync>(
     let groups = list.as_slice();
     (0..at_once)
         .into_par_iter()
-        // a group is worth a thread
+        // each group is worth a thread
         .with_min_len(1)
         .all(
             rt,
             |group: usize| -> bool
                 requires { length groups.now ≡ length files.now }
-                ensures { IsTrue result → (k : ℕ) (f : Bor (List ℕ)) → slice_get files.entry.now k ≡ Some f → slice_index_or groups.entry.now k 0 ≡ group → IsSealed f.now true }
+                ensures { IsTrue result → (k : ℕ) (f : Bor (List ℕ)) → slice_get files.entry.now k ≡ Some f
+                    → slice_index_or groups.entry.now k 0 ≡ group → IsSealed f.now true }
             { has_sealed(alloc, files, groups, group) },
         )
 }

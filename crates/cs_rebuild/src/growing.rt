@@ -1,16 +1,15 @@
-//! Making the file of a lost segment: its columns are written one after the other, and the digest of the file takes each while
-//! the next is made, but for the last ones, which wait behind the file until it is ended.
-ghost use Rattle.std.specs.Prelude.{◌≡◌, ◌<◌, ◌≤◌, ◌+◌, ◌-◌, ℕ, length, IfOk, OnOk};
+//! Making the file of a lost segment. Each column is hashed while the next one is encoded; the last ones are hashed in
+//! `finish`.
+ghost use Rattle.std.specs.Prelude.{◌≤◌, ◌+◌, ◌-◌, ◌*◌, ℕ, length, IfOk, OnOk};
 ghost use Rattle.cs_schema.specs.CatalogData.{projection};
 ghost use Rattle.cs_segment.specs.Growing.{joined};
-ghost use Rattle.cs_segment.specs.SegmentFile.{IsBase};
-ghost use Rattle.cs_rebuild.specs.Encoding.{base_at};
-ghost use Rattle.cs_rebuild.specs.Joining.{HoldsFirst, IsTextAt};
+ghost use Rattle.cs_rebuild.specs.Joining.{HoldsFirst, IsTextAt, HasBase, HasColumn};
 
 use crate::columns::table_column;
 use crate::encoding::LostSegment;
 use crate::run::Run;
 use cs_board::Gate;
+use cs_schema::limits::TEXT_BYTES;
 use cs_schema::{Cells, Code};
 use cs_segment::GrowingFile;
 use std::alloc::AllocError;
@@ -18,26 +17,36 @@ use std::marker::Sync;
 use std::mem::replace;
 use std::thread::{Threads, join_mut};
 
-/// About how many bytes the text of so many rows of a column has at most.
-fn text_room(column: &Cells, code: Code, rows: usize) -> usize {
+/// The maximum number of bytes that a row takes in an encoded column: the longest text, one byte for its length, one
+/// for rounding, and eight for the position and the length of a run.
+const ROW_BYTES: usize = TEXT_BYTES + 10;
+
+/// An estimate, on the high side, of the bytes that `rows` rows of a column take when encoded.
+fn text_room(column: &Cells, code: Code, rows: usize) -> usize
+    ensures { result ≤ 265 * rows }
+{
     let cell = match column {
         Cells::Ints(_) => 8,
-        // a byte that tells a text's length, and the mean of the lengths, rounded up
+        // a byte for the length, and the mean of the lengths, rounded up
         Cells::Texts(texts) => (texts.size() / texts.len().max(1)).saturating_add(2),
     };
-    // a run may be of one cell, and has its position and its length
+    // each cell may be a run
     let run = if code == Code::Runs { 8 } else { 0 };
-    rows.saturating_mul(cell.saturating_add(run))
+    let row = cell.saturating_add(run).min(ROW_BYTES);
+    rows.saturating_mul(row)
 }
 
-/// Whether each cell of a column is looked at for its text, so that it takes long to make.
+/// Whether a column is slow to encode, since each of its cells is looked at.
 fn is_slow(code: Code) -> bool {
     code == Code::Runs || code == Code::Bitmaps
 }
 
 impl LostSegment<'_> {
-    /// About how many bytes the texts of all columns have at most. Room that stays empty takes none of the machine's memory.
-    fn room(&self) -> usize {
+    /// An estimate, on the high side, of the bytes of all encoded columns. Room that stays unused takes no physical
+    /// memory.
+    fn room(&self) -> usize
+        ensures { result ≤ 265 * length self.now.numbers.now * length (projection self.now.store.now.catalog.now self.now.p).columns }
+    {
         let catalog = self.store.catalog;
         let mut room: usize = 0;
         for j in 0..catalog.width(self.p) {
@@ -48,8 +57,7 @@ impl LostSegment<'_> {
         room
     }
 
-    /// Puts the text of the `j`-th column at the end of the file, behind those of the columns before it, while the digest takes
-    /// it, and lets it go.
+    /// Appends the encoded column `j` to the file, after the columns before it, hashes it meanwhile, and frees it.
     fn push<R: Threads + Sync, G: Gate + Sync>(
         &self,
         run: &Run<'_, R, G>,
@@ -57,8 +65,8 @@ impl LostSegment<'_> {
         j: usize,
         text: Vec<Vec<u8>>,
     ) -> Result<(), AllocError>
-        requires column { j < length (projection self.now.store.now.catalog.now self.now.p).columns }
-        requires base { IsBase self.now.store.now.catalog.now self.now.p (base_at self.now.store.now.catalog.now self.now.p self.now.store.now.walked.rows self.now.numbers.now) }
+        requires column { HasColumn self.now j }
+        requires base { HasBase self.now }
         requires text { IsTextAt self.now j (joined text.items) }
         ensures { OnOk result ((s : ℕ) → HoldsFirst self.now s j file.old → HoldsFirst self.now s (j + 1) file.new) }
     {
@@ -68,10 +76,10 @@ impl LostSegment<'_> {
         file.push_pieces(run.rt, code, kind, text)
     }
 
-    /// Puts the text of a column behind the file, where it waits for `finish`, and isn't looked at.
+    /// Appends an encoded column to those that wait for `finish`, without reading it.
     fn put(&self, file: &mut GrowingFile, j: usize, text: Vec<Vec<u8>>) -> Result<(), AllocError>
-        requires column { j < length (projection self.now.store.now.catalog.now self.now.p).columns }
-        requires base { IsBase self.now.store.now.catalog.now self.now.p (base_at self.now.store.now.catalog.now self.now.p self.now.store.now.walked.rows self.now.numbers.now) }
+        requires column { HasColumn self.now j }
+        requires base { HasBase self.now }
         requires text { IsTextAt self.now j (joined text.items) }
         ensures { OnOk result ((s : ℕ) → HoldsFirst self.now s j file.old → HoldsFirst self.now s (j + 1) file.new) }
     {
@@ -81,7 +89,7 @@ impl LostSegment<'_> {
         file.put_pieces(code, kind, text)
     }
 
-    /// Puts the text of the column before the `next`-th into the file, and makes that of the `next`-th beside.
+    /// Writes the column before `next` to the file and, in parallel, encodes `next`.
     fn push_beside<R: Threads + Sync, G: Gate + Sync>(
         &self,
         run: &Run<'_, R, G>,
@@ -89,42 +97,43 @@ impl LostSegment<'_> {
         next: usize,
         text: Vec<Vec<u8>>,
     ) -> (Result<(), AllocError>, Result<Vec<Vec<u8>>, AllocError>)
-        requires column { (1 ≤ next) × (next < length (projection self.now.store.now.catalog.now self.now.p).columns) }
-        requires base { IsBase self.now.store.now.catalog.now self.now.p (base_at self.now.store.now.catalog.now self.now.p self.now.store.now.walked.rows self.now.numbers.now) }
+        requires column { (1 ≤ next) × HasColumn self.now next }
+        requires base { HasBase self.now }
         requires text { IsTextAt self.now (next - 1) (joined text.items) }
         ensures file { OnOk result.0 ((s : ℕ) → HoldsFirst self.now s (next - 1) file.old → HoldsFirst self.now s (next - 1 + 1) file.new) }
         ensures text { IfOk result.1 (λ made. IsTextAt self.now next (joined made.items)) }
     {
         let last = next - 1;
         let mut text = text;
-        // of a closure over a struct of references `join` says nothing
+        // `join` guarantees nothing for a closure over a struct of references
         join_mut(
             run.rt,
             &mut || -> Result<(), AllocError>
-                requires { (last < length (projection self.now.store.now.catalog.now self.now.p).columns) × IsBase self.now.store.now.catalog.now self.now.p (base_at self.now.store.now.catalog.now self.now.p self.now.store.now.walked.rows self.now.numbers.now) × IsTextAt self.now last (joined text.items) }
-                ensures { OnOk result ((s : ℕ) → HoldsFirst self.entry.now s last file.entry.now → HoldsFirst self.entry.now s (last + 1) file.exit.now) }
+                requires { HasColumn self.now last × HasBase self.now × IsTextAt self.now last (joined text.items) }
+                ensures { OnOk result ((s : ℕ) → HoldsFirst self.entry.now s last file.entry.now
+                    → HoldsFirst self.entry.now s (last + 1) file.exit.now) }
             { self.push(run, file, last, replace(&mut text, Vec::new(self.alloc))) },
             &mut || -> Result<Vec<Vec<u8>>, AllocError>
-                requires { next < length (projection self.now.store.now.catalog.now self.now.p).columns }
+                requires { HasColumn self.now next }
                 ensures { IfOk result (λ made. IsTextAt self.entry.now next (joined made.items)) }
             { self.text(run, next) },
         )
     }
 
-    /// Puts the columns before the `last`-th into a file that holds none, and makes the text of the `last`-th. The digest takes
-    /// each while the next is made.
+    /// Writes the columns before `last` to an empty file, and encodes `last`. Each column is hashed while the next one
+    /// is encoded.
     fn grow_up_to<R: Threads + Sync, G: Gate + Sync>(
         &self,
         run: &Run<'_, R, G>,
         file: &mut GrowingFile,
         last: usize,
     ) -> Result<Vec<Vec<u8>>, AllocError>
-        requires last { last < length (projection self.now.store.now.catalog.now self.now.p).columns }
-        requires base { IsBase self.now.store.now.catalog.now self.now.p (base_at self.now.store.now.catalog.now self.now.p self.now.store.now.walked.rows self.now.numbers.now) }
+        requires last { HasColumn self.now last }
+        requires base { HasBase self.now }
         ensures file { OnOk result ((s : ℕ) → HoldsFirst self.now s 0 file.old → HoldsFirst self.now s last file.new) }
         ensures text { IfOk result (λ made. IsTextAt self.now last (joined made.items)) }
     {
-        // columns are few
+        // for its clause on the number of columns
         let _width = self.store.catalog.width(self.p);
         let mut text = self.text(run, 0)?;
         for next in 1..last + 1 {
@@ -135,8 +144,8 @@ impl LostSegment<'_> {
         Ok(text)
     }
 
-    /// Puts the columns before a pair, the last and the one in front of it, into a file that holds none, and makes the texts of the
-    /// pair: that of the last from the start.
+    /// Writes the columns before the last two to an empty file, and encodes those two. The last one is encoded from the
+    /// start, in parallel with the others.
     fn grow_beside<R: Threads + Sync, G: Gate + Sync>(
         &self,
         run: &Run<'_, R, G>,
@@ -146,38 +155,39 @@ impl LostSegment<'_> {
         Result<Vec<Vec<u8>>, AllocError>,
         Result<Vec<Vec<u8>>, AllocError>,
     )
-        requires last { (1 ≤ last) × (last < length (projection self.now.store.now.catalog.now self.now.p).columns) }
-        requires base { IsBase self.now.store.now.catalog.now self.now.p (base_at self.now.store.now.catalog.now self.now.p self.now.store.now.walked.rows self.now.numbers.now) }
+        requires last { (1 ≤ last) × HasColumn self.now last }
+        requires base { HasBase self.now }
         ensures file { OnOk result.0 ((s : ℕ) → HoldsFirst self.now s 0 file.old → HoldsFirst self.now s (last - 1) file.new) }
         ensures before { IfOk result.0 (λ made. IsTextAt self.now (last - 1) (joined made.items)) }
         ensures text { IfOk result.1 (λ made. IsTextAt self.now last (joined made.items)) }
     {
         let before = last - 1;
-        // of a closure over a struct of references `join` says nothing
+        // `join` guarantees nothing for a closure over a struct of references
         join_mut(
             run.rt,
             &mut || -> Result<Vec<Vec<u8>>, AllocError>
-                requires { (before < length (projection self.now.store.now.catalog.now self.now.p).columns) × IsBase self.now.store.now.catalog.now self.now.p (base_at self.now.store.now.catalog.now self.now.p self.now.store.now.walked.rows self.now.numbers.now) }
-                ensures file { OnOk result ((s : ℕ) → HoldsFirst self.entry.now s 0 file.entry.now → HoldsFirst self.entry.now s before file.exit.now) }
+                requires { HasColumn self.now before × HasBase self.now }
+                ensures file { OnOk result ((s : ℕ) → HoldsFirst self.entry.now s 0 file.entry.now
+                    → HoldsFirst self.entry.now s before file.exit.now) }
                 ensures text { IfOk result (λ made. IsTextAt self.entry.now before (joined made.items)) }
             { self.grow_up_to(run, file, before) },
             &mut || -> Result<Vec<Vec<u8>>, AllocError>
-                requires { last < length (projection self.now.store.now.catalog.now self.now.p).columns }
+                requires { HasColumn self.now last }
                 ensures { IfOk result (λ made. IsTextAt self.entry.now last (joined made.items)) }
             { self.text(run, last) },
         )
     }
 
-    /// Puts all columns, up to the last, into a file that holds none. What takes long to make is made from the start, and no worker
-    /// waits for the digest of the last ones.
+    /// Writes all columns, up to `last`, to an empty file. If the last one is slow to encode, that starts at once. No
+    /// worker waits until the last columns are hashed.
     fn grow<R: Threads + Sync, G: Gate + Sync>(
         &self,
         run: &Run<'_, R, G>,
         file: &mut GrowingFile,
         last: usize,
     ) -> Result<(), AllocError>
-        requires last { last < length (projection self.now.store.now.catalog.now self.now.p).columns }
-        requires base { IsBase self.now.store.now.catalog.now self.now.p (base_at self.now.store.now.catalog.now self.now.p self.now.store.now.walked.rows self.now.numbers.now) }
+        requires last { HasColumn self.now last }
+        requires base { HasBase self.now }
         ensures { OnOk result ((s : ℕ) → HoldsFirst self.now s 0 file.old → HoldsFirst self.now s (last + 1) file.new) }
     {
         if last > 0 && is_slow(self.store.catalog.code(self.p, last)) {
@@ -189,20 +199,20 @@ impl LostSegment<'_> {
         self.put(file, last, text)
     }
 
-    /// The file of the segment up to its digest, which may lack columns yet: to take them in needs no worker. A column is let go of
-    /// once its text stands in the file.
+    /// The file of the segment without its digest. Its last columns may still wait for `finish`, which adds them
+    /// without a worker. Each encoded column is freed once it is in the file.
     pub fn begin<R: Threads + Sync, G: Gate + Sync>(
         &self,
         run: &Run<'_, R, G>,
         s: u16,
     ) -> Result<GrowingFile, AllocError>
-        requires base { IsBase self.now.store.now.catalog.now self.now.p (base_at self.now.store.now.catalog.now self.now.p self.now.store.now.walked.rows self.now.numbers.now) }
+        requires base { HasBase self.now }
         ensures { IfOk result (HoldsFirst self.now s (length (projection self.now.store.now.catalog.now self.now.p).columns)) }
     {
         let catalog = self.store.catalog;
         let rows = self.numbers.len() as u32;
         let mut file = GrowingFile::begin(self.alloc, catalog, self.p, s, rows)?;
-        // else what stands there is copied each time that the file grows
+        // otherwise the content is copied each time the file grows
         file.reserve(self.room())?;
         self.grow(run, &mut file, catalog.width(self.p) - 1)?;
         Ok(file)

@@ -1,4 +1,4 @@
-//! A store's files while two read them at once, which may be let go of before an answer stands.
+//! The files of a store, shared by two readers. They may be released before there is an answer.
 ghost use Rattle.std.specs.Prelude.{◌≡◌, Some, None, IfOk};
 ghost use Rattle.cs_store.specs.FileSet.{Files};
 ghost use Rattle.cs_rebuild.specs.Held.{held_files};
@@ -7,19 +7,19 @@ use cs_store::FileSet;
 use std::alloc::{AllocError, Global};
 use std::sync::Arc;
 
-/// The files of a store, as one of those who read them has them.
+/// The files of a store, as one reader has them.
 #[derive(Drop)]
 pub enum Held<'a> {
-    /// They are another's, and stay.
+    /// Borrowed; the caller keeps them.
     Lent(&'a FileSet),
-    /// Their memory is free once all who share them have let go of them.
+    /// Shared: their memory is freed once each reader has released them.
     Shared(Arc<FileSet>),
-    /// They were let go of.
+    /// Released.
     Released,
 }
 
 impl<'a> Held<'a> {
-    /// The files, which were not let go of.
+    /// The files, which have not been released.
     pub fn files(&self) -> &FileSet
         requires { (files : Files) × held_files self.now ≡ Some files }
         ensures { held_files self.now ≡ Some result.now }
@@ -31,7 +31,7 @@ impl<'a> Held<'a> {
         }
     }
 
-    /// Files that two share, for each of them.
+    /// Files for two readers to share.
     pub fn shared(alloc: Global, files: FileSet) -> Result<(Held<'a>, Held<'a>), AllocError>
         ensures first { IfOk result (λ both. held_files both.0 ≡ Some files) }
         ensures second { IfOk result (λ both. held_files both.1 ≡ Some files) }
@@ -41,7 +41,7 @@ impl<'a> Held<'a> {
         Ok((Held::Shared(files), Held::Shared(others)))
     }
 
-    /// Lets go of the files.
+    /// Releases the files.
     pub fn release(&mut self)
         ensures { held_files self.new ≡ None }
     {

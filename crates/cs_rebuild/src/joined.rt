@@ -1,4 +1,5 @@
-//! Comparing the surviving join indexes with the places of their rows: a large one in several threads.
+//! Comparing the surviving join indexes with the places of their rows. A large join index is compared by several
+//! threads.
 ghost use Rattle.std.specs.Prelude.{◌≡◌, ◌<◌, ◌≤◌, ◌↔◌, ℕ, Some, None, IsTrue, IfErr, OnOk, length, not};
 ghost use Rattle.std.specs.List.{slice_get};
 ghost use Rattle.std.specs.Option.{option_and_then};
@@ -9,17 +10,16 @@ ghost use Rattle.cs_schema.specs.FileNames.{Survives};
 ghost use Rattle.cs_schema.specs.Lists.{IsIn};
 ghost use Rattle.cs_store.specs.Fault.{MemoryOr};
 ghost use Rattle.cs_recovery.specs.Holding.{agrees};
-ghost use Rattle.cs_recovery.specs.Places.{entries_for};
 ghost use Rattle.cs_recovery.specs.Verdicts.{surviving_joins, misled};
 ghost use Rattle.cs_rebuild.specs.Verifying.{JoinedFaultAt, AreLed, HasNoKeylessPlace, is_misled, misled_at, raw_entry};
 ghost use Rattle.cs_rebuild.specs.WorkLaws.{one_value};
-ghost use Rattle.cs_rebuild.specs.OnStore.{held_on, table_on};
+ghost use Rattle.cs_rebuild.specs.OnStore.{held_on, table_on, entries_on};
 
-use crate::comparing::PART;
 use crate::ordered_store::OrderedStore;
 use crate::places::Entries;
 use crate::rounds::Tasks;
 use crate::run::Run;
+use crate::thresholds::PART;
 use cs_board::{Gate, Round};
 use cs_jix::JoinIndex;
 use cs_schema::{Catalog, Loss};
@@ -27,7 +27,7 @@ use cs_store::Fault;
 use std::marker::Sync;
 use std::thread::{Threads, join_mut};
 
-/// The entry at a key, `(0, 0)` where it has no place.
+/// The entry for a key, or `(0, 0)` if the key has none.
 pub fn raw_entry(join: &JoinIndex, key: u32) -> (u16, u32)
     ensures { result ≡ raw_entry join.now key }
 {
@@ -37,7 +37,7 @@ pub fn raw_entry(join: &JoinIndex, key: u32) -> (u16, u32)
     }
 }
 
-/// Whether an entry is the expected one. Of a place in a lost segment only the segment is fixed.
+/// Whether an entry agrees with the expected place. In a lost segment, every key agrees.
 fn agrees(catalog: &Catalog, loss: Loss, q: u16, entry: (u16, u32), place: (u16, u32)) -> bool
     requires target { q < length catalog.now.projections }
     requires segment { place.0 < segments catalog.now q }
@@ -46,14 +46,14 @@ fn agrees(catalog: &Catalog, loss: Loss, q: u16, entry: (u16, u32), place: (u16,
     if entry.0 != place.0 {
         return false;
     }
-    // the catalog is asked of few: most entries are the very place
+    // most entries are exactly the place, so the catalog is seldom looked up
     if entry.1 == place.1 {
         return true;
     }
     place.1 != 0 && entry.1 >= 1 && catalog.lost(q, place.0, loss)
 }
 
-/// Whether a join index has the expected entries at the keys above one number, up to another.
+/// Whether a join index has the expected entries for the keys above `from` and up to `to`.
 fn leads_between(entries: &Entries<'_>, index: &JoinIndex, from: u32, to: u32) -> bool
     requires within { to ≤ length index.now }
     requires raw { HasNoKeylessPlace index.now }
@@ -75,7 +75,8 @@ fn leads_between(entries: &Entries<'_>, index: &JoinIndex, from: u32, to: u32) -
     true
 }
 
-/// Whether a join index has the expected entries at its first keys, so many, each `PART` of them looked at by a thread of its own.
+/// Whether a join index has the expected entries for its first `end` keys. Parts of `PART` keys are compared in
+/// parallel.
 fn leads_first<R: Threads>(rt: &R, entries: &Entries<'_>, index: &JoinIndex, end: u32) -> bool
     requires within { end ≤ length index.now }
     requires raw { HasNoKeylessPlace index.now }
@@ -85,7 +86,7 @@ fn leads_first<R: Threads>(rt: &R, entries: &Entries<'_>, index: &JoinIndex, end
         return leads_between(entries, index, 0, end);
     }
     let start = end - PART;
-    // of a closure over a struct of references `join` says nothing
+    // `join` guarantees nothing for a closure over a struct of references
     let (here, before) = join_mut(
         rt,
         &mut || -> bool
@@ -112,7 +113,7 @@ fn leads<R: Threads>(
     requires survives { Survives store.now.catalog.now store.now.loss (NameData.Jix p s q) }
     requires target { q < length store.now.catalog.now.projections }
     requires raw { HasNoKeylessPlace index.now }
-    ensures { result ≡ pointwise (agrees store.now.catalog.now store.now.loss q) index.now (entries_for store.now.catalog.now store.now.loss (held_on store.now) (table_on store.now) p s q) }
+    ensures { result ≡ pointwise (agrees store.now.catalog.now store.now.loss q) index.now (entries_on store.now p s q) }
 {
     let entries = Entries::new(store, p, s, q);
     let top = entries.top();
@@ -134,7 +135,7 @@ fn is_led<R: Threads>(rt: &R, store: &OrderedStore<'_>, p: u16, s: u16, q: u16) 
     }
 }
 
-/// The comparing of some join indexes with the places of their rows.
+/// The comparison of some join indexes with the places of their rows, one task for each join index.
 #[derive(Drop)]
 struct JoinedWork<'a, R> {
     rt: &'a R,
@@ -149,7 +150,8 @@ impl<R: Threads> Tasks for JoinedWork<'_, R> {
 
     ghost tasks = { λ work. length work.joins.now };
 
-    ghost fault_at = { λ work i fault. JoinedFaultAt work.store.now.catalog.now work.store.now.loss (held_on work.store.now) (table_on work.store.now) work.joins.now i fault };
+    ghost fault_at = { λ work i fault. JoinedFaultAt work.store.now.catalog.now work.store.now.loss
+        (held_on work.store.now) (table_on work.store.now) work.joins.now i fault };
 
     ghost answers = { λ work i out. Unit {0} };
 
@@ -166,10 +168,13 @@ impl<R: Threads> Tasks for JoinedWork<'_, R> {
         }
     }
 
-    ghost one_fault = { λ work i f g below a b. one_value (option_and_then (misled_at work.store.now.catalog.now work.store.now.loss (held_on work.store.now) (table_on work.store.now)) (slice_get work.joins.now i)) f g a b };
+    ghost one_fault = { λ work i f g below a b. one_value (option_and_then
+        (misled_at work.store.now.catalog.now work.store.now.loss (held_on work.store.now)
+        (table_on work.store.now)) (slice_get work.joins.now i)) f g a b };
 }
 
-/// Compares each surviving join index with the places of its rows.
+/// Compares each surviving join index with the places of its rows. Fails with `Misled` at the first that leads
+/// elsewhere.
 pub fn verify_joins<R: Threads + Sync, G: Gate + Sync>(
     run: &Run<'_, R, G>,
     store: &OrderedStore<'_>,
@@ -178,7 +183,8 @@ pub fn verify_joins<R: Threads + Sync, G: Gate + Sync>(
     requires few { length joins.now ≤ 1024 }
     requires joins { joins.now ≡ surviving_joins store.now.catalog.now store.now.loss }
     ensures ok { OnOk result (misled store.now.catalog.now store.now.loss (held_on store.now) (table_on store.now) ≡ None) }
-    ensures err { IfErr result (λ fault. MemoryOr fault (misled store.now.catalog.now store.now.loss (held_on store.now) (table_on store.now) ≡ Some fault)) }
+    ensures err { IfErr result (λ fault. MemoryOr fault (misled store.now.catalog.now store.now.loss
+        (held_on store.now) (table_on store.now) ≡ Some fault)) }
 {
     let work = JoinedWork {
         rt: run.rt,

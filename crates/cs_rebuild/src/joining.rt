@@ -1,12 +1,10 @@
-//! The text of a column of a lost segment: the pieces that the workers encoded are joined, or their texts stand one behind the
-//! other.
-ghost use Rattle.std.specs.Prelude.{◌≡◌, ◌<◌, ◌≤◌, ◌∷◌, ◌++◌, [], length, IfOk};
+//! An encoded column of a lost segment: its pieces concatenated, or the bytes of its pieces in turn.
+ghost use Rattle.std.specs.Prelude.{◌≡◌, ◌≤◌, ◌∷◌, ◌++◌, [], length, IfOk};
 ghost use Rattle.cs_schema.specs.declared.kinds.Code.{Code as CodeData};
-ghost use Rattle.cs_schema.specs.CatalogData.{projection, code_at, kind_at};
+ghost use Rattle.cs_schema.specs.CatalogData.{code_at, kind_at};
 ghost use Rattle.cs_piece.specs.Pieces.{IsPieceOf};
 ghost use Rattle.cs_segment.specs.Growing.{joined};
-ghost use Rattle.cs_rebuild.specs.Encoding.{values_at};
-ghost use Rattle.cs_rebuild.specs.Joining.{ArePiecesOf, IsTextAt};
+ghost use Rattle.cs_rebuild.specs.Joining.{ArePiecesOf, IsTextAt, HasColumn, column_values};
 
 use crate::encoding::LostSegment;
 use crate::run::Run;
@@ -17,7 +15,7 @@ use std::alloc::AllocError;
 use std::marker::Sync;
 use std::thread::Threads;
 
-/// Takes off what stands last.
+/// Removes and returns the last item.
 fn take_last<T>(rest: &mut Vec<T>) -> T
     requires { 1 ≤ length rest.old.items }
     ensures { rest.old.items ≡ rest.new.items ++ result ∷ [] }
@@ -29,16 +27,17 @@ fn take_last<T>(rest: &mut Vec<T>) -> T
 }
 
 impl LostSegment<'_> {
-    /// Joins the pieces of a column, from the first to the last.
+    /// Concatenates the pieces of a column, from the first to the last.
     fn join_column(&self, j: usize, pieces: Vec<Piece>) -> Result<Piece, AllocError>
-        requires column { j < length (projection self.now.store.now.catalog.now self.now.p).columns }
+        requires column { HasColumn self.now j }
         requires pieces { ArePiecesOf self.now j pieces.items }
-        ensures { IfOk result (λ piece. IsPieceOf piece (code_at self.now.store.now.catalog.now self.now.p j) (kind_at self.now.store.now.catalog.now self.now.p j) (values_at self.now.store.now.catalog.now self.now.p self.now.store.now.walked.rows j self.now.numbers.now)) }
+        ensures { IfOk result (λ piece. IsPieceOf piece (code_at self.now.store.now.catalog.now self.now.p j)
+            (kind_at self.now.store.now.catalog.now self.now.p j) (column_values self.now j)) }
     {
         let mut rest = pieces;
         rest.reverse();
         let mut column = take_last(&mut rest);
-        // the others are as long, but for the last one: so none is copied again when the next is joined
+        // the others are as long, except the last, so no piece is copied again when the next is appended
         column.reserve(self.per - 1)?;
         for _ in 1..self.per {
             let piece = take_last(&mut rest);
@@ -47,9 +46,9 @@ impl LostSegment<'_> {
         Ok(column)
     }
 
-    /// The texts of the pieces of a column of plain cells, none of which is copied.
+    /// The bytes of the pieces of a column of plain cells. None is copied.
     fn plain_text(&self, j: usize, pieces: Vec<Piece>) -> Result<Vec<Vec<u8>>, AllocError>
-        requires column { j < length (projection self.now.store.now.catalog.now self.now.p).columns }
+        requires column { HasColumn self.now j }
         requires plain { code_at self.now.store.now.catalog.now self.now.p j ≡ CodeData.Plain }
         requires pieces { ArePiecesOf self.now j pieces.items }
         ensures { IfOk result (λ text. IsTextAt self.now j (joined text.items)) }
@@ -64,9 +63,9 @@ impl LostSegment<'_> {
         Ok(text)
     }
 
-    /// The text of a column, whose pieces are joined.
+    /// The bytes of a column whose pieces are concatenated.
     fn whole_text(&self, j: usize, pieces: Vec<Piece>) -> Result<Vec<Vec<u8>>, AllocError>
-        requires column { j < length (projection self.now.store.now.catalog.now self.now.p).columns }
+        requires column { HasColumn self.now j }
         requires pieces { ArePiecesOf self.now j pieces.items }
         ensures { IfOk result (λ text. IsTextAt self.now j (joined text.items)) }
     {
@@ -76,13 +75,13 @@ impl LostSegment<'_> {
         Ok(text)
     }
 
-    /// The text of a column, in parts that follow one another.
+    /// The bytes of an encoded column, in parts that follow one another.
     pub fn text<R: Threads + Sync, G: Gate + Sync>(
         &self,
         run: &Run<'_, R, G>,
         j: usize,
     ) -> Result<Vec<Vec<u8>>, AllocError>
-        requires column { j < length (projection self.now.store.now.catalog.now self.now.p).columns }
+        requires column { HasColumn self.now j }
         ensures { IfOk result (λ text. IsTextAt self.now j (joined text.items)) }
     {
         match self.store.catalog.code(self.p, j) {

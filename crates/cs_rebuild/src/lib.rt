@@ -1,12 +1,13 @@
-//! Rebuilding what a loss takes from a store, checking a store, handing out its table, and building a new one.
+//! Rebuilding what a loss takes from a store, checking a store, returning its table, and building a new store.
 //!
-//! All run in rounds over a claim board: the surviving files are read, their rows walked to the table's rows, the table's
-//! orders found, images and join indexes compared with them, and for `rebuild` the lost files encoded. `build` begins with
-//! the rows, and encodes every file. What they answer depends on the bytes alone: not on the number of workers, nor on how
-//! the work is cut.
+//! The surviving files are read, the walk through them gives the table's rows, these are sorted, and images and join
+//! indexes are compared with them; `rebuild` then encodes the lost files. `build` starts from the rows and encodes
+//! every file. Reading, walking, comparing and encoding run in rounds over a claim board; sorting, copying of columns,
+//! hashing, and writing of join indexes run in parallel outside it. An answer depends only on the bytes: neither on the
+//! number of workers nor on how the work is cut.
 //!
-//! The steps are public too, for those who judge many losses by what was read once: `read_store`, `order_store`, `is_placed`,
-//! `places`, and rounds of `Tasks`.
+//! The steps are public for callers that judge many losses by what was read once: `read_store`, `order_store`,
+//! `is_placed`, `places`, and rounds of `Tasks`.
 #![tactic(auto)]
 
 mod affected_joins;
@@ -45,6 +46,7 @@ mod sound_files;
 mod sound_store;
 mod surviving;
 mod surviving_table;
+mod thresholds;
 mod verifying;
 mod walking;
 mod wanted;

@@ -1,4 +1,4 @@
-//! The files of lost segments, and of their deltas.
+//! The files of lost segments and of their deltas.
 ghost use Rattle.std.specs.Prelude.{◌≡◌, ◌<◌, ◌++◌, All, Some, map, length, IfOk, OnOk};
 ghost use Rattle.cs_schema.specs.CatalogData.{HasSegment, segments};
 ghost use Rattle.cs_schema.specs.Order.{rows_of};
@@ -28,7 +28,7 @@ pub enum LostFile {
     Delta { p: u16, s: u16 },
 }
 
-/// Puts a segment, where it is lost, and its delta at the end of a list.
+/// Appends a segment and its delta, if it is lost.
 fn push_lost(
     files: &mut Vec<LostFile>,
     store: &OrderedStore<'_>,
@@ -48,7 +48,7 @@ fn push_lost(
     Ok(())
 }
 
-/// Puts the lost segments of a projection and their deltas at the end of a list.
+/// Appends the lost segments of a projection and their deltas.
 fn push_projection(
     files: &mut Vec<LostFile>,
     store: &OrderedStore<'_>,
@@ -57,7 +57,9 @@ fn push_projection(
     requires projection { p < length store.now.catalog.now.projections }
     requires each { All (IsToWrite store.now) files.old.items }
     ensures each { OnOk result (All (IsToWrite store.now) files.new.items) }
-    ensures names { OnOk result (map name_of files.new.items ≡ map name_of files.old.items ++ names_in store.now.catalog.now store.now.loss p (segments store.now.catalog.now p)) }
+    ensures names { OnOk result (map name_of files.new.items
+        ≡ map name_of files.old.items ++ names_in store.now.catalog.now store.now.loss p
+        (segments store.now.catalog.now p)) }
 {
     for s in 0..store.catalog.segments(p) {
         push_lost(files, store, p, s)?;
@@ -77,7 +79,7 @@ fn listed_files(alloc: Global, store: &OrderedStore<'_>) -> Result<Vec<LostFile>
     Ok(files)
 }
 
-/// The file of a lost segment, whose columns the run encodes in one round.
+/// The file of a lost segment. Its columns are encoded in one round.
 fn segment_bytes<R: Threads + Sync, G: Gate + Sync>(
     run: &Run<'_, R, G>,
     store: &OrderedStore<'_>,
@@ -85,7 +87,9 @@ fn segment_bytes<R: Threads + Sync, G: Gate + Sync>(
     s: u16,
 ) -> Result<Vec<u8>, AllocError>
     requires segment { HasSegment store.now.catalog.now p s }
-    ensures { IfOk result (λ bytes. bytes.items ≡ segment_text store.now.catalog.now p s (base_of store.now.catalog.now p (map (project store.now.catalog.now p) (rows_of store.now.catalog.now (table_on store.now) p s)))) }
+    ensures { IfOk result (λ bytes. bytes.items ≡ segment_text store.now.catalog.now p s
+        (base_of store.now.catalog.now p (map (project store.now.catalog.now p)
+        (rows_of store.now.catalog.now (table_on store.now) p s)))) }
 {
     let _rules = store.catalog.projection_count();
     let segment = LostSegment::of(run.alloc, store, p, s, run.cut);
@@ -95,7 +99,7 @@ fn segment_bytes<R: Threads + Sync, G: Gate + Sync>(
     file.finish()
 }
 
-/// The file of a lost segment's delta: it has no changes.
+/// The file of a lost segment's delta, which has no changes.
 fn delta_bytes(
     alloc: Global,
     store: &OrderedStore<'_>,
@@ -109,7 +113,7 @@ fn delta_bytes(
     write_empty_delta(alloc, p, s, rows)
 }
 
-/// A file that is to be written, with its name.
+/// The name and the content of a file that is to be written.
 fn make_file<R: Threads + Sync, G: Gate + Sync>(
     run: &Run<'_, R, G>,
     store: &OrderedStore<'_>,
@@ -130,8 +134,8 @@ fn make_file<R: Threads + Sync, G: Gate + Sync>(
     }
 }
 
-/// The files of the lost segments and of their deltas, with their names. Each is made in a thread where one is free: one thread
-/// makes the digest of a file, which is most of the work.
+/// The names and the files of the lost segments and their deltas, made in parallel: hashing a file is sequential, and
+/// most of the work. Fails only if memory is refused.
 pub fn lost_files<R: Threads + Sync, G: Gate + Sync>(
     run: &Run<'_, R, G>,
     store: &OrderedStore<'_>,
@@ -142,7 +146,7 @@ pub fn lost_files<R: Threads + Sync, G: Gate + Sync>(
     let files = listed_files(run.alloc, store)?;
     files
         .into_par_iter()
-        // a file is worth a thread
+        // each file is worth a thread
         .with_min_len(1)
         .map(
             |file: LostFile| -> Result<(FileName, Vec<u8>), AllocError>

@@ -1,4 +1,4 @@
-//! What the later rounds stand on: the survivors, and the table's rows in their orders.
+//! What the later rounds start from: the survivors, and the table's rows in their orders.
 ghost use Rattle.std.specs.Prelude.{◌≡◌, ◌<◌, ◌^◌, length, map, None};
 ghost use Rattle.cs_schema.specs.FileNames.{FileContents};
 ghost use Rattle.cs_schema.specs.Order.{Fits};
@@ -7,13 +7,14 @@ ghost use Rattle.cs_order.specs.Orders.{AreOrdersOf};
 ghost use Rattle.cs_order.specs.Tables.{table_of};
 ghost use Rattle.cs_recovery.proofs.CatalogFacts.{IsTable-prop};
 ghost use Rattle.cs_rebuild.specs.Steps.{AreRead, row_fault};
-ghost use Rattle.cs_rebuild.specs.StoreFacts.{HaveImageRoom, HaveJoinRoom, AreImagesThere, AreJoinsThere, HaveWidths, HaveKeys, HaveTops, HaveEntries, HaveOrders, AreNumbersBelow, AreInOrder, HaveRoomInRanges};
+ghost use Rattle.cs_rebuild.specs.StoreFacts.{HaveImageRoom, HaveJoinRoom, AreImagesThere, AreJoinsThere, HaveWidths, HaveKeys, HaveTops};
+ghost use Rattle.cs_rebuild.specs.StoreFacts.{HaveEntries, HaveOrders, AreNumbersBelow, AreInOrder, HaveRoomInRanges};
 
 use cs_order::Orders;
 use cs_rows::{Survivors, Table};
 use cs_schema::{Catalog, Loss};
 
-/// What survives a loss, and the table's rows with their orders. Its facts are what pieces of work may use.
+/// What survives a loss, and the table's rows with their orders. Tasks rely on its ghost fields.
 #[derive(Drop)]
 pub struct OrderedStore<'a> {
     pub catalog: &'a Catalog,
@@ -41,7 +42,7 @@ pub struct OrderedStore<'a> {
     pub ghost ranges: { HaveRoomInRanges catalog.now orders },
 }
 
-/// The store of which this survives a loss, with its rows and their orders.
+/// What survives a loss of a store, with its rows and their orders.
 pub fn store_of<'a>(
     catalog: &'a Catalog,
     loss: Loss,

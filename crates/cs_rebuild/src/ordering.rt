@@ -12,7 +12,7 @@ use cs_store::Fault;
 use std::marker::Sync;
 use std::thread::Threads;
 
-/// The orders of the walked rows, unless a key stands twice or a range is too large.
+/// The orders of the walked rows. Fails if two rows have the same primary key or a range has too many rows.
 pub fn orders_of<R: Threads + Sync, G>(
     run: &Run<'_, R, G>,
     catalog: &Catalog,

@@ -20,7 +20,7 @@ use cs_store::Fault;
 use std::marker::Sync;
 use std::thread::Threads;
 
-/// Whether the image of a surviving segment has the table's rows in its range, in their order.
+/// Whether the image of a surviving segment has the table's rows of its range, in order.
 pub fn is_placed<R: Threads>(rt: &R, store: &OrderedStore<'_>, p: u16, s: u16) -> bool
     requires { Survives store.now.catalog.now store.now.loss (NameData.Seg p s) }
     ensures { result ≡ not (is_misplaced store.now.catalog.now (held_on store.now) (table_on store.now) (p, s)) }
@@ -32,7 +32,7 @@ pub fn is_placed<R: Threads>(rt: &R, store: &OrderedStore<'_>, p: u16, s: u16) -
     }
 }
 
-/// The comparing of some images with the table's rows.
+/// The comparison of some images with the table's rows, one task for each image.
 #[derive(Drop)]
 struct PlacedWork<'a, R> {
     rt: &'a R,
@@ -47,7 +47,8 @@ impl<R: Threads> Tasks for PlacedWork<'_, R> {
 
     ghost tasks = { λ work. length work.segments.now };
 
-    ghost fault_at = { λ work i fault. PlacedFaultAt work.store.now.catalog.now (held_on work.store.now) (table_on work.store.now) work.segments.now i fault };
+    ghost fault_at = { λ work i fault. PlacedFaultAt work.store.now.catalog.now (held_on work.store.now)
+        (table_on work.store.now) work.segments.now i fault };
 
     ghost answers = { λ work i out. Unit {0} };
 
@@ -64,10 +65,12 @@ impl<R: Threads> Tasks for PlacedWork<'_, R> {
         }
     }
 
-    ghost one_fault = { λ work i f g below a b. one_value (option_and_then (misplaced_at work.store.now.catalog.now (held_on work.store.now) (table_on work.store.now)) (slice_get work.segments.now i)) f g a b };
+    ghost one_fault = { λ work i f g below a b. one_value (option_and_then
+        (misplaced_at work.store.now.catalog.now (held_on work.store.now) (table_on work.store.now))
+        (slice_get work.segments.now i)) f g a b };
 }
 
-/// Compares each surviving image with the table's rows.
+/// Compares each surviving image with the table's rows. Fails with `Misplaced` at the first that differs.
 pub fn verify_images<R: Threads + Sync, G: Gate + Sync>(
     run: &Run<'_, R, G>,
     store: &OrderedStore<'_>,
@@ -76,7 +79,8 @@ pub fn verify_images<R: Threads + Sync, G: Gate + Sync>(
     requires few { length segments.now ≤ 128 }
     requires segments { segments.now ≡ surviving_segments store.now.catalog.now store.now.loss }
     ensures ok { OnOk result (misplaced store.now.catalog.now store.now.loss (held_on store.now) (table_on store.now) ≡ None) }
-    ensures err { IfErr result (λ fault. MemoryOr fault (misplaced store.now.catalog.now store.now.loss (held_on store.now) (table_on store.now) ≡ Some fault)) }
+    ensures err { IfErr result (λ fault. MemoryOr fault (misplaced store.now.catalog.now store.now.loss
+        (held_on store.now) (table_on store.now) ≡ Some fault)) }
 {
     let work = PlacedWork {
         rt: run.rt,

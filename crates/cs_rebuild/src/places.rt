@@ -1,4 +1,4 @@
-//! The entries of join indexes after a recovery: for each key of a segment the place of its row in another projection.
+//! The entries of join indexes after a recovery: for each key of a segment, the place of its row in another projection.
 ghost use Rattle.std.specs.Prelude.{◌≡◌, ◌<◌, ℕ, false, true, IsTrue, length, Some, MatchOption};
 ghost use Rattle.std.specs.List.{slice_get};
 ghost use Rattle.std.proofs.Props.{props};
@@ -9,23 +9,24 @@ ghost use Rattle.cs_safety.specs.Safety.{IsAlive};
 ghost use Rattle.cs_delta.specs.Image.{position_of_key};
 ghost use Rattle.cs_rows.specs.Survivors.{images_of, image_at};
 ghost use Rattle.cs_order.specs.Orders.{numbers_in, row_at};
-ghost use Rattle.cs_recovery.specs.Places.{image_after, place_of, entry_for};
-ghost use Rattle.cs_rebuild.specs.OnStore.{held_on, table_on};
+ghost use Rattle.cs_recovery.specs.Places.{place_of, entry_for};
+ghost use Rattle.cs_rebuild.specs.OnStore.{held_on, table_on, image_on};
 
 use crate::ordered_store::OrderedStore;
 use cs_delta::Image;
 use cs_safety::alive;
 
-/// The entries of a join index. What is the same for each key is looked up once, as there may be a million keys.
+/// The entries of a join index after a recovery, computed on demand. What does not depend on the key is looked up once,
+/// since there may be a million keys.
 #[derive(Drop)]
 pub struct Entries<'a> {
     pub store: &'a OrderedStore<'a>,
     pub p: u16,
     pub s: u16,
     pub q: u16,
-    /// The rows of the segment's range, in their order.
+    /// The rows of the segment's range, in order.
     pub numbers: &'a [u32],
-    /// The image of the segment, where it isn't lost.
+    /// The image of the segment, if it is not lost.
     kept: Option<&'a Image>,
     targets: &'a [Option<Image>],
     /// Whether no segment of the target is lost.
@@ -33,16 +34,20 @@ pub struct Entries<'a> {
     ghost segment: { HasSegment store.now.catalog.now p s },
     ghost target: { q < length store.now.catalog.now.projections },
     ghost numbers_are: { numbers.now ≡ numbers_in store.now.orders p s },
-    ghost kept_is: { MatchOption kept (lost store.now.catalog.now store.now.loss p s ≡ true) (λ m. (lost store.now.catalog.now store.now.loss p s ≡ false) × (image_at store.now.survivors.now p s ≡ Some m.now)) } by { Prim.hlevel props },
+    ghost kept_is: { MatchOption kept (lost store.now.catalog.now store.now.loss p s ≡ true)
+        (λ m. (lost store.now.catalog.now store.now.loss p s ≡ false)
+        × (image_at store.now.survivors.now p s ≡ Some m.now)) } by { Prim.hlevel props },
     ghost targets_are: { targets.now ≡ images_of store.now.survivors.now q },
     ghost whole_is: { IsTrue whole → IsAlive store.now.catalog.now store.now.loss q },
     ghost targets_count: { length (images_of store.now.survivors.now q) ≡ segments store.now.survivors.now.catalog q },
 }
 
-/// The image of a segment, where it isn't lost.
+/// The image of a segment, if it is not lost.
 fn kept_image<'a>(store: &OrderedStore<'a>, p: u16, s: u16) -> Option<&'a Image>
     requires { HasSegment store.now.catalog.now p s }
-    ensures { MatchOption result (lost store.now.catalog.now store.now.loss p s ≡ true) (λ m. (lost store.now.catalog.now store.now.loss p s ≡ false) × (image_at store.now.survivors.now p s ≡ Some m.now)) }
+    ensures { MatchOption result (lost store.now.catalog.now store.now.loss p s ≡ true)
+        (λ m. (lost store.now.catalog.now store.now.loss p s ≡ false)
+        × (image_at store.now.survivors.now p s ≡ Some m.now)) }
 {
     if store.catalog.lost(p, s, store.loss) {
         return None;
@@ -54,7 +59,7 @@ fn kept_image<'a>(store: &OrderedStore<'a>, p: u16, s: u16) -> Option<&'a Image>
 }
 
 impl<'a> Entries<'a> {
-    /// The entries of the join index of a segment to a projection.
+    /// The entries of the join index from a segment to a projection.
     pub fn new(store: &'a OrderedStore<'a>, p: u16, s: u16, q: u16) -> Self
         requires segment { HasSegment store.now.catalog.now p s }
         requires target { q < length store.now.catalog.now.projections }
@@ -74,9 +79,9 @@ impl<'a> Entries<'a> {
         }
     }
 
-    /// The greatest key of the segment.
+    /// The highest key ever given in the segment.
     pub fn top(&self) -> u32
-        ensures { result ≡ (image_after self.now.store.now.catalog.now self.now.store.now.loss (held_on self.now.store.now) (table_on self.now.store.now) self.now.p self.now.s).top }
+        ensures { result ≡ (image_on self.now.store.now self.now.p self.now.s).top }
     {
         match self.kept {
             Some(image) => image.top(),
@@ -84,10 +89,10 @@ impl<'a> Entries<'a> {
         }
     }
 
-    /// The position of a key in the segment.
+    /// The position of a key in the segment's image, or `None` if the key is dead.
     #[inline(always)]
     pub fn position(&self, key: u32) -> Option<u32>
-        ensures { result ≡ position_of_key (image_after self.now.store.now.catalog.now self.now.store.now.loss (held_on self.now.store.now) (table_on self.now.store.now) self.now.p self.now.s) key }
+        ensures { result ≡ position_of_key (image_on self.now.store.now self.now.p self.now.s) key }
     {
         match self.kept {
             Some(image) => image.position_of(key),
@@ -103,7 +108,7 @@ impl<'a> Entries<'a> {
         }
     }
 
-    /// Whether a segment of the target is lost. Where none is, the catalog isn't asked.
+    /// Whether a segment of the target is lost. The catalog is not looked up if none is.
     #[inline(always)]
     fn is_lost(&self, t: u16) -> bool
         requires { t < segments self.now.store.now.catalog.now self.now.q }
@@ -115,13 +120,17 @@ impl<'a> Entries<'a> {
         self.store.catalog.lost(self.q, t, self.store.loss)
     }
 
-    /// The place of a walked row in the projection: its segment, and the key that it has there.
+    /// The place of a walked row in the target projection: its segment, and the key that it has there.
     #[inline(always)]
     pub fn place(&self, row: u32) -> (u16, u32)
         requires { row < length self.now.store.now.walked.rows }
-        ensures place { result ≡ place_of self.now.store.now.catalog.now self.now.store.now.loss (held_on self.now.store.now) (table_on self.now.store.now) self.now.q (row_at self.now.store.now.walked.rows row) }
+        ensures place { result ≡ place_of self.now.store.now.catalog.now self.now.store.now.loss
+            (held_on self.now.store.now) (table_on self.now.store.now) self.now.q
+            (row_at self.now.store.now.walked.rows row) }
         ensures exists { result.0 < segments self.now.store.now.catalog.now self.now.q }
-        ensures there { (i : ℕ) × (slice_get (rows_of self.now.store.now.catalog.now (table_on self.now.store.now) self.now.q result.0) i ≡ Some (row_at self.now.store.now.walked.rows row)) }
+        ensures there { (i : ℕ) × (slice_get (rows_of self.now.store.now.catalog.now
+            (table_on self.now.store.now) self.now.q result.0) i
+            ≡ Some (row_at self.now.store.now.walked.rows row)) }
     {
         let (t, index) = self.store.orders.place(self.q, row);
         if self.is_lost(t) {
@@ -139,10 +148,11 @@ impl<'a> Entries<'a> {
         }
     }
 
-    /// The entry at a key: the place of its row, or none where the key is dead.
+    /// The entry for a key: the place of its row, or `(0, 0)` if the key is dead.
     #[inline(always)]
     pub fn at(&self, key: u32) -> (u16, u32)
-        ensures entry { result ≡ entry_for self.now.store.now.catalog.now self.now.store.now.loss (held_on self.now.store.now) (table_on self.now.store.now) self.now.p self.now.s self.now.q key }
+        ensures entry { result ≡ entry_for self.now.store.now.catalog.now self.now.store.now.loss
+            (held_on self.now.store.now) (table_on self.now.store.now) self.now.p self.now.s self.now.q key }
         ensures exists { result.0 < segments self.now.store.now.catalog.now self.now.q }
     {
         match self.position(key) {

@@ -1,11 +1,9 @@
 //! The walk of a plan, by whole projections.
-ghost use Rattle.std.specs.Prelude.{◌≡◌, ◌<◌, ◌≤◌, ◌^◌, ℕ, length, Ok, Err, IfOk, IfErr};
-ghost use Rattle.cs_store.specs.Fault.{MemoryOr};
-ghost use Rattle.cs_store.specs.declared.fault.Fault.{Fault as FaultData};
+ghost use Rattle.std.specs.Prelude.{◌≡◌, ◌<◌, ◌≤◌, ◌^◌, length, Ok, IfOk, IfErr};
 ghost use Rattle.cs_rows.specs.Survivors.{contents_of};
-ghost use Rattle.cs_rows.specs.Walk.{Stray, projection_rows, walked};
-ghost use Rattle.cs_rebuild.specs.Walking.{HasTableKinds, WalkFaultAt, WalkAnswerAt};
+ghost use Rattle.cs_rebuild.specs.Walking.{HasTableKinds, WalkFaultAt, WalkAnswerAt, IsWalkRefusal};
 ghost use Rattle.cs_rebuild.specs.WorkLaws.{one_value};
+ghost use Rattle.cs_rows.specs.PlanWalks.{anchor_rows, walk_result};
 
 use crate::anchored::walk_anchored;
 use crate::appending::join_table;
@@ -21,7 +19,7 @@ use std::alloc::Global;
 use std::marker::Sync;
 use std::thread::Threads;
 
-/// The walk of the anchor's rows along a plan, in pieces of `cut` rows.
+/// Walks the anchor's rows along a plan, in pieces of `cut` rows.
 #[derive(Drop)]
 struct PlannedWork<'a> {
     alloc: Global,
@@ -36,9 +34,11 @@ impl Tasks for PlannedWork<'_> {
 
     ghost tasks = { λ work. work.pieces };
 
-    ghost fault_at = { λ work i fault. WalkFaultAt work.walk.now.survivors.now.catalog (contents_of work.walk.now.survivors.now) work.walk.now.plan.now work.cut i fault };
+    ghost fault_at = { λ work i fault. WalkFaultAt work.walk.now.survivors.now.catalog
+        (contents_of work.walk.now.survivors.now) work.walk.now.plan.now work.cut i fault };
 
-    ghost answers = { λ work i walked. WalkAnswerAt work.walk.now.survivors.now.catalog (contents_of work.walk.now.survivors.now) work.walk.now.plan.now work.cut i walked };
+    ghost answers = { λ work i walked. WalkAnswerAt work.walk.now.survivors.now.catalog
+        (contents_of work.walk.now.survivors.now) work.walk.now.plan.now work.cut i walked };
 
     fn count(&self) -> u32 {
         self.pieces
@@ -57,15 +57,15 @@ impl Tasks for PlannedWork<'_> {
     ghost one_fault = { λ work i f g below a b. one_value _ f g a b };
 }
 
-/// The rows to which all rows of a plan's anchor lead.
+/// The rows to which the rows of a plan's anchor lead, or the fault of the first that is led astray.
 pub fn walk_planned<'a, R: Threads + Sync, G: Gate + Sync>(
     run: &Run<'_, R, G>,
     walk: &PlanWalk<'_, 'a>,
 ) -> Result<Table<'a>, Fault>
-    requires few { length (projection_rows walk.now.survivors.now.catalog (contents_of walk.now.survivors.now) walk.now.plan.now.anchor) < 2 ^ 32 }
+    requires few { length (anchor_rows walk.now) < 2 ^ 32 }
     ensures kinds { IfOk result (HasTableKinds walk.now.survivors.now.catalog) }
-    ensures rows { IfOk result (λ rows. walked walk.now.survivors.now.catalog (contents_of walk.now.survivors.now) walk.now.plan.now ≡ Ok rows.rows) }
-    ensures err { IfErr result (λ fault. MemoryOr fault ((at : Stray) × (walked walk.now.survivors.now.catalog (contents_of walk.now.survivors.now) walk.now.plan.now ≡ Err at) × (fault ≡ FaultData.Astray at.0 at.1 at.2))) }
+    ensures rows { IfOk result (λ rows. walk_result walk.now ≡ Ok rows.rows) }
+    ensures err { IfErr result (IsWalkRefusal (walk_result walk.now)) }
 {
     let survivors = walk.survivors;
     let pieces = count_pieces(walk.anchor_rows(), run.cut);

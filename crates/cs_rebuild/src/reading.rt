@@ -29,7 +29,7 @@ use std::alloc::Global;
 use std::marker::Sync;
 use std::thread::Threads;
 
-/// The reading of the files of some segments.
+/// Reads the files of some segments.
 #[derive(Drop)]
 struct FilesWork<'w, 'a, R> {
     rt: &'w R,
@@ -63,7 +63,7 @@ impl<R: Threads> Tasks for FilesWork<'_, '_, R> {
             alloc: self.alloc,
             catalog: self.catalog,
             files: self.files,
-            // else the other workers have work of their own
+            // before that, the other workers have segments of their own
             in_threads: left <= self.workers as usize,
             p,
             s,
@@ -74,15 +74,19 @@ impl<R: Threads> Tasks for FilesWork<'_, '_, R> {
         }
     }
 
-    ghost one_fault = { λ work i f g below a b. one_files_fault work.catalog.now (resealed (contents_of work.files.now)) work.segments.now i f g a b };
+    ghost one_fault = { λ work i f g below a b. one_files_fault work.catalog.now
+        (resealed (contents_of work.files.now)) work.segments.now i f g a b };
 }
 
 impl<'a, R> FilesWork<'_, 'a, R> {
-    /// Keeps what the files of all segments hold.
+    /// Stores what the files of all segments hold.
     fn keep_all(&self, all: Vec<SegmentFiles>) -> Result<Survivors<'a>, Fault>
         requires count { length all.items ≡ length self.now.segments.now }
-        requires each { AnswersInOrder (FilesAnswerAt self.now.catalog.now (resealed (contents_of self.now.files.now)) self.now.segments.now) all.items }
-        ensures ok { IfOk result (λ kept. (L : Sites) → ((a : ℕ × ℕ) → IsIn a (surviving_segments self.now.catalog.now L) → IsIn a self.now.segments.now) → AreRead self.now.catalog.now (resealed (contents_of self.now.files.now)) L kept) }
+        requires each { AnswersInOrder (FilesAnswerAt self.now.catalog.now
+            (resealed (contents_of self.now.files.now)) self.now.segments.now) all.items }
+        ensures ok { IfOk result (λ kept. (L : Sites) → ((a : ℕ × ℕ)
+            → IsIn a (surviving_segments self.now.catalog.now L) → IsIn a self.now.segments.now)
+            → AreRead self.now.catalog.now (resealed (contents_of self.now.files.now)) L kept) }
         ensures err { IfErr result (λ fault. fault ≡ FaultData.Memory) }
     {
         let mut survivors = match Survivors::new(self.alloc, self.catalog) {
@@ -98,7 +102,7 @@ impl<'a, R> FilesWork<'_, 'a, R> {
     }
 }
 
-/// What the bodies of the files of some segments hold, or the refusal of the first segment with a bad body.
+/// What the bodies of the files of some segments hold, or the fault of the first segment with a bad body.
 fn read_segments<'a, R: Threads + Sync, G: Gate + Sync>(
     run: &Run<'_, R, G>,
     catalog: &'a Catalog,
@@ -107,8 +111,10 @@ fn read_segments<'a, R: Threads + Sync, G: Gate + Sync>(
 ) -> Result<Survivors<'a>, Fault>
     requires few { length segments.now ≤ 128 }
     requires exist { (a : ℕ × ℕ) → IsIn a segments.now → HasSegment catalog.now a.0 a.1 }
-    ensures ok { IfOk result (λ kept. (L : Sites) → ((a : ℕ × ℕ) → IsIn a (surviving_segments catalog.now L) → IsIn a segments.now) → AreRead catalog.now (resealed (contents_of files.now)) L kept) }
-    ensures err { IfErr result (λ fault. MemoryOr fault (IsFirstFault (FilesFaultAt catalog.now (resealed (contents_of files.now)) segments.now) (length segments.now) fault)) }
+    ensures ok { IfOk result (λ kept. (L : Sites) → ((a : ℕ × ℕ) → IsIn a (surviving_segments catalog.now L)
+        → IsIn a segments.now) → AreRead catalog.now (resealed (contents_of files.now)) L kept) }
+    ensures err { IfErr result (λ fault. MemoryOr fault (IsFirstFault
+        (FilesFaultAt catalog.now (resealed (contents_of files.now)) segments.now) (length segments.now) fault)) }
 {
     let _rules = catalog.projection_count();
     let work = FilesWork {
@@ -125,7 +131,8 @@ fn read_segments<'a, R: Threads + Sync, G: Gate + Sync>(
     }
 }
 
-/// What the bodies of the files that survive a loss hold, whatever their digests are, or the refusal of the least bad one.
+/// What the bodies of the files that survive a loss hold, whatever their digests are, or the fault of the first bad one
+/// by name.
 pub fn read_bodies<'a, R: Threads + Sync, G: Gate + Sync>(
     run: &Run<'_, R, G>,
     catalog: &'a Catalog,
@@ -141,7 +148,7 @@ pub fn read_bodies<'a, R: Threads + Sync, G: Gate + Sync>(
     }
 }
 
-/// Keeps what the files of one segment hold.
+/// Stores what the files of one segment hold.
 fn keep(survivors: &mut Survivors<'_>, p: u16, s: u16, held: SegmentFiles)
     requires exists { HasSegment survivors.old.catalog p s }
     requires kinds { held.image.kinds ≡ kinds_at survivors.old.catalog p }

@@ -1,4 +1,4 @@
-//! Recovery, the check and the table of a store.
+//! Recovering, checking and returning the table of a store.
 ghost use Rattle.std.specs.Prelude.{◌≡◌, ◌≤◌, Some};
 ghost use Rattle.cs_store.specs.FileSet.{Files, contents_of};
 ghost use Rattle.cs_recovery.specs.Claims.{IsRebuildAnswer, IsCheckAnswer};
@@ -19,12 +19,12 @@ use std::alloc::Global;
 use std::marker::Sync;
 use std::thread::Threads;
 
-/// The files that recover what a loss takes from a store: the lost segments with their deltas and join indexes, and the
-/// join indexes that lead to lost segments. Only the files of surviving segments are looked at. `cut` is the number of
-/// rows of a piece of work.
+/// Recovers the files that a loss takes from a store: the lost segments with their deltas and join indexes, and the
+/// surviving join indexes into projections with a lost segment. Only the files of surviving segments are read. In each
+/// round `workers` workers (1 to 64) share pieces of `cut` rows (1 to 1,048,576); neither number changes the answer.
 ///
-/// The first refusal that applies comes: `Site`, `Unsafe`, `Missing` or `Damaged` of the least such file, `Astray`, `Twice`,
-/// `Full`, `Misplaced`, `Misled`. `Memory` may take the place of any answer.
+/// Returns the first fault that applies: `Site`, `Unsafe`, `Missing` or `Damaged` of the first such file by name,
+/// `Astray`, `Twice`, `Full`, `Misplaced`, `Misled`. `Memory` may take the place of any answer.
 pub fn rebuild<R: Threads + Sync>(
     rt: &R,
     alloc: Global,
@@ -42,7 +42,10 @@ pub fn rebuild<R: Threads + Sync>(
     rebuild_gated(rt, alloc, catalog, files, loss, workers, cut, &OpenGate)
 }
 
-/// `rebuild`, where the gate is told of each piece as it is begun.
+/// Recovers the files that a loss takes from a store, and tells the gate of each round as it opens and of each piece as
+/// it begins.
+///
+/// The files and the faults are those of `rebuild`.
 pub fn rebuild_gated<R: Threads + Sync, G: Gate + Sync>(
     rt: &R,
     alloc: Global,
@@ -68,8 +71,10 @@ pub fn rebuild_gated<R: Threads + Sync, G: Gate + Sync>(
     rebuild_held(&run, catalog, loss, Held::Lent(files), Held::Lent(files))
 }
 
-/// `rebuild_gated`, of files whose memory is free again as soon as they are read and their digests found right: so less is
-/// there at once.
+/// Recovers the files that a loss takes from a store, with less memory: the store's files are freed once they are read
+/// and their digests are compared.
+///
+/// The files and the faults are those of `rebuild`.
 pub fn rebuild_owned<R: Threads + Sync, G: Gate + Sync>(
     run: &Run<'_, R, G>,
     catalog: &Catalog,
@@ -87,7 +92,7 @@ pub fn rebuild_owned<R: Threads + Sync, G: Gate + Sync>(
     }
 }
 
-/// `rebuild`, of the files of a store as two readers share them.
+/// The answer of `rebuild`, given the files for two readers.
 fn rebuild_held<R: Threads + Sync, G: Gate + Sync>(
     run: &Run<'_, R, G>,
     catalog: &Catalog,
@@ -118,10 +123,12 @@ fn rebuild_held<R: Threads + Sync, G: Gate + Sync>(
     }
 }
 
-/// The number of rows of a store that is sound, and safe for losses of at most `k` sites.
+/// Checks a store, and returns the number of rows of its table if it is sound, and safe for losses of at most `k`
+/// sites. In each round `workers` workers (1 to 64) share pieces of `cut` rows (1 to 1,048,576); neither number changes
+/// the answer.
 ///
-/// The first refusal that applies comes: `BadK`, `Unsafe` with the first loss that isn't safe, then those of `rebuild`
-/// where nothing is lost. `Memory` may take the place of any answer.
+/// Returns the first fault that applies: `BadK`, `Unsafe` with the first loss that is not safe, then those of `rebuild`
+/// for the empty loss. `Memory` may take the place of any answer.
 pub fn check<R: Threads + Sync>(
     rt: &R,
     alloc: Global,
@@ -139,7 +146,9 @@ pub fn check<R: Threads + Sync>(
     check_gated(rt, alloc, catalog, files, k, workers, cut, &OpenGate)
 }
 
-/// `check`, where the gate is told of each piece as it is begun.
+/// Checks a store, and tells the gate of each round as it opens and of each piece as it begins.
+///
+/// The number of rows and the faults are those of `check`.
 pub fn check_gated<R: Threads + Sync, G: Gate + Sync>(
     rt: &R,
     alloc: Global,
@@ -165,7 +174,9 @@ pub fn check_gated<R: Threads + Sync, G: Gate + Sync>(
     check_held(&run, catalog, k, Held::Lent(files), Held::Lent(files))
 }
 
-/// `check_gated`, of files whose memory is free again as soon as they are read and their digests found right.
+/// Checks a store, with less memory: its files are freed once they are read and their digests are compared.
+///
+/// The number of rows and the faults are those of `check`.
 pub fn check_owned<R: Threads + Sync, G: Gate + Sync>(
     run: &Run<'_, R, G>,
     catalog: &Catalog,
@@ -182,7 +193,7 @@ pub fn check_owned<R: Threads + Sync, G: Gate + Sync>(
     }
 }
 
-/// `check`, of the files of a store as two readers share them.
+/// The answer of `check`, given the files for two readers.
 fn check_held<R: Threads + Sync, G: Gate + Sync>(
     run: &Run<'_, R, G>,
     catalog: &Catalog,
@@ -216,7 +227,7 @@ fn check_held<R: Threads + Sync, G: Gate + Sync>(
     }
 }
 
-/// How a catalog that is not safe is refused.
+/// The fault of a catalog that is not safe.
 fn safety_refusal(fault: SafetyFault) -> Fault
     ensures { result ≡ refusal_of fault }
 {
@@ -226,10 +237,10 @@ fn safety_refusal(fault: SafetyFault) -> Fault
     }
 }
 
-/// The rows of the table that the survivors of a loss hold, by primary key, as a column of cells for each column of the table.
-/// Only the files of surviving segments are looked at. With no site lost they are those of the whole store.
+/// The rows of the table that the survivors of a loss hold, by primary key, as a column of cells for each column of the
+/// table. Only the files of surviving segments are read. If no site is lost, these are the rows of the whole store.
 ///
-/// The first refusal that applies comes, as of `rebuild`: `Site`, `Unsafe`, `Missing` or `Damaged` of the least such file,
+/// Returns the first fault that applies: `Site`, `Unsafe`, `Missing` or `Damaged` of the first such file by name,
 /// `Astray`, `Twice`, `Full`, `Misplaced`, `Misled`. `Memory` may take the place of any answer.
 pub fn table<R: Threads + Sync, G: Gate + Sync>(
     run: &Run<'_, R, G>,

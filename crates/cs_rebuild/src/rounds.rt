@@ -11,18 +11,18 @@ use cs_store::Fault;
 use std::marker::{Send, Sync};
 use std::thread::Threads;
 
-/// Tasks with numbers from 0, which are done in any order and by several threads at once.
+/// Tasks, numbered from 0, which may be done in any order and by several threads at once.
 pub trait Tasks {
-    /// What a sound task answers.
+    /// The answer of a sound task.
     type Out: Send + Drop;
 
     /// The number of tasks.
     ghost tasks: { Self → ℕ };
 
-    /// What is stated of a task: `None`, it is sound, or `Some`, it has this fault.
+    /// The claim about a task: with `None` it is sound, with `Some` it has this fault.
     ghost fault_at: { Self → ℕ → Option FaultData → Type 0 };
 
-    /// What an answer at a task meets.
+    /// The claim about the answer of a task.
     ghost answers: { Self → ℕ → Self.Out → Type 0 };
 
     /// The number of tasks.
@@ -35,11 +35,12 @@ pub trait Tasks {
         ensures ok { IfOk result (λ out. fault_at self.now i None × answers self.now i out) }
         ensures err { IfErr result (λ fault. MemoryOr fault (fault_at self.now i (Some fault))) };
 
-    /// A task is sound or has one fault, and not both.
-    ghost one_fault: { (tasks_of : Self) (i : ℕ) (f g : Option FaultData) → i < tasks tasks_of → fault_at tasks_of i f → fault_at tasks_of i g → f ≡ g };
+    /// A task is sound or has a fault, but not both, and it has only one fault.
+    ghost one_fault: { (tasks_of : Self) (i : ℕ) (f g : Option FaultData) → i < tasks tasks_of
+        → fault_at tasks_of i f → fault_at tasks_of i g → f ≡ g };
 }
 
-/// Tasks as a work of the claim board.
+/// Tasks as work of the claim board.
 #[derive(Drop)]
 struct TasksWork<'a, T> {
     tasks: &'a T,
@@ -80,7 +81,7 @@ impl<'a, T: Tasks> Work for TasksWork<'a, T> {
     ghost one_fault = { λ work i f g below a b. T.one_fault work.tasks.now i f g below a.0 b.0 };
 }
 
-/// A gate that is told of a part of a round: so many pieces come before it.
+/// A gate that is told of part of a round: `before` pieces come before it.
 #[derive(Drop)]
 struct PartGate<'a, G> {
     gate: &'a G,
@@ -94,8 +95,8 @@ impl<G: Gate> Gate for PartGate<'_, G> {
 }
 
 impl<'a, R: Threads + Sync, G: Gate + Sync> Run<'a, R, G> {
-    /// Opens a round and does its tasks: their answers in order, or the fault of the first task that has one. `Memory` may
-    /// take the place of either.
+    /// Opens a round and does its tasks. Returns their answers in order, or the fault of the first task that has one.
+    /// `Memory` may take the place of either.
     pub fn round<T: Tasks + Sync>(&self, round: Round, tasks: &T) -> Result<Vec<T::Out>, Fault>
         ensures ok { IfOk result (λ outs. IsAnswered (T.fault_at tasks.now) (T.answers tasks.now) (T.tasks tasks.now) outs.items) }
         ensures err { IfErr result (λ fault. MemoryOr fault (IsFirstFault (T.fault_at tasks.now) (T.tasks tasks.now) fault)) }
@@ -104,7 +105,8 @@ impl<'a, R: Threads + Sync, G: Gate + Sync> Run<'a, R, G> {
         self.part(0, tasks)
     }
 
-    /// Does tasks that are a part of a round that is open, with so many before them, as `round` does.
+    /// Does tasks that are part of an open round and come after `before` others. Returns their answers in order, or the
+    /// fault of the first task that has one. `Memory` may take the place of either.
     pub(crate) fn part<T: Tasks + Sync>(&self, before: u32, tasks: &T) -> Result<Vec<T::Out>, Fault>
         ensures ok { IfOk result (λ outs. IsAnswered (T.fault_at tasks.now) (T.answers tasks.now) (T.tasks tasks.now) outs.items) }
         ensures err { IfErr result (λ fault. MemoryOr fault (IsFirstFault (T.fault_at tasks.now) (T.tasks tasks.now) fault)) }

@@ -1,11 +1,8 @@
 //! The walk by rows.
-ghost use Rattle.std.specs.Prelude.{◌≡◌, ◌<◌, ◌≤◌, ◌^◌, ℕ, length, Ok, Err, IfOk, IfErr};
-ghost use Rattle.cs_store.specs.Fault.{MemoryOr};
-ghost use Rattle.cs_store.specs.declared.fault.Fault.{Fault as FaultData};
+ghost use Rattle.std.specs.Prelude.{◌≡◌, ◌<◌, ◌≤◌, ◌^◌, length, Ok, IfOk, IfErr};
 ghost use Rattle.cs_rows.specs.Survivors.{contents_of};
-ghost use Rattle.cs_rows.specs.Walk.{Stray};
 ghost use Rattle.cs_rows.specs.WalkByRows.{surviving_rows, walked_by_rows};
-ghost use Rattle.cs_rebuild.specs.Walking.{HasTableKinds, RowsFaultAt, RowsAnswerAt};
+ghost use Rattle.cs_rebuild.specs.Walking.{HasTableKinds, RowsFaultAt, RowsAnswerAt, IsWalkRefusal};
 ghost use Rattle.cs_rebuild.specs.WorkLaws.{one_value};
 
 use crate::cutting::count_pieces;
@@ -22,7 +19,7 @@ use std::alloc::Global;
 use std::marker::Sync;
 use std::thread::Threads;
 
-/// The walk of all surviving rows, in pieces of `cut` rows.
+/// Walks all surviving rows, in pieces of `cut` rows.
 #[derive(Drop)]
 struct RowsWork<'a> {
     alloc: Global,
@@ -68,7 +65,7 @@ impl Tasks for RowsWork<'_> {
     ghost one_fault = { λ work i f g below a b. one_value _ f g a b };
 }
 
-/// The full rows to which all surviving rows lead, each primary key once.
+/// The full rows to which the surviving rows lead, each primary key once, or the fault of the first that is led astray.
 pub fn walk_rowwise<'a, R: Threads + Sync, G: Gate + Sync>(
     run: &Run<'_, R, G>,
     catalog: &Catalog,
@@ -79,7 +76,7 @@ pub fn walk_rowwise<'a, R: Threads + Sync, G: Gate + Sync>(
     requires few { length (surviving_rows catalog.now loss (contents_of survivors.now)) < 2 ^ 32 }
     ensures kinds { IfOk result (HasTableKinds catalog.now) }
     ensures rows { IfOk result (λ rows. walked_by_rows catalog.now loss (contents_of survivors.now) ≡ Ok rows.rows) }
-    ensures err { IfErr result (λ fault. MemoryOr fault ((at : Stray) × (walked_by_rows catalog.now loss (contents_of survivors.now) ≡ Err at) × (fault ≡ FaultData.Astray at.0 at.1 at.2))) }
+    ensures err { IfErr result (IsWalkRefusal (walked_by_rows catalog.now loss (contents_of survivors.now))) }
 {
     let _rules = catalog.projection_count();
     let rows = surviving_row_count(survivors, loss);

@@ -1,9 +1,9 @@
-//! The text of a column of runs: each piece of work writes the runs that begin in it, straight from the table's column.
+//! An encoded column of runs. Each task writes the runs that begin in its piece, directly from the table's column.
 ghost use Rattle.std.specs.Prelude.{◌≡◌, ◌<◌, None, length, IfOk};
 ghost use Rattle.cs_schema.specs.declared.kinds.Code.{Code as CodeData};
 ghost use Rattle.cs_schema.specs.CatalogData.{projection, code_at};
 ghost use Rattle.cs_segment.specs.Growing.{joined};
-ghost use Rattle.cs_rebuild.specs.Joining.{IsRunsPart, IsTextAt};
+ghost use Rattle.cs_rebuild.specs.Joining.{IsRunsPart, IsTextAt, HasColumn};
 ghost use Rattle.cs_rebuild.specs.WorkLaws.{one_value};
 
 use crate::columns::table_column;
@@ -17,7 +17,7 @@ use std::alloc::AllocError;
 use std::marker::Sync;
 use std::thread::Threads;
 
-/// The writing of one of a segment's columns, which is one of runs.
+/// Encodes one of a segment's columns as runs.
 #[derive(Drop)]
 struct RunsWork<'a> {
     segment: &'a LostSegment<'a>,
@@ -49,9 +49,9 @@ impl Tasks for RunsWork<'_> {
 }
 
 impl LostSegment<'_> {
-    /// The text of the runs of a column that begin in its k-th piece.
+    /// The encoded runs of a column that begin in its `k`-th piece.
     fn runs_part(&self, j: usize, k: u32) -> Result<Vec<u8>, AllocError>
-        requires column { j < length (projection self.now.store.now.catalog.now self.now.p).columns }
+        requires column { HasColumn self.now j }
         ensures { IfOk result (λ out. IsRunsPart self.now j k out.items) }
     {
         let column = self
@@ -64,17 +64,17 @@ impl LostSegment<'_> {
         write_runs(self.alloc, column, self.numbers, from, to)
     }
 
-    /// The text of a column of runs, in parts that follow one another.
+    /// The bytes of an encoded column of runs, in parts that follow one another.
     pub fn runs_text<R: Threads + Sync, G: Gate + Sync>(
         &self,
         run: &Run<'_, R, G>,
         j: usize,
     ) -> Result<Vec<Vec<u8>>, AllocError>
-        requires column { j < length (projection self.now.store.now.catalog.now self.now.p).columns }
+        requires column { HasColumn self.now j }
         requires runs { code_at self.now.store.now.catalog.now self.now.p j ≡ CodeData.Runs }
         ensures { IfOk result (λ text. IsTextAt self.now j (joined text.items)) }
     {
-        // columns are few
+        // for its clause on the number of columns
         let _width = self.store.catalog.width(self.p);
         let work = RunsWork { segment: self, j };
         match run.part((j as u32).wrapping_mul(self.per), &work) {

@@ -1,4 +1,4 @@
-//! The surviving files of a store: what they hold, or the least bad one.
+//! The surviving files of a store: what they hold, or the first bad one.
 ghost use Rattle.std.specs.Prelude.{◌≡◌, ◌↔◌, Some, None, Ok, Err, IsTrue, IfOk, IfErr};
 ghost use Rattle.std.specs.declared.cmp.Ordering.TheVariants.{Less};
 ghost use Rattle.cs_schema.specs.CatalogData.{CatalogData};
@@ -42,9 +42,11 @@ fn is_before(name: FileName, other: FileName) -> bool
     name < other
 }
 
-/// The fault of the lesser name: that of the least bad body, or of the least wrong digest.
+/// The fault of the first name: that of the first bad body, or of the first wrong digest.
 fn lesser(fault: Fault, unsealed: FileName) -> Fault
-    ensures { (C : CatalogData) (L : Sites) (F : FileContents) → IsCatalog C → IsFirstUnsealed F (surviving C L) unsealed → MemoryOr fault (IsBadFile C (resealed F) L fault) → MemoryOr result (IsBadFile C F L result) }
+    ensures { (C : CatalogData) (L : Sites) (F : FileContents) → IsCatalog C
+        → IsFirstUnsealed F (surviving C L) unsealed → MemoryOr fault (IsBadFile C (resealed F) L fault)
+        → MemoryOr result (IsBadFile C F L result) }
 {
     let bad = match refused_name(&fault) {
         Some(bad) => bad,
@@ -56,13 +58,16 @@ fn lesser(fault: Fault, unsealed: FileName) -> Fault
     Fault::Damaged(unsealed)
 }
 
-/// What is made of the bodies of surviving files if their digests are right, and else the fault of the least bad file.
+/// What was read of the bodies of surviving files if all digests are right, otherwise the fault of the first bad file
+/// by name.
 pub fn unless_bad<T: Drop>(
     unsealed: Result<Option<FileName>, AllocError>,
     read: Result<T, Fault>,
 ) -> Result<T, Fault>
     ensures ok { IfOk result (λ made. (read ≡ Ok made) × (unsealed ≡ Ok None)) }
-    ensures err { IfErr result (λ fault. (C : CatalogData) (L : Sites) (F : FileContents) → IsCatalog C → IfOk unsealed (AreDigests C L F) → IfOk read (λ _. AreBodiesSound C L F) → IfErr read (λ f. MemoryOr f (IsBadFile C (resealed F) L f)) → MemoryOr fault (IsBadFile C F L fault)) }
+    ensures err { IfErr result (λ fault. (C : CatalogData) (L : Sites) (F : FileContents) → IsCatalog C
+        → IfOk unsealed (AreDigests C L F) → IfOk read (λ _. AreBodiesSound C L F)
+        → IfErr read (λ f. MemoryOr f (IsBadFile C (resealed F) L f)) → MemoryOr fault (IsBadFile C F L fault)) }
 {
     let unsealed = match unsealed {
         Ok(unsealed) => unsealed,
@@ -79,7 +84,7 @@ pub fn unless_bad<T: Drop>(
     Err(lesser(fault, name))
 }
 
-/// The least wrong digest, and beside it what the bodies of the surviving files hold.
+/// The first file with a wrong digest and, in parallel, what the bodies of the surviving files hold.
 fn read_beside<'a, R: Threads + Sync, G: Gate + Sync>(
     run: &Run<'_, R, G>,
     catalog: &'a Catalog,
@@ -93,7 +98,7 @@ fn read_beside<'a, R: Threads + Sync, G: Gate + Sync>(
     ensures ok { IfOk result.1 (AreRead catalog.now (resealed (contents_of files.now)) loss) }
     ensures bad { IfErr result.1 (λ fault. MemoryOr fault (IsBadFile catalog.now (resealed (contents_of files.now)) loss fault)) }
 {
-    // of a closure over a struct of references `join` says nothing
+    // `join` guarantees nothing for a closure over a struct of references
     join_mut(
         run.rt,
         &mut || -> Result<Option<FileName>, AllocError>
@@ -106,7 +111,8 @@ fn read_beside<'a, R: Threads + Sync, G: Gate + Sync>(
     )
 }
 
-/// What the files that survive a loss hold, or the refusal of the least bad one.
+/// What the files that survive a loss hold, or `Missing` or `Damaged` of the first bad one by name. `Memory` may take
+/// the place of any answer.
 pub fn read_store<'a, R: Threads + Sync, G: Gate + Sync>(
     run: &Run<'_, R, G>,
     catalog: &'a Catalog,

@@ -1,11 +1,11 @@
-//! A store that was verified: what survives of it holds its table.
+//! A verified store: what survives of it holds its table.
 ghost use Rattle.std.specs.Prelude.{◌≡◌};
 ghost use Rattle.cs_rebuild.specs.OnStore.{IsSound};
 
 use crate::ordered_store::OrderedStore;
 use std::marker::Model;
 
-/// What survives of a store with its table and orders, where each surviving file holds what the table asks of it.
+/// What survives of a store, with its table and orders. Each surviving file holds what the table requires of it.
 #[derive(Drop)]
 pub struct SoundStore<'a> {
     ordered: OrderedStore<'a>,
@@ -27,7 +27,7 @@ impl<'a> Model for SoundStore<'a> {
 }
 
 impl<'a> SoundStore<'a> {
-    /// A store of which it is known that it is sound.
+    /// A store that is known to be sound.
     pub fn of(ordered: OrderedStore<'a>) -> Self
         requires { IsSound ordered }
         ensures { result ≡ ordered.entry }
@@ -35,7 +35,7 @@ impl<'a> SoundStore<'a> {
         SoundStore { ordered }
     }
 
-    /// Its rows in their orders, with what survives.
+    /// What survives, with the rows in their orders.
     pub fn ordered(&self) -> &OrderedStore<'a>
         ensures is { result.now ≡ self.now }
         ensures sound { IsSound self.now }
@@ -43,7 +43,7 @@ impl<'a> SoundStore<'a> {
         &self.ordered
     }
 
-    /// The store itself, without what is known of it.
+    /// The ordered store alone.
     pub fn into_ordered(self) -> OrderedStore<'a>
         ensures { result ≡ self.entry }
     {

@@ -1,4 +1,4 @@
-//! The segments that survive a loss, and their join indexes, in the order of their names.
+//! The segments that survive a loss, and their join indexes, in the order of names.
 ghost use Rattle.std.specs.Prelude.{◌≡◌, ◌<◌, ◌≤◌, ◌+◌, ◌*◌, ◌^◌, ◌++◌, ℕ, length, map, not, IfOk, OnOk};
 ghost use Rattle.std.specs.List.{filter};
 ghost use Rattle.cs_schema.specs.CatalogData.{has_join, segments, HasSegment};
@@ -11,7 +11,7 @@ ghost use Rattle.cs_rebuild.specs.Surveys.{survivors_of, joins_at, joins_among};
 use cs_schema::{Catalog, Loss};
 use std::alloc::{AllocError, Global};
 
-/// Puts the surviving segments of a projection at the end of a list.
+/// Appends the surviving segments of a projection.
 fn push_segments(
     found: &mut Vec<(u16, u16)>,
     catalog: &Catalog,
@@ -48,7 +48,7 @@ pub fn surviving_segments(
     Ok(segments)
 }
 
-/// Puts the join indexes of a segment at the end of a list.
+/// Appends the join indexes of a segment.
 fn push_joins(
     joins: &mut Vec<(u16, u16, u16)>,
     catalog: &Catalog,

@@ -10,7 +10,6 @@ ghost use Rattle.cs_order.specs.Tables.{is_twice, table_of};
 ghost use Rattle.cs_recovery.specs.Columns.{AreColumnsOf};
 
 use crate::columns::cells_at;
-use crate::lending::column_count;
 use crate::run::Run;
 use cs_order::key_order;
 use cs_rows::{Lent, Table};
@@ -20,16 +19,19 @@ use std::marker::Sync;
 use std::mem::replace;
 use std::thread::Threads;
 
-/// Copies of the cells at some places of a column: of what is lent in its place, or else of what was made, which is let go of.
+/// Copies of a column's cells at these indices. The column is the borrowed one if there is one, and the owned one is
+/// freed.
 fn pick_column(
     alloc: Global,
     made: Cells,
     lent: Option<&Cells>,
     numbers: &[u32],
 ) -> Result<Cells, AllocError>
-    requires { (k : ℕ) → k < length numbers.now → slice_index numbers.now k < length (values (unwrap_or (option_map (λ cells. cells.now) lent) made)) }
+    requires { (k : ℕ) → k < length numbers.now
+        → slice_index numbers.now k < length (values (unwrap_or (option_map (λ cells. cells.now) lent) made)) }
     ensures kind { IfOk result (λ cells. kind_of cells ≡ kind_of (unwrap_or (option_map (λ cells. cells.now) lent.entry) made)) }
-    ensures cells { IfOk result (λ cells. values cells ≡ map (cell (values (unwrap_or (option_map (λ cells. cells.now) lent.entry) made))) numbers.now) }
+    ensures cells { IfOk result (λ cells. values cells
+        ≡ map (cell (values (unwrap_or (option_map (λ cells. cells.now) lent.entry) made))) numbers.now) }
 {
     match lent {
         Some(column) => cells_at(alloc, column, numbers),
@@ -37,7 +39,7 @@ fn pick_column(
     }
 }
 
-/// Rows of columns by their numbers. What was made of a column is let go of before the next one is copied.
+/// The rows with these numbers, in columns. Each owned column is freed before the next is copied.
 fn pick_columns(
     alloc: Global,
     catalog: &Catalog,
@@ -48,18 +50,21 @@ fn pick_columns(
     requires columns { AreColumns (over made.items lent.now) }
     requires kinds { map kind_of (over made.items lent.now) ≡ map (λ c. c.kind) catalog.now.columns }
     requires below { All (λ i. i < count_of (over made.items lent.now)) numbers.now }
-    ensures { IfOk result (λ columns. AreColumnsOf catalog.now (map (row_at (rows_of (over made.items lent.now) (count_of (over made.items lent.now)))) numbers.now) columns.items) }
+    ensures { IfOk result (λ columns. AreColumnsOf catalog.now
+        (map (row_at (rows_of (over made.items lent.now) (count_of (over made.items lent.now)))) numbers.now)
+        columns.items) }
 {
     let mut made = made;
     let mut columns = Vec::new(alloc);
-    for c in 0..column_count(catalog) {
+    for c in 0..catalog.column_count() {
         let own = replace(&mut made[c], Cells::new(alloc, Kind::Int));
         columns.push(pick_column(alloc, own, lent.column(c), numbers)?)?;
     }
     Ok(columns)
 }
 
-/// The rows of the table by primary key, which no two of them have in common.
+/// The rows of the table by primary key, as a column of cells for each column of the table. No two rows have the same
+/// key. Fails only if memory is refused.
 pub fn rows_by_key<R: Threads + Sync, G>(
     run: &Run<'_, R, G>,
     catalog: &Catalog,

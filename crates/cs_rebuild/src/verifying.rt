@@ -1,4 +1,4 @@
-//! What the surviving files of a store come to.
+//! Verification of what was read of the surviving files.
 ghost use Rattle.std.specs.Prelude.{◌≡◌, None, Some, Err, IfOk, IfErr, OnOk};
 ghost use Rattle.cs_schema.specs.FileNames.{FileContents};
 ghost use Rattle.cs_store.specs.Fault.{MemoryOr};
@@ -23,7 +23,8 @@ use cs_store::Fault;
 use std::marker::Sync;
 use std::thread::Threads;
 
-/// The rows of the table to which what was read leads, in their orders; or the first refusal of the walk, a key or a range.
+/// The rows of the table to which the survivors lead, in their orders, or the first fault that applies: `Astray`,
+/// `Twice` or `Full`. `Memory` may take the place of any answer.
 pub fn order_store<'a, R: Threads + Sync, G: Gate + Sync>(
     run: &Run<'_, R, G>,
     catalog: &'a Catalog,
@@ -47,7 +48,8 @@ pub fn order_store<'a, R: Threads + Sync, G: Gate + Sync>(
     }
 }
 
-/// Compares the files that survive with the rows of the table: the fault of the first that says otherwise, images first.
+/// Compares the surviving files with the rows of the table, images first. Fails at the first file that contradicts
+/// them.
 pub fn verify_files<R: Threads + Sync, G: Gate + Sync>(
     run: &Run<'_, R, G>,
     store: &OrderedStore<'_>,
@@ -70,7 +72,7 @@ pub fn verify_files<R: Threads + Sync, G: Gate + Sync>(
     verify_joins(run, store, joins.as_slice())
 }
 
-/// What a store comes to of which this was read: the first refusal that applies, or the sound store.
+/// The sound store, given what was read of it, or the first fault that applies.
 pub fn verify<'a, R: Threads + Sync, G: Gate + Sync>(
     run: &Run<'_, R, G>,
     catalog: &'a Catalog,
@@ -79,9 +81,11 @@ pub fn verify<'a, R: Threads + Sync, G: Gate + Sync>(
 ) -> Result<SoundStore<'a>, Fault>
     requires safe { IsSafe catalog.now loss }
     requires read { (F : FileContents) × AreRead catalog.now F loss survivors.now }
-    ensures ok { IfOk result (λ store. (F : FileContents) → AreRead catalog.now F loss survivors.now → AreSound catalog.now F loss survivors.now store.walked store.orders) }
+    ensures ok { IfOk result (λ store. (F : FileContents) → AreRead catalog.now F loss survivors.now
+        → AreSound catalog.now F loss survivors.now store.walked store.orders) }
     ensures of { IfOk result (IsStoreOf catalog.now loss survivors.now) }
-    ensures err { IfErr result (λ fault. (F : FileContents) → AreRead catalog.now F loss survivors.now → MemoryOr fault (IsVerdict catalog.now F loss (Err fault))) }
+    ensures err { IfErr result (λ fault. (F : FileContents) → AreRead catalog.now F loss survivors.now
+        → MemoryOr fault (IsVerdict catalog.now F loss (Err fault))) }
 {
     let _rules = catalog.projection_count();
     let store = match order_store(run, catalog, loss, survivors) {

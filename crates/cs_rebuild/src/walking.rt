@@ -1,14 +1,13 @@
-//! Walking the surviving rows, by the catalog's rule.
-ghost use Rattle.std.specs.Prelude.{◌≡◌, ◌<◌, ◌^◌, length, Ok, Err, IfOk, IfErr};
+//! The walk of the surviving rows, by the catalog's rule of safety.
+ghost use Rattle.std.specs.Prelude.{◌≡◌, ◌<◌, ◌^◌, length, Ok, IfOk, IfErr};
 ghost use Rattle.cs_schema.specs.CatalogRules.{IsCatalog};
 ghost use Rattle.cs_schema.specs.FileNames.{FileContents};
 ghost use Rattle.cs_store.specs.Fault.{MemoryOr};
 ghost use Rattle.cs_safety.specs.Safety.{IsSafe};
-ghost use Rattle.cs_store.specs.declared.fault.Fault.{Fault as FaultData};
 ghost use Rattle.cs_rows.specs.Range.{IsPlanOf};
 ghost use Rattle.cs_rows.specs.Survivors.{contents_of};
-ghost use Rattle.cs_rows.specs.Walk.{Stray, projection_rows, walked};
-ghost use Rattle.cs_rebuild.specs.Walking.{HasTableKinds};
+ghost use Rattle.cs_rows.specs.Walk.{projection_rows, walked};
+ghost use Rattle.cs_rebuild.specs.Walking.{HasTableKinds, IsWalkRefusal};
 ghost use Rattle.cs_rebuild.specs.Steps.{AreRead, AreWalkedRows, IsStray};
 
 use crate::planned::walk_planned;
@@ -22,7 +21,7 @@ use cs_store::Fault;
 use std::marker::Sync;
 use std::thread::Threads;
 
-/// The rows to which the walk of a plan leads.
+/// The rows to which the walk of a plan leads, or the fault of the first row that is led astray.
 fn walk_plan<'a, R: Threads + Sync, G: Gate + Sync>(
     run: &Run<'_, R, G>,
     catalog: &Catalog,
@@ -35,7 +34,7 @@ fn walk_plan<'a, R: Threads + Sync, G: Gate + Sync>(
     requires few { length (projection_rows catalog.now (contents_of survivors.now) plan.now.anchor) < 2 ^ 32 }
     ensures kinds { IfOk result (HasTableKinds catalog.now) }
     ensures rows { IfOk result (λ rows. walked catalog.now (contents_of survivors.now) plan.now ≡ Ok rows.rows) }
-    ensures err { IfErr result (λ fault. MemoryOr fault ((at : Stray) × (walked catalog.now (contents_of survivors.now) plan.now ≡ Err at) × (fault ≡ FaultData.Astray at.0 at.1 at.2))) }
+    ensures err { IfErr result (IsWalkRefusal (walked catalog.now (contents_of survivors.now) plan.now)) }
 {
     match PlanWalk::new(run.alloc, catalog, plan, survivors) {
         Ok(walk) => walk_planned(run, &walk),
@@ -43,7 +42,7 @@ fn walk_plan<'a, R: Threads + Sync, G: Gate + Sync>(
     }
 }
 
-/// The rows to which the walk leads, by the catalog's rule.
+/// The rows to which the walk by the catalog's rule of safety leads, or the fault of the first row that is led astray.
 pub fn walk_all<'a, R: Threads + Sync, G: Gate + Sync>(
     run: &Run<'_, R, G>,
     catalog: &Catalog,

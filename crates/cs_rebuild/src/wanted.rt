@@ -1,4 +1,4 @@
-//! What is wanted of a store's table, and what is answered.
+//! What is wanted of a store's table, and the answer.
 use cs_schema::Cells;
 use cs_store::FileSet;
 
@@ -13,7 +13,7 @@ pub enum Wanted {
     Columns,
 }
 
-/// What is answered: of what is wanted the variant of its name.
+/// An answer. Its variant has the name of what was wanted.
 #[derive(Drop)]
 pub enum Answer {
     /// The files that recover the table.

@@ -1,4 +1,4 @@
-//! Writing what a loss took.
+//! Writing the files that a loss took.
 ghost use Rattle.std.specs.Prelude.{◌≡◌, ◌⊎◌, ◌++◌, All, Some, map, IfOk, IfErr};
 ghost use Rattle.cs_schema.specs.declared.file_name.FileName.{FileName as NameData};
 ghost use Rattle.cs_store.specs.FileSet.{contents_of};
@@ -18,7 +18,7 @@ use std::alloc::{AllocError, Global};
 use std::marker::Sync;
 use std::thread::{Threads, join_mut};
 
-/// The files of the lost segments and the affected join indexes, which are made, put together.
+/// One set of the files of the lost segments and of the affected join indexes.
 fn put_together(
     alloc: Global,
     store: &OrderedStore<'_>,
@@ -42,7 +42,7 @@ fn put_together(
     Ok(files)
 }
 
-/// The join indexes that the loss affects, and beside them the files of the lost segments: neither asks for the other.
+/// The join indexes that the loss affects and, in parallel, the files of the lost segments. Neither needs the other.
 fn make_files<R: Threads + Sync, G: Gate + Sync>(
     run: &Run<'_, R, G>,
     store: &OrderedStore<'_>,
@@ -51,17 +51,19 @@ fn make_files<R: Threads + Sync, G: Gate + Sync>(
     Result<Vec<(FileName, Vec<u8>)>, AllocError>,
 )
     requires { IsSound store.now }
-    ensures join_names { IfOk result.0 (λ made. map (λ file. file.0) made.items ≡ map join_name (affected_joins store.now.catalog.now store.now.loss)) }
+    ensures join_names { IfOk result.0 (λ made. map (λ file. file.0) made.items
+        ≡ map join_name (affected_joins store.now.catalog.now store.now.loss)) }
     ensures join_texts { IfOk result.0 (λ made. All (λ file. written_on store.now file.0 ≡ Some file.1.items) made.items) }
     ensures lost_names { IfOk result.1 (λ made. map (λ file. file.0) made.items ≡ lost_names store.now.catalog.now store.now.loss) }
     ensures lost_texts { IfOk result.1 (λ made. All (λ file. written_on store.now file.0 ≡ Some file.1.items) made.items) }
 {
-    // of a closure over a struct of references `join` says nothing
+    // `join` guarantees nothing for a closure over a struct of references
     join_mut(
         run.rt,
         &mut || -> Result<Vec<(FileName, Vec<u8>)>, AllocError>
             requires { IsSound store.now }
-            ensures names { IfOk result (λ made. map (λ file. file.0) made.items ≡ map join_name (affected_joins store.entry.now.catalog.now store.entry.now.loss)) }
+            ensures names { IfOk result (λ made. map (λ file. file.0) made.items
+                ≡ map join_name (affected_joins store.entry.now.catalog.now store.entry.now.loss)) }
             ensures texts { IfOk result (λ made. All (λ file. written_on store.entry.now file.0 ≡ Some file.1.items) made.items) }
         { joins_after(run, store) },
         &mut || -> Result<Vec<(FileName, Vec<u8>)>, AllocError>
@@ -71,7 +73,7 @@ fn make_files<R: Threads + Sync, G: Gate + Sync>(
     )
 }
 
-/// The files that a recovery writes.
+/// The files that a recovery writes. Fails only if memory is refused.
 pub fn write_files<R: Threads + Sync, G: Gate + Sync>(
     run: &Run<'_, R, G>,
     store: &SoundStore<'_>,

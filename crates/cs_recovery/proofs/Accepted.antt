@@ -1,4 +1,4 @@
--- One table for all readings of the surviving files, and what is accepted holds as far as it survives.
+-- All readings of the surviving files hold the same table, so each verdict is that table.
 use Rattle.std.proofs.Common.{◌≡◌, ℕ, ◌+◌, ◌<◌, List, [], map, refl, sym, ap, ◌∙◌, Bool, true, false, cond, length, Ok, Err}
 use Rattle.std.specs.Prelude.{slice_index}
 use Rattle.std.specs.List.{slice_get}
@@ -59,7 +59,7 @@ module _ (C : CatalogData) (cat : IsCatalog C) (layers : Layers C) (F : FileCont
       let b : (λ x. place_of C L S T q x) ≡ (λ x. place_of C L S' T q x) = fun_path (same_place q k) in
       λ i. G (a i) (b i)
 
-  -- what one reading of the files holds, each other one does
+  -- what one reading of the files holds, each other reading holds
   pub same_contents : AreContentsOf C L S T → AreContentsOf C L S' T
   same_contents c = record {
     images = λ p s h. ap Rattle.cs_delta.specs.Image.image_rows (sym (same_image p s h)) ∙ c.images p s h;
@@ -71,7 +71,7 @@ module _ (C : CatalogData) (cat : IsCatalog C) (layers : Layers C) (F : FileCont
   }
 
 module _ (C : CatalogData) (cat : IsCatalog C) (layers : Layers C) (F : FileContents) (L : Sites) (safe : IsSafe C L) where
-  -- Where the surviving files of a safe loss hold a table, every verdict on them is that table.
+  -- If the surviving files of a safe loss hold a table, every verdict on them is that table.
   pub verdict_is : (T : List Row) → HoldsSurvivors C F L T → (v : Verdict) → IsVerdict C F L v → v ≡ Ok T
   verdict_is T h v (IsVerdict.bad_file n f b e) = absurd (b.bad (sound C cat layers F L h.contents h.reads n b.survives))
   verdict_is T h v (IsVerdict.contents S w r by e) = go C.safety safe by
@@ -80,7 +80,7 @@ module _ (C : CatalogData) (cat : IsCatalog C) (layers : Layers C) (F : FileCont
       go Safety.Whole s x = e ∙ ap (judged C L S) x.2 ∙ judged_is C cat layers F L S T x.0 r h.table h.fits (same_contents C cat layers F L h.contents S h.reads r T h.same) x.1
       go Safety.Rows s x = e ∙ ap (judged C L S) x ∙ judged_by_rows C cat layers F L S T r h.table h.fits (same_contents C cat layers F L h.contents S h.reads r T h.same) s
 
-  -- So the surviving files hold one table at most, where they have a verdict.
+  -- So the surviving files hold at most one table if they have a verdict.
   pub one_table : (T U : List Row) → HoldsSurvivors C F L T → HoldsSurvivors C F L U → (v : Verdict) → IsVerdict C F L v → T ≡ U
   unfolding table_in
   one_table T U h k v i = ap table_in (sym (verdict_is T h v i) ∙ verdict_is U k v i)

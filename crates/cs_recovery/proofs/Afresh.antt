@@ -1,4 +1,4 @@
--- A segment that is written afresh: its columns fit, and its image has the keys 1, 2, 3, ..
+-- A segment that is written anew: its columns fit, and its image has the keys 1, 2, 3, ..
 use Rattle.std.proofs.Common.{◌≡◌, ◌≢◌, ℕ, zero, suc, ◌+◌, ◌-◌, ◌<◌, ◌≤◌, List, [], ◌∷◌, ◌++◌, map, refl, sym, ap, subst, ◌∙◌, true, false, ◌&&◌, ◌||◌, ◌⊎◌, inl, inr, Option, Some, length, get_or, arith, ◌==◌, eq-eqb, pos, Ordering}
 use Rattle.std.specs.Prelude.{slice_index, ◌≤ℤ◌}
 use Rattle.std.specs.List.{slice_get, range_with_len, enumerate_from, IsDistinct}
@@ -30,7 +30,7 @@ use Rattle.cs_schema.proofs.Ascending.{All-in}
 use Rattle.cs_schema.proofs.RowOrder.{rows_of-are}
 use Rattle.cs_schema.proofs.Lists.{in_at, in_map, slice_get_map}
 
--- ---- the first sort column never falls
+-- ---- the first sort column never decreases
 
 neighbours : {X : Type 0} (cmp : X → X → Ordering) (xs : List X) → IsStrictlySortedBy cmp xs → (i : ℕ) (x y : X) → slice_get xs i ≡ Some x → slice_get xs (suc i) ≡ Some y → cmp x y ≡ Less
 unfolding IsStrictlySortedBy
@@ -71,7 +71,7 @@ abbrev IsInt : Kind → Type 0
 IsInt Kind.Int = Unit {0}
 IsInt Kind.Text = ⊥
 
--- no int is below the one before it, by positions
+-- no int is less than the one before it, by index
 abbrev pub FallsNowhere : List Value → Type 0
 FallsNowhere v = (i : ℕ) → i + 1 < length v → int_of (cell v i) ≤ℤ int_of (cell v (i + 1))
 
@@ -100,7 +100,7 @@ pub distinct_none : IsDistinct ◌==◌ []
 unfolding IsDistinct
 distinct_none = tt
 
--- ---- a segment written afresh
+-- ---- a segment written anew
 
 module _ (C : CatalogData) (cat : IsCatalog C) (T : List Row) (t : IsTable C T) (fits : Fits C T) (p s : ℕ) (hs : HasSegment C p s) where
   abbrev pub rows : List Row
@@ -192,7 +192,7 @@ module _ (C : CatalogData) (cat : IsCatalog C) (T : List Row) (t : IsTable C T) 
         columns = λ j h. let l : j < length columns = subst (λ n. j < n) w h in subst (FitsColumn (code_at C p j) (kind_at C p j)) (sym (column_is j l)) (values_fit j l);
       }
 
-  -- its image with no changes has the keys 1, 2, 3, ..
+  -- without changes its image has the keys 1, 2, 3, ..
   no_changes_applied : (i : ℕ) (xs : List Pair) → applied_from [] i xs ≡ xs
   no_changes_applied i [] = refl
   no_changes_applied i (x ∷ xs) = ap (λ l. x ∷ l) (no_changes_applied (i + 1) xs)

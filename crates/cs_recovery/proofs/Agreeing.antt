@@ -19,13 +19,13 @@ pub second_true : (s t : Bool) → (s && t) ≡ true → t ≡ true
 second_true true t h = h
 second_true false t h = false≢true h
 
--- ---- an entry, where the segment of its place is lost or not
+-- ---- an entry, and whether the segment of its place is lost
 
 -- `agrees`, by whether the segment of the place is lost
 abbrev pub agrees_if : Bool → Place → Place → Bool
 agrees_if b e place = (e.0 == place.0) && cond (b && not (place.1 == 0)) (nat_le 1 e.1) (e.1 == place.1)
 
--- an entry that agrees with a place agrees with each other one in that segment once the segment is lost
+-- in a lost segment, an entry that agrees with one place agrees with each other place
 pub lost_agrees : (b : Bool) (e : Place) (t k n : ℕ) → 1 ≤ k → 1 ≤ n → agrees_if b e (t, k) ≡ true → agrees_if true e (t, n) ≡ true
 lost_agrees b e t k n hk hn a =
     let some : (n == 0) ≡ false = differs n 0 (λ w. omega arith) (n == 0) refl in
@@ -43,7 +43,7 @@ dead_agrees true false e a = a
 dead_agrees false true e a = a
 dead_agrees false false e a = a
 
--- an entry that agrees with none is none
+-- an entry that agrees with no place is no place
 pub dead_is : (b : Bool) (e : Place) → agrees_if b e no_place ≡ true → e ≡ no_place
 dead_is b e a =
     let z : ((e.0 == 0) && (e.1 == 0)) ≡ true = dead_agrees b false e a in
@@ -60,11 +60,12 @@ placed_is b e t k h a =
     go true x = leb-true 1 e.1 x
     go false x = let same : e.1 ≡ k = eqb-true e.1 k x in omega (arith, same, h)
 
--- an entry that agrees with a place in a segment that is kept names its key
+-- in a kept segment, an entry that agrees with a place names its key
 pub kept_is : (e : Place) (t k : ℕ) → agrees_if false e (t, k) ≡ true → e.1 ≡ k
 kept_is e t k a = eqb-true e.1 k (second_true (e.0 == t) (e.1 == k) a)
 
--- an entry agrees with a place in a lost segment by the segment and some key, in a kept one by the key itself
+-- an entry agrees with a place in a lost segment if it names the segment and some key, in a kept one if it names the
+-- key
 pub lost_place : (e : Place) (t k : ℕ) → 1 ≤ k → e.0 ≡ t → 1 ≤ e.1 → agrees_if true e (t, k) ≡ true
 lost_place e t k h x y =
     let some : (k == 0) ≡ false = differs k 0 (λ w. omega arith) (k == 0) refl in
@@ -81,7 +82,7 @@ agreed_length E [] (y ∷ ys) e = false≢true e
 agreed_length E (x ∷ xs) [] e = false≢true e
 agreed_length E (x ∷ xs) (y ∷ ys) e = let h = agreed_length E xs ys (second_true (E x y) (pointwise E xs ys) e) in omega (arith, h)
 
--- a list agrees with one made from a function of the index, where it does at each index
+-- a list agrees with one made from a function of the index if it does at each index
 pub agrees_at_each : {A B : Type 0} (E : A → B → Bool) (f : ℕ → B) (xs : List A) (a n : ℕ) → length xs ≡ n → ((i j : ℕ) (x : A) → slice_get xs i ≡ Some x → j ≡ a + i → E x (f j) ≡ true) → pointwise E xs (map f (range_with_len a n)) ≡ true
 agrees_at_each E f [] a zero l h = refl
 agrees_at_each E f [] a (suc n) l h = absurd (omega (arith, l))
@@ -89,7 +90,7 @@ agrees_at_each E f (x ∷ xs) a zero l h = absurd (omega (arith, l))
 agrees_at_each E f (x ∷ xs) a (suc n) l h =
     both_true (E x (f a)) (pointwise E xs (map f (range_with_len (a + 1) n))) (h 0 a x refl (omega arith)) (agrees_at_each E f xs (a + 1) n (omega (arith, l)) (λ i j y e k. h (suc i) j y e (omega (arith, k))))
 
--- a list that agrees with one map agrees with another, where it does at each element
+-- a list that agrees with one map agrees with another if it does at each element
 pub agree_map : {A B : Type 0} (E E' : A → B → Bool) (f g : ℕ → B) (xs : List A) (ks : List ℕ) → ((k : ℕ) (x : A) → E x (f k) ≡ true → E' x (g k) ≡ true) → pointwise E xs (map f ks) ≡ true → pointwise E' xs (map g ks) ≡ true
 agree_map E E' f g [] [] h e = refl
 agree_map E E' f g [] (k ∷ ks) h e = e

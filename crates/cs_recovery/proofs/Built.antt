@@ -1,4 +1,4 @@
--- A store that was built holds the table of its rows, and what a safe loss of it leaves is recovered to the same files.
+-- A store that was built holds the table of its rows, and each safe loss of it is recovered to the same files.
 use Rattle.std.proofs.Common.{◌≡◌, ℕ, ◌<◌, ◌+◌, List, map, refl, sym, ap, subst, ◌∙◌, Bool, true, false, cond, ◌&&◌, ◌||◌, not, Option, Some, None, length, arith, Result, Ok, Err}
 use Rattle.std.specs.Prelude.{nat_lt, slice_index}
 use Rattle.std.specs.List.{slice_get}
@@ -80,7 +80,7 @@ module _ (C : CatalogData) (cat : IsCatalog C) where
   affected_test : (L : Sites) (p s q : ℕ) → HasSegment C p s → has_join C p q ≡ true → is_affected C L p s q ≡ (lost C L p s || not (alive C L q))
   affected_test L p s q h d = ap (λ b. b && has_join C p q && (lost C L p s || not (alive C L q))) (exists_test p s h) ∙ ap (λ b. b && (lost C L p s || not (alive C L q))) d
 
-  -- nothing that survives contradicts a table
+  -- nothing survives that could contradict a table
   pub nothing_same : (S : Contents) (T : List Row) → AreContentsOf C (every_site C) S T
   nothing_same S T = record {
     images = λ p s v. absurd (none_survives (FileName.Seg p s) v);
@@ -111,7 +111,7 @@ module _ (C : CatalogData) (cat : IsCatalog C) where
         (subst (IsImageOf C (put_over built no_files) p s) (after_built p s h) (left_image C cat layers no_files (every_site C) x.contents x.reads T t fits (nothing_same x.contents T) built x.files p s h))
 
     module _ (G : FileContents) (L : Sites) (same : SameSurvivors C L built G) (again : FileContents) (y : AreExpected C G L T again) where
-      -- an image after the recovery is as it was built, kept or fresh
+      -- an image after the recovery is as it was built, whether kept or fresh
       after_is : (p s : ℕ) → HasSegment C p s → image_after C L y.contents T p s ≡ fresh p s
       after_is p s h = go (lost C L p s) refl
         where
@@ -137,7 +137,7 @@ module _ (C : CatalogData) (cat : IsCatalog C) where
           let b = same_place q k in
           λ i. J (a i) (λ r. b r i)
 
-      -- what is put in place of a lost file is as it was built, and so is what is put in place of none
+      -- with the recovered files put over the others, each file is as it was built
       put_same : (n : FileName) (a b : Bool) (text other : List ℕ) → again n ≡ when a other → built n ≡ when b text → other ≡ text → b ≡ true → (a ≡ false → G n ≡ built n) → put_over again G n ≡ built n
       put_same n true b text other e f one t kept = ap (λ o. option_or o (G n)) e ∙ ap (λ w. Some w) one ∙ sym (f ∙ ap (λ c. when c text) t)
       put_same n false b text other e f one t kept = ap (λ o. option_or o (G n)) e ∙ kept refl

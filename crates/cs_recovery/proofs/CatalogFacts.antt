@@ -1,4 +1,4 @@
--- That a catalog keeps its rules is one fact, and so is that rows are a table.
+-- Two proofs that a catalog keeps its rules are equal, and so are two proofs that rows are a table.
 use Rattle.std.specs.Prelude.{List}
 use Rattle.std.proofs.Props.{props}
 use Rattle.cs_schema.specs.declared.kinds.Kind.{Kind}

@@ -29,7 +29,7 @@ module _ (C : CatalogData) (cat : IsCatalog C) (layers : Layers C) where
       (grown, λ U u. one_held C cat layers C.safety F M U T safe u.holds grown.holds)
 
   module _ (F G : FileContents) (B : Sites) (T : List Row) (change : AreChangedOn C F G B T) where
-    -- beside more than the changed sites nothing is changed
+    -- outside a loss that contains the changed sites nothing is changed
     unchanged_beside : (N : Sites) → IsWithin B N → SameSurvivors C N F G
     unchanged_beside N w n v = change.others n (v.0, kept_within B N w (slice_index (projection C (projection_of n)).sites (segment_of n)) v.1)
 
@@ -37,7 +37,7 @@ module _ (C : CatalogData) (cat : IsCatalog C) (layers : Layers C) where
     changed_detected k safe few U u =
         sym (one_table_held C cat layers C.safety F G [] [] B T U (none_within B) (none_within B) (safe B change.sites few) change.others change.held u)
 
-    -- what is left beside the changed sites holds the table
+    -- the loss of the changed sites is accepted with the table if it is safe
     changed_accepted : IsSafe C B → IsAcceptedLoss C G B T
     changed_accepted safe = record { loss = change.sites; safe = safe; holds = fewer_hold C cat layers F [] B (none_within B) T change.held G change.others }
 

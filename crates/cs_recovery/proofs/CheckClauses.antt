@@ -50,7 +50,7 @@ module _ (C : CatalogData) (cat : IsCatalog C) (layers : Layers C) (F : FileCont
   no_fault : {A : Type 0} (T : List Row) (f : Fault) → ◌≡◌ {A = Verdict} (Ok T) (Err f) → A
   no_fault T f e = absurd (subst IsFault (sym e) tt)
 
-  -- a verdict that is a table: it is the only one that is accepted
+  -- if a verdict is a table, only that table is accepted
   pub only_accepted : (T : List Row) → IsCheckVerdict C F k (Ok T) → IsOnlyTable (IsAccepted C F k) T
   only_accepted T (IsCheckVerdict.bad_k l e) = no_fault T Fault.BadK e
   only_accepted T (IsCheckVerdict.unsafe l L a e) = no_fault T (Fault.Unsafe L) e
@@ -59,7 +59,7 @@ module _ (C : CatalogData) (cat : IsCatalog C) (layers : Layers C) (F : FileCont
     λ U a. sym (ap table_in (verdict_is C cat layers F [] (safe_whole C k s) U a.holds (Ok T) w)),
   )
 
-  -- and what is accepted is the verdict
+  -- and an accepted table is the verdict
   pub accepted_checks : (T : List Row) → IsAccepted C F k T → (v : Verdict) → IsCheckVerdict C F k v → v ≡ Ok T
   accepted_checks T a v (IsCheckVerdict.bad_k l e) = absurd (let m : k ≤ 3 = a.limit in omega (arith, l, m))
   accepted_checks T a v (IsCheckVerdict.unsafe l L b e) = absurd (b.is_unsafe (a.safe L b.loss b.count))

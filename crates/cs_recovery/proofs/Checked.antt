@@ -1,4 +1,4 @@
--- After `check` said ok, each loss of so many sites is recovered.
+-- If `check` accepted a store, each loss of at most k sites is recovered.
 use Rattle.std.proofs.Common.{◌≡◌, ℕ, ◌≤◌, List, length, Result, Ok, Err}
 use Rattle.std.specs.Prelude.{IfOk}
 use Rattle.cs_store.specs.declared.fault.Fault.{Fault}

@@ -32,7 +32,7 @@ module _ (C : CatalogData) (cat : IsCatalog C) (layers : Layers C) (F : FileCont
   no_fault : {A : Type 0} (T : List Row) (f : Fault) → ◌≡◌ {A = Verdict} (Ok T) (Err f) → A
   no_fault T f e = absurd (subst IsFault (sym e) tt)
 
-  -- a verdict that is a table: the loss is one of the catalog and safe, and the table is the only one held
+  -- if a verdict is a table, the loss names sites of the catalog and is safe, and only that table is held
   pub only_table : (T : List Row) → IsRebuildVerdict C F L (Ok T) → NamesItsSites C L × IsSafe C L × IsOnlyTable (HoldsSurvivors C F L) T
   only_table T (IsRebuildVerdict.site n e) = no_fault T Fault.Site e
   only_table T (IsRebuildVerdict.unsafe n s e) = no_fault T (Fault.Unsafe L) e

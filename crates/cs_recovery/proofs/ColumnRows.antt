@@ -1,4 +1,4 @@
--- Rows in columns: those of a table, and those of the catalog's kinds.
+-- Rows in columns: those of a table, and those of columns of the catalog's kinds.
 use Rattle.std.proofs.Common.{◌≡◌, ℕ, zero, suc, ◌<◌, List, [], ◌∷◌, length, map, get_or, sym, ap, subst, ◌∙◌, arith}
 use Rattle.std.specs.Prelude.{All, pos}
 use Rattle.std.proofs.lemmas.List.{length-map}
@@ -26,7 +26,7 @@ get_or_map_in f [] i e y h k = absurd (omega arith)
 get_or_map_in f (x ∷ xs) zero e y h k = k x
 get_or_map_in f (x ∷ xs) (suc i) e y h k = get_or_map_in f xs i e y (omega arith) k
 
--- a table is the table of its rows
+-- a table is the table of its own rows
 pub table_itself : (C : CatalogData) (T : List Row) → IsTable C T → table_of C T ≡ T
 table_itself C T t =
     same_ascending (key_cmp C) (key_total C) (table_of C T) T (ascending_sorted (key_cmp C) (key_total C) T) t.keys
@@ -53,7 +53,7 @@ module _ (C : CatalogData) (cat : IsCatalog C) (T : List Row) (t : IsTable C T) 
     table = table_itself C T t;
   }
 
--- columns of the catalog's kinds have rows of it, where the cells of each are of its kind
+-- the rows of columns of the catalog's kinds are rows of the catalog
 module _ (C : CatalogData) (columns : List Cells) (are : AreTableColumns C columns) (cells : All (λ (x : Cells). All (IsOfKind (kind_of x)) (values x)) columns) where
   of_kind : (i c : ℕ) → i < count_of columns → c < length C.columns → IsOfKind (column C c).kind (cell (row_of columns i) c)
   of_kind i c h l =

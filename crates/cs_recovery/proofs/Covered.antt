@@ -1,4 +1,4 @@
--- A safe loss that has a site of each conflict of a table is accepted with it.
+-- A safe loss that contains a site of each conflict with a table is accepted with it.
 use Rattle.std.proofs.Common.{◌≡◌, ℕ, ◌+◌, ◌<◌, ◌≤◌, List, [], map, refl, sym, ap, subst, ◌∙◌, Bool, true, false, ◌&&◌, ◌⊎◌, inl, inr, Option, Some, None, length, get_or, arith, ◌==◌, eqb-true, eq-eqb}
 use Rattle.std.specs.Prelude.{nat_lt}
 use Rattle.std.specs.List.{slice_get}
@@ -47,7 +47,7 @@ test_segment : (C : CatalogData) (p s : ℕ) → HasSegment C p s → is_segment
 test_segment C p s h = both_true (nat_lt p (length C.projections)) (nat_lt s (segments C p)) (lt-ltb p (length C.projections) h.0) (lt-ltb s (segments C p) h.1)
 
 module _ (C : CatalogData) (cat : IsCatalog C) (layers : Layers C) (F : FileContents) (L : Sites) (T : List Row) (table : IsTable C T) (read : AreRead C F) (hits : HitsConflicts C F T L) where
-  -- what survives is on no site of a conflict with itself
+  -- no surviving file contradicts the table by itself
   fine : {A : Type 0} (n : FileName) → Survives C L n → Contradicts C F T n → A
   fine n v k = go (hits (site_of C n) (site_of C n) (IsConflict.alone n v.0 k refl refl))
     where
@@ -100,7 +100,7 @@ module _ (C : CatalogData) (cat : IsCatalog C) (layers : Layers C) (F : FileCont
   is_image : (p s : ℕ) → Survives C L (FileName.Seg p s) → IsImageOfTable C F T p s (S.image p s)
   is_image p s v = record { reads = reads.images p s v; rows = same_rows p s v }
 
-  -- the images, with the join indexes that lead to them
+  -- the images, with join indexes that lead to their rows
   abbrev led : Contents
   led = record { image = S.image; join = λ p s q. entries_for C L S T p s q }
 
@@ -155,7 +155,7 @@ module _ (C : CatalogData) (cat : IsCatalog C) (layers : Layers C) (F : FileCont
       row_agrees : agrees C L q e (place_of C L S T q r) ≡ true
       row_agrees = by_loss (lost C L q t) refl
 
-    -- an entry at a dead key is none
+    -- an entry at a dead key is no place
     dead_agrees : (before : ℕ) (e : Place) → slice_get (S.join p s q) before ≡ Some e → position_of_key (S.image p s) (before + 1) ≡ None → agrees C L q e no_place ≡ true
     dead_agrees before e at dead = go ((e.0 == 0) && (e.1 == 0)) refl
       where
@@ -188,7 +188,7 @@ module _ (C : CatalogData) (cat : IsCatalog C) (layers : Layers C) (F : FileCont
     count_is true x = eqb-true (length (S.join p s q)) (S.image p s).top x
     count_is false x = fine (FileName.Jix p s q) v (Contradicts.other_count p s q (S.image p s) (S.join p s q) refl (reads.images p s here) (reads.joins p s q v) (λ y. false≢true (sym x ∙ eq-eqb (length (S.join p s q)) (S.image p s).top y)))
 
-    -- each entry is the one for its key
+    -- each entry agrees with the one for its key
     each_agrees : (i j : ℕ) (e : Place) → slice_get (S.join p s q) i ≡ Some e → j ≡ i → agrees C L q e (entry_for C L S T p s q (j + 1)) ≡ true
     each_agrees i j e at same =
         let is : entry_for C L S T p s q (i + 1) ≡ entry_from C T p s (place_of C L S T q) (position_of_key (S.image p s) (i + 1)) =

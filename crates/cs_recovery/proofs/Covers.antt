@@ -1,4 +1,4 @@
--- The accepted losses of a table are the safe ones that have a site of each conflict.
+-- The accepted losses of a table are the safe ones that contain a site of each conflict.
 use Rattle.std.proofs.Common.{◌≡◌, ℕ, ◌+◌, ◌<◌, ◌≤◌, List, refl, sym, ap, subst, ◌∙◌, Bool, true, false, ◌⊎◌, inl, inr, Option, Some, None, length, arith}
 use Rattle.std.specs.Prelude.{IsTrue}
 use Rattle.std.specs.List.{slice_get}
@@ -29,11 +29,11 @@ use Rattle.cs_recovery.proofs.Exact.{Layers, sound}
 use Rattle.cs_recovery.proofs.RowPlaces.{kept_after, place_kept, kept_row, place}
 use Rattle.cs_recovery.proofs.Walks.{IsKeyed}
 
--- the place of a row that stands at a position
+-- the place of a row at a position
 abbrev pub entry_from : CatalogData → List Row → ℕ → ℕ → (Row → Place) → Option ℕ → Place
 entry_from C T p s f o = option_map_or f (option_and_then (slice_get (rows_of C T p s)) o) no_place
 
--- ---- an accepted loss has a site of each conflict
+-- ---- an accepted loss contains a site of each conflict
 
 module _ (C : CatalogData) (cat : IsCatalog C) (layers : Layers C) (F : FileContents) (L : Sites) (T : List Row) (h : HoldsSurvivors C F L T) where
   abbrev S : Contents
@@ -63,13 +63,13 @@ module _ (C : CatalogData) (cat : IsCatalog C) (layers : Layers C) (F : FileCont
       (slice_get-made (λ i. entry_for C L S T p s q (i + 1)) (image_after C L S T p s).top before (omega (arith, l, c))) in
       subst (λ w. agrees C L q w (entry_for C L S T p s q (before + 1)) ≡ true) (same_Some x.0 e (sym x.1 ∙ at)) x.2
 
-  -- the entry at a key, by the position of the key
+  -- the entry for a key, by the position of the key
   entry_by : (p s q before : ℕ) (m : ImageData) (o : Option ℕ) → Survives C L (FileName.Seg p s) → IsImageOf C F p s m → position_of_key m (before + 1) ≡ o → entry_for C L S T p s q (before + 1) ≡ entry_from C T p s (place_of C L S T q) o
   entry_by p s q before m o v i e =
       ap (λ w. entry_from C T p s (place_of C L S T q) (position_of_key w (before + 1))) (kept_after C S T L p s v.1 ∙ sym (image_is p s m v i))
       ∙ ap (entry_from C T p s (place_of C L S T q)) e
 
-  -- the entry of a row leads to its place
+  -- the entry of a row agrees with its place
   row_agrees : (p s q : ℕ) (r : Row) (e : Place) → Survives C L (FileName.Jix p s q) → IsEntryOf C F T p s q r e → agrees C L q e (place_of C L S T q r) ≡ true
   row_agrees p s q r e v n =
       let at : slice_get (S.join p s q) n.before ≡ Some e = ap (λ es. slice_get es n.before) (sym (join_is p s q n.entries v n.is_join)) ∙ n.entry in
@@ -107,7 +107,7 @@ module _ (C : CatalogData) (cat : IsCatalog C) (layers : Layers C) (F : FileCont
       wrong (inl other) x = other x.0
       wrong (inr none) x = absurd (let y = x.1 in omega (arith, none, y))
 
-  -- two surviving sites name a row by one key
+  -- two surviving sites name a row by the same key
   keys_agree : (p s q : ℕ) (r : Row) (e : Place) (key : ℕ) → Survives C L (FileName.Jix p s q) → lost C L q (segment_of_row C q r) ≡ false → IsEntryOf C F T p s q r e → IsKeyOf C F T q r key → e.1 ≡ key
   keys_agree p s q r e key v l en k =
       let t : ℕ = segment_of_row C q r in

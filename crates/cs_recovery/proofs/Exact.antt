@@ -1,4 +1,5 @@
--- Where files hold a table as far as they survive, the verdict is that table: so the answer is its files, and no other table is held.
+-- If the survivors of a loss hold a table, the verdict is that table: its files are the answer, and no other table is
+-- held.
 use Rattle.std.proofs.Common.{◌≡◌, ℕ, zero, suc, ◌+◌, ◌≤◌, List, [], ◌∷◌, ◌++◌, map, refl, sym, ap, subst, ◌∙◌, Bool, true, false, not, ◌||◌, inl, inr, None, length, arith, Ok, Ordering}
 use Rattle.std.specs.Prelude.{nat_lt}
 use Rattle.std.specs.List.{range_with_len, filter, flat_map}
@@ -126,14 +127,14 @@ joins_survive C L a h =
 
 -- ---- the verdict
 
--- what the layers below promise: files of one name hold one content, and the keys of an image are in order
+-- what the layers below promise: a file has one content, and the keys of an image are distinct
 pub record Layers (C : CatalogData) : Type 0 where
   pub one_image : (F : FileContents) (p s : ℕ) → HasSegment C p s → (m n : ImageData) → IsImageOf C F p s m → IsImageOf C F p s n → m ≡ n
   pub one_join : (F : FileContents) (p s q : ℕ) (e f : List Place) → IsJoinOf F p s q e → IsJoinOf F p s q f → e ≡ f
   pub keyed : (F : FileContents) (p s : ℕ) (m : ImageData) → IsImageOf C F p s m → IsKeyed m
 
 module _ (C : CatalogData) (cat : IsCatalog C) (layers : Layers C) (F : FileContents) (L : Sites) where
-  -- `place_of` and `entries_for` read the images of surviving segments alone, and these are the same
+  -- the surviving files of a reading are sound
   pub sound : (S : Contents) → Reads C F L S → (n : FileName) → Survives C L n → IsSound C F n
   sound S r (FileName.Seg p s) h = let i = r.images p s h in (i.segment_bytes, i.base, i.has_segment, i.segment_file)
   sound S r (FileName.Del p s) h = (S.image p s, r.images p s h)
@@ -162,7 +163,7 @@ module _ (C : CatalogData) (cat : IsCatalog C) (layers : Layers C) (F : FileCont
       ∙ ap (λ o. unless_refused (option_or o (option_or (full C T) (option_or (misplaced C L S T) (misled C L S T)))) T) two
       ∙ ap (λ o. unless_refused o T) (none_refused S T t fits same)
 
-  -- the same by rows, where the loss leaves each row
+  -- by rows, if the loss leaves every row reachable
   pub judged_by_rows : (S : Contents) (T : List Row) → Reads C F L S → IsTable C T → Fits C T → AreContentsOf C L S T → IsSafeByRows C L → judged C L S (walked_by_rows C L S) ≡ Ok T
   judged_by_rows S T reads t fits same safe =
       let keyed : (p s : ℕ) → Survives C L (FileName.Seg p s) → IsKeyed (S.image p s) = λ p s h. layers.keyed F p s (S.image p s) (reads.images p s h) in

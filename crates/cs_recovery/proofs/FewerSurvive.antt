@@ -1,4 +1,4 @@
--- What the files that survive a loss hold, those that survive a larger one hold.
+-- A table that the survivors of a loss hold is held by the survivors of a larger loss.
 use Rattle.std.proofs.Common.{◌≡◌, ℕ, ◌+◌, ◌<◌, List, map, refl, sym, ap, subst, ◌∙◌, Bool, true, false, Option, Some, None, length}
 use Rattle.std.specs.Prelude.{slice_index}
 use Rattle.std.specs.List.{slice_get}
@@ -72,7 +72,7 @@ module _ (C : CatalogData) (cat : IsCatalog C) (layers : Layers C) (F : FileCont
     abbrev t : ℕ
     t = segment_of_row C q r
 
-    -- the entry of a row, as the larger loss sees it
+    -- the entry of a row agrees under the larger loss too
     row_agrees : (e : Place) → agrees C L q e (place_of C L S T q r) ≡ true → agrees C M q e (place_of C M S T q r) ≡ true
     row_agrees e a = go (lost C M q t) refl
       where
@@ -102,11 +102,11 @@ module _ (C : CatalogData) (cat : IsCatalog C) (layers : Layers C) (F : FileCont
           let m = ((rows_of-are C T h.table p s).members r).0 (in_at (rows_of C T p s) i r x) in
           subst (λ w. agrees C M q e (option_map_or (place_of C M S T q) w no_place) ≡ true) (sym x) (row_agrees q r hq m.0 e b)
 
-  -- the entries of a join index, by the image of its segment
+  -- the entries of a join index, given the image of its segment
   abbrev entries_from : Sites → ℕ → ℕ → ℕ → ImageData → List Place
   entries_from N p s q m = map (λ i. entry_from p s (place_of C N S T q) (position_of_key m (i + 1))) (numbers_below m.top)
 
-  -- a join index that survives the larger loss, as that loss sees it
+  -- a join index that survives the larger loss agrees under that loss too
   join_agrees : (p s q : ℕ) → lost C M p s ≡ false → q < length C.projections → pointwise (agrees C L q) (S.join p s q) (entries_for C L S T p s q) ≡ true → pointwise (agrees C M q) (S.join p s q) (entries_for C M S T p s q) ≡ true
   join_agrees p s q e hq a =
       let m : ImageData = S.image p s in
@@ -116,7 +116,7 @@ module _ (C : CatalogData) (cat : IsCatalog C) (layers : Layers C) (F : FileCont
       agree_map (agrees C L q) (agrees C M q) (f L) (f M) (S.join p s q) (numbers_below m.top) (λ i x c. position_agrees p s q x hq (position_of_key m (i + 1)) c) here in
       subst (λ x. pointwise (agrees C M q) (S.join p s q) (entries_from M p s q x) ≡ true) (sym (kept_after C S T M p s e)) there
 
-  -- the files that survive the larger loss hold the table, whatever stands under the other names
+  -- the files that survive the larger loss hold the table, whatever is under the other names
   pub fewer_hold : (G : FileContents) → SameSurvivors C M F G → HoldsSurvivors C G M T
   fewer_hold G same = record {
     table = h.table;

@@ -1,4 +1,4 @@
--- A row that the walk from an earlier row finds by itself is a repeat of that: so the walk by rows may leave it out.
+-- A row that an earlier walk finds by itself repeats that row, so the walk by rows may leave it out.
 use Rattle.std.proofs.Common.{◌≡◌, ℕ, zero, suc, ◌+◌, ◌<◌, ◌≤◌, List, [], ◌∷◌, ◌++◌, refl, sym, ap, subst, ◌∙◌, arith, Bool, true, false, not, cond, ◌&&◌, ◌||◌, ◌⊎◌, inl, inr, Option, Some, None, length, append_assoc, true≢false}
 use Rattle.std.specs.Prelude.{nat_lt, pos}
 use Rattle.std.specs.List.{filter_map, flat_map, cons_option, find, list_any, range_with_len}
@@ -34,19 +34,19 @@ use Rattle.cs_recovery.proofs.RowLevels.{IsKeptRow, in_rows, landing_kept, found
 use Rattle.cs_safety.proofs.Bounded.{and_first, and_second}
 use Rattle.cs_recovery.proofs.Judged.{all_fail}
 
--- ---- rows of which some repeats are left out
+-- ---- rows without some repeats
 
 module _ (C : CatalogData) where
   -- some row has the key
   abbrev has_key : Value → List Row → Bool
   has_key v rows = list_any (λ (r : Row). value_eq (cell r C.key) v) rows
 
-  -- the same rows but for repeats
+  -- the same rows except for repeats
   record Alike (all left : List Row) : Type 0 where
     pub rows : without_repeats C all ≡ without_repeats C left
     pub keys : (v : Value) → has_key v all ≡ has_key v left
 
-  -- what one more start adds: the same row to both, or a repeat to the first alone
+  -- what one more start adds: the same row to both, or a repeat only to the first
   abbrev AddsRepeat : List Row → Option Row → Option Row → Type 0
   AddsRepeat left x y = (y ≡ x) ⊎ ((y ≡ None) × ((r : Row) → x ≡ Some r → has_key (cell r C.key) left ≡ true))
 
@@ -87,7 +87,7 @@ module _ (C : CatalogData) where
 
 -- ---- lists
 
--- rows are sought by their numbers
+-- a search by projection, among rows or among their projections
 find_by_number : (p : ℕ → Bool) (rs : List Reached) → find p (numbers_of rs) ≡ option_map (λ (r : Reached). r.0) (find (λ (r : Reached). p r.0) rs)
 find_by_number p [] = refl
 find_by_number p (r ∷ rs) = go (p r.0) (find_by_number p rs)
@@ -103,12 +103,12 @@ module _ (C : CatalogData) (L : Sites) (S : Contents) (keyed : C.key < length C.
   abbrev left_of : List Reached → List Row
   left_of xs = filter_map (fresh_row C L S) xs
 
-  -- ---- starts in turn
+  -- ---- starts one by one
 
   abbrev AlikeOf : List Reached → Type 0
   AlikeOf xs = Alike C (all_of xs) (left_of xs)
 
-  -- a start adds the same row to both, or a repeat of what was left of some others
+  -- a start adds the same row to both, or, only to the first, a repeat of a row that other starts have left
   abbrev RepeatsAt : List Reached → Reached → Type 0
   RepeatsAt base x = AddsRepeat C (left_of base) (row_from C L S x) (fresh_row C L S x)
 
@@ -177,7 +177,7 @@ module _ (C : CatalogData) (L : Sites) (S : Contents) (keyed : C.key < length C.
       alone y (inl a) = inl a
       alone y (inr b) = absurd b
 
-  -- the row of an earlier projection, with every column, from which the key is read
+  -- the row of an earlier superprojection at which the key is read
   record ReadBefore (x : Reached) (F : Found) : Type 0 where
     pub at : Reached
     pub source : source_in C F C.key ≡ Some at
@@ -257,6 +257,6 @@ module _ (C : CatalogData) (L : Sites) (S : Contents) (keyed : C.key < length C.
         go None e = inl (ap (option_and_then (if_fresh C S)) e ∙ sym (ap (option_and_then (full_row C S)) e))
         go (Some F) e = by_tests F e (is_full C F) (is_found_before C (numbers_of F.reached)) refl refl
 
-    -- without later repeats, the rows that all walks find are those that they find of which none is found before
+    -- without later repeats, all full rows are those that no earlier walk finds
     pub fresh_rows_alike : without_repeats C (all_of (surviving_rows C L S)) ≡ without_repeats C (left_of (surviving_rows C L S))
     fresh_rows_alike = (subst AlikeOf (sym (surviving_are C L S)) (in_turn (λ p h x i. repeats_at p x i) (length C.projections) (omega arith))).rows

@@ -1,4 +1,4 @@
--- A verdict that is a table holds: its rows fit, and the contents of surviving segments are those of the table.
+-- If a verdict is a table, its rows fit, and the contents of surviving segments are those of the table.
 use Rattle.std.proofs.Common.{◌≡◌, ℕ, List, [], ◌∷◌, map, refl, sym, ap, subst, ◌∙◌, Bool, true, false, not, cond, inl, inr, Option, Some, None, length, arith, Result, Ok, Err}
 use Rattle.std.specs.Prelude.{nat_lt}
 use Rattle.std.specs.List.{filter, find}
@@ -80,7 +80,7 @@ in_joins C cat L p s q v =
     flat_map_in (λ (a : ℕ × ℕ). map (λ r. (a.0, a.1, r)) (filter (has_join C a.0) (numbers_below (length C.projections)))) (surviving_segments C L) (p, s) (p, s, q) (in_survivors C L p s (v.0.0, v.1))
     (map_in (λ r. (p, s, r)) (filter (has_join C p) (numbers_below (length C.projections))) q (filter_in (has_join C p) (numbers_below (length C.projections)) q (range_in 0 (length C.projections) q (omega arith) (omega (arith, hq))) v.0.1))
 
--- a verdict of rows: no fault applied
+-- a verdict that is a table: no fault applied
 pub record IsJudged (C : CatalogData) (L : Sites) (S : Contents) (rows T : List Row) : Type 0 where
   pub is : table_of C rows ≡ T
   pub once : is_twice C rows ≡ false
@@ -111,7 +111,7 @@ judged_so C L S rows T e =
       misled = subst (λ V. misled C L S V ≡ None) a.1 d.1;
     }
 
--- where no range is too large, each fits
+-- if no range is too large, each fits
 pub full_fits : (C : CatalogData) (T : List Row) → full C T ≡ None → Fits C T
 full_fits C T e p s h =
     let none = none_mapped (λ (a : ℕ × ℕ). Fault.Full a.0 a.1) (find (λ (a : ℕ × ℕ). nat_lt row_limit (length (rows_of C T a.0 a.1))) (all_segments C)) e in
@@ -132,7 +132,7 @@ judged_contents C cat L S rows T j = record {
       not_not (pointwise (agrees C L q) (S.join p s q) (entries_for C L S T p s q)) (all_fail test (surviving_joins C L) none (p, s, q) (in_joins C cat L p s q v));
 }
 
--- the rows of a walk that ended
+-- the rows of a walk that was not led astray
 pub record IsWalked (C : CatalogData) (S : Contents) (P : PlanData) (rows : List Row) : Type 0 where
   pub is : rows ≡ map (walked_row C S P) (projection_rows C S P.anchor)
   pub straight : (at : At) → IsIn at (projection_rows C S P.anchor) → is_astray C S P at ≡ false
@@ -147,7 +147,7 @@ walked_so C S P rows e = go (find (is_astray C S P) (projection_rows C S P.ancho
     go None x y = record { is = sym (ap (or_else rows) y); straight = all_fail (is_astray C S P) (projection_rows C S P.anchor) x }
     go (Some at) x y = absurd (subst IsOkVerdict (sym y) tt)
 
--- the table of walked rows, each of them a row of the catalog, is a table
+-- if each walked row is a row of the catalog, their table is a table
 pub table_of_rows : (C : CatalogData) (rows : List Row) → ((r : Row) → IsIn r rows → IsRow C r) → IsTable C (table_of C rows)
 table_of_rows C rows f = record { rows = λ r h. f r (in_ascending (key_cmp C) (key_total C) rows r h); keys = ascending_sorted (key_cmp C) (key_total C) rows }
 
@@ -155,14 +155,14 @@ pub judged_table : (C : CatalogData) (L : Sites) (S : Contents) (rows T : List R
 judged_table C L S rows T j f =
     subst (IsTable C) j.is (table_of_rows C rows f)
 
--- what is left to the rows of the walk: their cells have the columns' kinds
+-- what remains to be shown of the rows of a walk: their cells have the columns' kinds
 abbrev pub WalkKeepsKinds : CatalogData → FileContents → Sites → Type 0
 WalkKeepsKinds C F L = (S : Contents) (P : PlanData) → Reads C F L S → IsPlan C L P → (at : At) → IsIn at (projection_rows C S P.anchor) → is_astray C S P at ≡ false → IsRow C (walked_row C S P at)
 
 abbrev pub RowsKeepKinds : CatalogData → FileContents → Sites → Type 0
 RowsKeepKinds C F L = (S : Contents) → Reads C F L S → (rows : List Row) → walked_by_rows C L S ≡ Ok rows → (r : Row) → IsIn r rows → IsRow C r
 
--- the rows of a walk that ended are rows of the catalog
+-- the rows of a walk are rows of the catalog
 pub walked_are_rows : (C : CatalogData) (F : FileContents) (L : Sites) → WalkKeepsKinds C F L → RowsKeepKinds C F L → (S : Contents) → Reads C F L S → (rule : Safety) (rows : List Row) → IsWalkedBy rule C L S (Ok rows) → (r : Row) → IsIn r rows → IsRow C r
 walked_are_rows C F L kinds row_kinds S reads Safety.Whole rows x r h =
     let k = walked_so C S x.0 rows (sym x.2) in
@@ -170,7 +170,7 @@ walked_are_rows C F L kinds row_kinds S reads Safety.Whole rows x r h =
     subst (IsRow C) (sym m.2) (kinds S x.0 reads x.1 m.0 m.1 (k.straight m.0 m.1))
 walked_are_rows C F L kinds row_kinds S reads Safety.Rows rows x r h = row_kinds S reads rows (sym x) r h
 
--- A verdict that is a table is held by the surviving files.
+-- If a verdict is a table, the surviving files hold it.
 pub verdict_holds : (C : CatalogData) → IsCatalog C → (F : FileContents) (L : Sites) → WalkKeepsKinds C F L → RowsKeepKinds C F L → (T : List Row) → IsVerdict C F L (Ok T) → HoldsSurvivors C F L T
 verdict_holds C cat F L kinds row_kinds T (IsVerdict.bad_file n f b e) = absurd (subst IsOkVerdict e tt)
 verdict_holds C cat F L kinds row_kinds T (IsVerdict.contents S w reads by e) = go w by e

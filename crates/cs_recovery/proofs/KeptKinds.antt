@@ -152,7 +152,7 @@ module _ (C : CatalogData) (cat : IsCatalog C) (F : FileContents) (L : Sites) (S
           option_and_then_some (follow C S p q) (stands C S P at n p) to b (λ from c d.
           option_and_then_some (landed C S q) (entry_of S p q from) to d (λ place f g. landed_inside q place to g)))
 
-  -- a reached projection is planned
+  -- a projection that is reached is planned
   reached_planned : (q d : ℕ) → IsDistance C (alive C L) P.anchor q d → is_planned P q ≡ true
   reached_planned q d k = go (q == P.anchor) refl (prev_of P q) refl (plan.prev q (path_exists C (alive C L) P.anchor plan.anchor.exists q d k.path))
     where

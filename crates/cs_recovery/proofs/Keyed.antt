@@ -1,4 +1,4 @@
--- The keys of an image are distinct, and from 1 to its top.
+-- The keys of an image are distinct, and are from 1 to its top.
 use Rattle.std.proofs.Common.{◌≡◌, ℕ, zero, suc, ◌+◌, ◌<◌, ◌≤◌, List, [], ◌∷◌, ◌++◌, map, refl, sym, ap, subst, ◌∙◌, Bool, true, false, not, cond, ◌&&◌, inl, inr, Some, None, length, arith, ◌==◌, eqb-true, eq-eqb}
 use Rattle.std.specs.Prelude.{nat_le}
 use Rattle.std.specs.List.{flat_map, slice_get, position_or_len, range_with_len, filter_map, cons_option, list_any, IsDistinct, AllByRecursion}
@@ -16,7 +16,7 @@ use Rattle.cs_schema.proofs.Lists.{position_first}
 use Rattle.cs_safety.proofs.Distances.{differs}
 use Rattle.cs_recovery.proofs.Walks.{IsKeyed}
 
--- how often k stands in a list
+-- how often k occurs in a list
 abbrev times : ℕ → List ℕ → ℕ
 times k [] = 0
 times k (x ∷ xs) = cond (x == k) 1 0 + times k xs
@@ -35,7 +35,7 @@ keys-append : (xs ys : List Pair) → keys (xs ++ ys) ≡ keys xs ++ keys ys
 keys-append [] ys = refl
 keys-append (x ∷ xs) ys = ap (λ l. x.0 ∷ l) (keys-append xs ys)
 
--- how many items insert the key k at position i, or from it on
+-- an item inserts key k at position i, or at position i or later
 abbrev inserts_at : ℕ → ℕ → Change → Bool
 inserts_at i k (Change.insert at key row) = (at == i) && (key == k)
 inserts_at i k (Change.delete at) = false
@@ -87,7 +87,7 @@ split_inserts i k (c ∷ cs) = let a = split_insert i k c in let b = split_inser
 times_kept : (items : List Change) (i k : ℕ) (x : Pair) → times k (keys (kept items i x)) ≤ one_if (x.0 == k)
 times_kept items i k x = elim (list_any (deletes i) items) as (λ b. times k (keys (cond b [] ((x.0, modified i items x.1) ∷ []))) ≤ one_if (x.0 == k)) [ true ↦ omega arith | false ↦ omega arith ]
 
--- no key stands in the image more often than in its inserts and its base
+-- no key occurs in the image more often than in its inserts and its base together
 times_applied : (items : List Change) (k i : ℕ) (xs : List Pair) → times k (keys (applied_from items i xs)) ≤ how_many (inserts_from i k) items + times k (keys xs)
 times_applied items k i [] =
     let a = inserted_times i k items in
@@ -133,7 +133,7 @@ distinct_once k (x ∷ xs) d = go (x == k) refl (distinct_once k xs d.1)
         let y : times k xs ≡ 0 = subst (λ w. times w xs ≡ 0) (eqb-true x k e) (absent x xs d.0) in
         omega arith
 
--- a key that is inserted is above the base
+-- an inserted key is above those of the base
 inserted_above : (C : CatalogData) (p : ℕ) (d : DeltaData) (n k : ℕ) (cs : List Change) → ((c : Change) → IsIn c cs → IsChange C p d n c) → 1 ≤ times k (filter_map inserted_key cs) → (d.rows < k) × (k ≤ d.top)
 inserted_above C p d n k [] f h = absurd (omega arith)
 inserted_above C p d n k (Change.insert at key row ∷ cs) f h = go (key == k) refl (λ m. inserted_above C p d n k cs (λ c i. f c (inr i)) m) h
@@ -144,7 +144,7 @@ inserted_above C p d n k (Change.insert at key row ∷ cs) f h = go (key == k) r
 inserted_above C p d n k (Change.delete at ∷ cs) f h = inserted_above C p d n k cs (λ c i. f c (inr i)) h
 inserted_above C p d n k (Change.modify at j v ∷ cs) f h = inserted_above C p d n k cs (λ c i. f c (inr i)) h
 
--- ---- over all layers
+-- ---- all layers
 
 abbrev all_inserted : List (List Change) → List ℕ
 all_inserted ls = flat_map (filter_map inserted_key) ls
@@ -166,7 +166,7 @@ all_above C p d k n (l ∷ ls) a h = go (times k (filter_map inserted_key l)) re
     go zero e f = f (let x = times-append k (filter_map inserted_key l) (all_inserted ls) in omega (arith, x, e))
     go (suc m) e f = inserted_above C p d n k l a.0.items (omega (arith, e))
 
--- ---- the base's keys
+-- ---- the keys of the base
 
 base_keys : (b : Base) (a n : ℕ) → keys (map (λ i. (i + 1, base_row b i)) (range_with_len a n)) ≡ range_with_len (a + 1) n
 base_keys b a zero = refl

@@ -1,4 +1,4 @@
--- How many sites two losses have together, where they share some.
+-- The number of sites of two losses that share some.
 use Rattle.std.proofs.Common.{◌≡◌, ℕ, suc, ◌+◌, ◌<◌, ◌≤◌, ◌++◌, ◌⊎◌, Bool, true, false, not, cond, List, [], ◌∷◌, length, length-append, refl, ap, arith, inl, inr, Ordering}
 use Rattle.std.specs.Prelude.{IsTrue}
 use Rattle.std.specs.List.{filter}
@@ -17,7 +17,7 @@ use Rattle.cs_schema.proofs.Ascending.{All-in, ascending_sorted, in_ascending, a
 use Rattle.cs_schema.proofs.Lists.{member_in, in_member, append_left, append_right, in_append}
 use Rattle.cs_safety.proofs.LossTails.{less_lt}
 
--- ---- a loss within another
+-- ---- a loss that contains another
 
 abbrev AreAmong : Sites → Sites → Type 0
 AreAmong L M = (x : ℕ) → IsIn x L → IsIn x M
@@ -30,7 +30,7 @@ sorted_rest : (x : ℕ) (M : Sites) → IsStrictlySortedBy nat_cmp (x ∷ M) →
 unfolding IsStrictlySortedBy
 sorted_rest x M s = s.1
 
--- without the head of the larger, where the smaller begins above it
+-- without the first site of the larger loss, if the smaller one starts above it
 later : (y : ℕ) (L M : Sites) → ((x : ℕ) → IsIn x L → y < x) → AreAmong L (y ∷ M) → AreAmong L M
 later y L M above a x h = go (a x h)
   where
@@ -62,7 +62,7 @@ fewer_or_same (x ∷ L) (y ∷ M) s t a =
     go (inl e) f g = grown (f (sorted_rest x L s) (later y L M (λ z h. let l = above_head x z L s h in omega (arith, l, e)) (λ z h. a z (inr h)))) e
     go (inr k) f g = smaller (g (later y (x ∷ L) M (above k) a))
 
--- a loss within another has no more sites
+-- a loss within another does not have more sites
 within_size : (L M : Sites) → IsStrictlySortedBy nat_cmp L → IsStrictlySortedBy nat_cmp M → IsWithin L M → length L ≤ length M
 within_size L M s t w = elim (fewer_or_same L M s t (λ x i. member_in M x (w x (in_member L x i)))) [ inl f ↦ omega (arith, f) | inr e ↦ (let l : length L ≡ length M = ap length e in omega (arith, l)) ]
 
@@ -119,7 +119,7 @@ module _ (shared B M : Sites) where
       go x (inl i) = b.1 x (in_member B x i)
       go x (inr i) = m.1 x (in_member M x (in_filter (λ y. not (member shared y)) M x i).0)
 
-  -- shared sites count once
+  -- shared sites are counted once
   pub few_both : IsStrictlySortedBy nat_cmp shared → IsStrictlySortedBy nat_cmp M → IsWithin shared M → length both + length shared ≤ length B + length M
   few_both s t w =
       let kept = filter (member shared) M in

@@ -1,4 +1,4 @@
--- What is accepted holds as far as it survives a loss, and the answers that follow.
+-- The survivors of an accepted store hold its table, and the answers that follow.
 use Rattle.std.proofs.Common.{◌≡◌, ℕ, ◌≤◌, List, [], sym, ap, subst, inl, inr, length, Result, Ok, Err}
 use Rattle.cs_store.specs.declared.fault.Fault.{Fault}
 use Rattle.cs_schema.specs.CatalogData.{CatalogData}
@@ -25,7 +25,7 @@ abbrev IsFault : Verdict → Type 0
 IsFault (Ok T) = ⊥
 IsFault (Err f) = Unit {0}
 
--- the files that survive a loss hold the table of the whole store, whatever stands under the other names
+-- the survivors of a loss hold the table of the whole store, whatever is under the other names
 pub held_rest : (C : CatalogData) → IsCatalog C → Layers C → (F G : FileContents) (L : Sites) (T : List Row) → Holds C F T → SameSurvivors C L F G → HoldsSurvivors C G L T
 held_rest C cat layers F G L T h same = fewer_hold C cat layers F [] L (λ x m. false≢true m) T h G same
 
@@ -38,7 +38,7 @@ accepted_verdict C cat layers F G L k T a l few same v (IsRebuildVerdict.site n 
 accepted_verdict C cat layers F G L k T a l few same v (IsRebuildVerdict.unsafe n u e) = absurd (u (a.safe L l few))
 accepted_verdict C cat layers F G L k T a l few same v (IsRebuildVerdict.safe n u w) = verdict_is C cat layers G L u T (held_rest C cat layers F G L T a.holds same) v w
 
--- Every answer on what survives of an accepted store is want of memory, or the files that recover its table.
+-- Every answer on what survives of an accepted store is out of memory, or the files that recover its table.
 pub accepted_answer : (C : CatalogData) → IsCatalog C → Layers C → (F G : FileContents) (L : Sites) (k : ℕ) (T : List Row) → IsAccepted C F k T → IsLoss C L → length L ≤ k → SameSurvivors C L F G → (r : Result Files Fault) → IsRebuildAnswer C G L r → IsRecovered C F L T r
 accepted_answer C cat layers F G L k T a l few same (Ok out) x =
     let e : x.0 ≡ T = ap table_in (accepted_verdict C cat layers F G L k T a l few same (Ok x.0) x.1) in

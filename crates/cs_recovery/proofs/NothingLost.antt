@@ -1,4 +1,4 @@
--- Where nothing is lost, nothing is written.
+-- If nothing is lost, nothing is written.
 use Rattle.std.proofs.Common.{◌≡◌, ℕ, List, [], ◌∷◌, map, length, refl, ap, ◌∙◌, Bool, true, false, not, ◌&&◌, None}
 use Rattle.std.specs.List.{list_any}
 use Rattle.cs_schema.specs.declared.file_name.FileName.{FileName}

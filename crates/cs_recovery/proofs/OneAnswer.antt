@@ -1,4 +1,4 @@
--- Two answers on the same files are one, want of memory aside.
+-- Two answers on the same files are the same, unless memory runs out.
 use Rattle.std.proofs.Common.{◌≡◌, ℕ, List, [], refl, sym, ap, subst, ◌∙◌, Bool, true, false, ◌&&◌, ◌||◌, not, ◌⊎◌, inl, inr, length, Result, Ok, Err}
 use Rattle.std.specs.Prelude.{nat_lt}
 use Rattle.std.specs.FinMap.{same_map}
@@ -57,7 +57,7 @@ segment_there C p s e =
     (ltb-true p (length C.projections) x.0, ltb-true s (segments C p) x.1)
 
 module _ (C : CatalogData) (cat : IsCatalog C) (layers : Layers C) (F : FileContents) (L : Sites) where
-  -- what is written is the same for each reading of the files
+  -- each reading of the files gives the same written files
   same_written : (S S' : Contents) → Reads C F L S → Reads C F L S' → (T : List Row) (n : FileName) → written C L S T n ≡ written C L S' T n
   same_written S S' r r' T (FileName.Seg p s) = refl
   same_written S S' r r' T (FileName.Del p s) = refl
@@ -85,6 +85,6 @@ module _ (C : CatalogData) (cat : IsCatalog C) (layers : Layers C) (F : FileCont
   same_answer (Err e) (Err f) (inr u) (inl m) = inr (ap Err m)
   same_answer (Err e) (Err f) (inr u) (inr v) = inl (inl (ap (λ w. Err (fault_in w)) (one_rebuild_verdict C cat layers F L (Err e) (Err f) u v)))
 
--- the same of files that agree under the surviving names
+-- two answers on files that agree under the surviving names
 pub one_answer : (C : CatalogData) → IsCatalog C → Layers C → (F G : FileContents) (L : Sites) (r s : Result Files Fault) → SameSurvivors C L F G → IsRebuildAnswer C F L r → IsRebuildAnswer C G L s → IsOrMemory s r ⊎ (s ≡ Err Fault.Memory)
 one_answer C cat layers F G L r s same x y = same_answer C cat layers G L r s (survivors_answer C F G L same r x) y

@@ -1,4 +1,4 @@
--- Where two losses are within a safe one, the stores that they leave hold one table.
+-- If two losses are contained in a safe one, the stores that they leave hold the same table.
 use Rattle.std.proofs.Common.{◌≡◌, List, [], refl, sym, ap, ◌∙◌, Ok, Err}
 use Rattle.cs_schema.specs.CatalogData.{CatalogData}
 use Rattle.cs_schema.specs.declared.kinds.Safety.{Safety}
@@ -26,7 +26,7 @@ safe_rows C cat N Safety.Whole s = whole_by_rows C cat N s
 safe_rows C cat N Safety.Rows s = s
 
 module _ (C : CatalogData) (cat : IsCatalog C) (layers : Layers C) where
-  -- The surviving files of a safe loss hold one table at most: the walk by rows ends with it.
+  -- The survivors of a safe loss hold at most one table: the walk by rows ends with it.
   pub one_held : (rule : Safety) (F : FileContents) (N : Sites) (T U : List Row) → IsSafeBy rule C N → HoldsSurvivors C F N T → HoldsSurvivors C F N U → T ≡ U
   one_held rule F N T U safe h k =
       let rows = safe_rows C cat N rule safe in
@@ -35,7 +35,7 @@ module _ (C : CatalogData) (cat : IsCatalog C) (layers : Layers C) where
       let b : judged C N h.contents (walked_by_rows C N h.contents) ≡ Ok U = judged_by_rows C cat layers F N h.contents U h.reads k.table k.fits other rows in
       ap table_in (sym a ∙ b)
 
-  -- The same of two losses within it.
+  -- So do the survivors of two losses that it contains.
   pub one_table_held : (rule : Safety) (F G : FileContents) (L M N : Sites) (T U : List Row) → IsWithin L N → IsWithin M N → IsSafeBy rule C N → SameSurvivors C N F G → HoldsSurvivors C F L T → HoldsSurvivors C G M U → T ≡ U
   one_table_held rule F G L M N T U a b safe same h k =
       one_held rule G N T U safe (fewer_hold C cat layers F L N a T h G same) (fewer_hold C cat layers G M N b U k G (λ n v. refl))

@@ -1,4 +1,4 @@
--- The surviving files have one verdict at most.
+-- The surviving files have at most one verdict.
 use Rattle.std.proofs.Common.{◌≡◌, ℕ, zero, suc, ◌<◌, List, [], map, refl, sym, ap, subst, ◌∙◌, Bool, true, false, not, cond, ◌&&◌, ◌⊎◌, inl, inr, Option, Some, None, length, arith, ◌==◌, Result, Ok, Err, Ordering}
 use Rattle.std.specs.Prelude.{slice_index, slice_index_or, nat_lt, MatchOption}
 use Rattle.std.specs.List.{find}
@@ -44,9 +44,7 @@ use Rattle.cs_recovery.proofs.KeptKinds.{IsInside, stands_inside, anchor_inside,
 use Rattle.cs_recovery.proofs.RowLists.{find_same, map_same, flat_map_same, any_same}
 use Rattle.cs_recovery.proofs.RowReadings.{same_row_walk}
 
--- ---- one plan
-
--- ---- one walk, and one judgement, for readings that agree where segments survive
+-- ---- one walk, and one judgement, of readings that agree in the surviving segments
 
 module _ (C : CatalogData) (cat : IsCatalog C) (layers : Layers C) (F : FileContents) (L : Sites) (S S' : Contents) (r : Reads C F L S) (r' : Reads C F L S') where
   same_image : (p s : ℕ) → Survives C L (FileName.Seg p s) → S.image p s ≡ S'.image p s
@@ -149,7 +147,7 @@ module _ (C : CatalogData) (cat : IsCatalog C) (layers : Layers C) (F : FileCont
       λ i. not (pointwise (agrees C L a.2) (x i) (y i)))) in
       λ i. unless_refused (option_or (twice C rows) (option_or (full C T) (option_or (p i) (q i)))) T
 
--- ---- one least bad file
+-- ---- one first bad file
 
 abbrev at_or_zero : ℕ → List ℕ → ℕ
 at_or_zero n xs = slice_index xs n
@@ -197,7 +195,7 @@ one_verdict C cat layers F L v u (IsVerdict.contents S w r k x) (IsVerdict.conte
         let e : w ≡ w' = a.2 ∙ same_walk C cat layers F L S S' r r' a.0 a.1 ∙ ap (walked C S') (one_plan C L a.0 b.0 a.1 b.1) ∙ sym b.2 in
         x ∙ same_judged C cat layers F L S S' r r' w ∙ ap (judged C L S') e ∙ sym y
 
--- what `rebuild` answers is one verdict
+-- `rebuild` has at most one verdict
 pub one_rebuild_verdict : (C : CatalogData) → IsCatalog C → Layers C → (F : FileContents) (L : Sites) (v u : Verdict) → IsRebuildVerdict C F L v → IsRebuildVerdict C F L u → v ≡ u
 one_rebuild_verdict C cat layers F L v u (IsRebuildVerdict.site n x) (IsRebuildVerdict.site m y) = x ∙ sym y
 one_rebuild_verdict C cat layers F L v u (IsRebuildVerdict.site n x) (IsRebuildVerdict.unsafe m s y) = absurd (n m)

@@ -1,4 +1,4 @@
--- What the proofs need of the layers of files: files of one name hold one content.
+-- What the proofs need of the formats of files: a file has one content.
 use Rattle.std.proofs.Common.{◌≡◌, ℕ, List, sym, ap, subst, ◌∙◌}
 use Rattle.std.proofs.lemmas.Option.{same_Some}
 use Rattle.cs_schema.specs.CatalogData.{CatalogData, HasSegment}

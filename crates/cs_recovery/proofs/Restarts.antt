@@ -1,4 +1,4 @@
--- Files to which a recovery was written in part hold the same table, and its answer on them is the same.
+-- If some files of a recovery were written, the files hold the same table, and the answer on them is the same.
 use Rattle.std.proofs.Common.{◌≡◌, ℕ, zero, suc, ◌≤◌, List, [], ◌∷◌, refl, sym, ap, ◌∙◌, Bool, true, false, not, cond, ◌&&◌, ◌==◌, ◌⊎◌, inl, inr, Some, None, length, arith, eq-eqb, Ok, Err, Result, subst}
 use Rattle.std.specs.Prelude.{nat_lt, nat_le, map}
 use Rattle.std.specs.Option.{option_or}
@@ -55,7 +55,7 @@ pub some : (n : ℕ) → (n == 0) ≡ false → 1 ≤ n
 some zero e = false≢true (sym e)
 some (suc n) e = omega arith
 
--- an entry agrees with itself, lost or not
+-- an entry agrees with itself, whether its segment is lost or not
 agrees_self : (C : CatalogData) (L : Sites) (q : ℕ) (e : Place) → agrees C L q e e ≡ true
 agrees_self C L q e = join_and (e.0 == e.0) (cond (lost C L q e.0 && not (e.1 == 0)) (nat_le 1 e.1) (e.1 == e.1)) (eq-eqb e.0 e.0 refl) (go (lost C L q e.0) (e.1 == 0) refl)
   where
@@ -75,7 +75,7 @@ module _ (C : CatalogData) (cat : IsCatalog C) (layers : Layers C) (F G : FileCo
   same : AreContentsOf C L S T
   same = same_contents C cat layers F L h.contents S h.reads x.reads T h.same
 
-  -- no segment that survives is written
+  -- no surviving segment is written
   not_written : (p s : ℕ) → lost C L p s ≡ false → is_lost C L p s ≡ false
   not_written p s e = and_false (is_segment C p s) (lost C L p s) e
 
@@ -92,7 +92,7 @@ module _ (C : CatalogData) (cat : IsCatalog C) (layers : Layers C) (F G : FileCo
   delta_stays : (p s : ℕ) → Survives C L (FileName.Seg p s) → G (FileName.Del p s) ≡ F (FileName.Del p s)
   delta_stays p s v = stays (FileName.Del p s) v (x.files (FileName.Del p s) ∙ ap (λ b. when b (delta_text (no_changes p s (length (rows_of C T p s))))) (not_written p s v.1))
 
-  -- what a surviving join index holds: what it held, or what was written
+  -- the entries of a surviving join index: those that it had, or those that were written
   record HasEntries (p s q : ℕ) : Type 0 where
     pub entries : List Place
     pub file : IsJoinOf G p s q entries
@@ -119,7 +119,7 @@ module _ (C : CatalogData) (cat : IsCatalog C) (layers : Layers C) (F G : FileCo
             agree = all_agree C L q (entries_for C L S T p s q);
           }
 
-  -- whether a join index survives, as a test
+  -- the test whether a join index survives
   survives_test : ℕ → ℕ → ℕ → Bool
   survives_test p s q = is_segment C p s && (has_join C p q && not (lost C L p s))
 
@@ -174,7 +174,7 @@ IsFiles (Ok out) = Unit {0}
 IsFiles (Err f) = ⊥
 
 module _ (C : CatalogData) (cat : IsCatalog C) (layers : Layers C) (F G : FileContents) (L : Sites) where
-  -- where other files hold the table of a verdict, it is theirs too
+  -- if other files hold the table of a verdict, it is their verdict too
   verdict_again : (T : List Row) → IsVerdict C F L (Ok T) → IsSafe C L → HoldsSurvivors C G L T → IsVerdict C G L (Ok T)
   verdict_again T (IsVerdict.bad_file n f b e) safe k = no_fault T f e
   verdict_again T (IsVerdict.contents S w r by e) safe k =
@@ -190,7 +190,7 @@ module _ (C : CatalogData) (cat : IsCatalog C) (layers : Layers C) (F G : FileCo
   rebuild_again T (IsRebuildVerdict.unsafe n u e) k = no_fault T (Fault.Unsafe L) e
   rebuild_again T (IsRebuildVerdict.safe n s w) k = IsRebuildVerdict.safe n s (verdict_again T w s k)
 
-  -- an answer on files to which it was written in part is that answer
+  -- if some files of an answer were written, it still is the answer
   pub restarts : (out : Files) → IsRebuildAnswer C F L (Ok out) → IsPartlyWritten C L (contents_of out) F G → IsRebuildAnswer C G L (Ok out) × ((r : Result Files Fault) → IsRebuildAnswer C G L r → IsOrMemory (Ok out) r)
   restarts out a part = (again, λ r x. only (same_answer C cat layers G L r (Ok out) x again))
     where

@@ -1,4 +1,4 @@
--- Where files hold a table and a loss leaves each row, the walk by rows finds the rows of the table.
+-- If files hold a table and a loss leaves every row reachable, the walk by rows finds the rows of the table.
 use Rattle.std.proofs.Common.{◌≡◌, ℕ, zero, suc, ◌<◌, List, [], ◌∷◌, ◌++◌, map, refl, sym, ap, subst, ◌∙◌, Bool, true, false, not, cond, ◌||◌, ◌⊎◌, inl, inr, Option, Some, None, length, get_or, arith, Ok, Err, pos}
 use Rattle.std.specs.Prelude.{IsTrue}
 use Rattle.std.specs.List.{filter_map, list_any, slice_get}
@@ -45,13 +45,14 @@ module _ (C : CatalogData) (cat : IsCatalog C) (L : Sites) (S : Contents) (T : L
   abbrev Ends : ℕ → Row → Landing → Type 0
   Ends q r l = Landed C cat L S T table same keyed q r l
 
-  -- a reached projection at the row
+  -- a walk has reached the row in this projection
   pub record OnRow (r : Row) (x : Reached) : Type 0 where
     pub exists : x.0 < length C.projections
     pub home : Home x.0 r x.1
     pub kept : lost C L x.0 x.1.0 ≡ false
 
-  -- what is found from a row of the table: rows that are this row, marks where it is lost; and a step from what is reached leads to what is reached, but for the last level
+  -- What a walk from a row of the table has found: the rows reached are this row, it is lost in the marked projections,
+  -- and a step from a projection reached before the last level leads to one that is reached.
   pub record AtHome (r : Row) (F : Found) : Type 0 where
     pub reached : (x : Reached) → IsIn x F.reached → OnRow r x
     pub last : (x : Reached) → IsIn x F.last → IsIn x F.reached
@@ -176,7 +177,7 @@ module _ (C : CatalogData) (cat : IsCatalog C) (L : Sites) (S : Contents) (T : L
   pub from_row : (r : Row) → IsIn r T → (p : ℕ) (at : At) → OnRow r (p, at) → IsFoundFrom r (length C.projections) (start p at)
   from_row r hr p at k = found_home r hr (length C.projections) (start p at) (start_home r p at k)
 
-  -- each path through projections with the row is found
+  -- each path through projections that have the row is found
   path_found : (r : Row) (F : Found) → AtHome r F → F.last ≡ [] → (a : ℕ) → IsIn a (numbers_of F.reached) → (n q : ℕ) → Path C (with_row C L r) a q n → IsIn q (numbers_of F.reached)
   path_found r F h e a i zero q p = subst (λ w. IsIn w (numbers_of F.reached)) (sym (path_zero C (with_row C L r) a q p)) i
   path_found r F h e a i (suc n) q p =
@@ -195,7 +196,7 @@ module _ (C : CatalogData) (cat : IsCatalog C) (L : Sites) (S : Contents) (T : L
       let y = in_map (λ (r : Reached). r.0) F.reached x.0 m in
       ap is_some (find_some (λ (r : Reached). holds_column C r.0 c) F.reached y.0 y.1 (subst (λ w. holds_column C w c ≡ true) y.2 x.1.1)).1)
 
-  -- a full row is the row
+  -- if the row found is full, it is the row
   full_is : (r : Row) → IsIn r T → (F : Found) → AtHome r F → is_full C F ≡ true → r ≡ found_row C S F
   full_is r hr F h full = fill_by_all cell_of r (length C.columns) (Value.Int (pos 0)) (table.rows r hr).0 (λ c l. sym (each c l))
     where
@@ -225,7 +226,7 @@ module _ (C : CatalogData) (cat : IsCatalog C) (L : Sites) (S : Contents) (T : L
       let m = ((rows_of-are C T table p s).members r).0 (in_at xs at.1 r here) in
       (r, m.0, record { exists = k.exists; home = record { segment = sym m.1; here = here }; kept = k.kept })
 
-  -- and a row of the table stands in each surviving segment of its own
+  -- and a row of the table is in its segment of a projection, if that survives
   row_kept : (p : ℕ) (r : Row) → p < length C.projections → IsIn r T → IsTrue (with_row C L r p) → (at : At) × IsKeptRow C L S p at × OnRow r (p, at)
   row_kept p r hp hr t =
       let s : ℕ = segment_of_row C p r in
@@ -276,7 +277,7 @@ module _ (C : CatalogData) (cat : IsCatalog C) (L : Sites) (S : Contents) (T : L
       let k = kept_row x.0 x.1 (surviving_kept C L S x i) in
       ap is_none (from_row k.0 k.1 x.0 x.1 k.2).is
 
-  -- the walk by rows ends
+  -- the walk by rows is not led astray
   pub rows_walk_ends : walked_by_rows C L S ≡ Ok (without_repeats C full_rows)
   rows_walk_ends =
       ap (λ o. option_map_or (λ (x : ℕ × At). Err (x.0, x.1.0, x.1.1)) o (Ok (without_repeats C full_rows))) (none_found (λ (x : ℕ × At). is_none (found_from C L S x.0 x.1)) (surviving_rows C L S) none_stray)
@@ -284,7 +285,7 @@ module _ (C : CatalogData) (cat : IsCatalog C) (L : Sites) (S : Contents) (T : L
   tied : (x y : Row) → IsIn x full_rows → IsIn y full_rows → key_cmp C x y ≡ Equal → x ≡ y
   tied x y i j e = tied_same (key_cmp C) (key_total C) T table.keys x y (full_rows_in x i) (full_rows_in y j) e
 
-  -- with exactly the rows of the table, each once
+  -- it finds exactly the rows of the table, each once
   pub walked_in : (z : Row) → IsIn z (without_repeats C full_rows) → IsIn z T
   walked_in z i = full_rows_in z (from_repeats C full_rows z i)
 

@@ -1,4 +1,4 @@
--- What a landing of a walk by rows says of the row that it is at.
+-- The row at which a landing of a walk by rows is.
 use Rattle.std.proofs.Common.{◌≡◌, ℕ, refl, ap, Option, Some, None}
 use Rattle.std.proofs.lemmas.Option.{none-some, same_Some}
 use Rattle.cs_rows.specs.Walk.{At}

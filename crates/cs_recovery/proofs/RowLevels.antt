@@ -1,4 +1,4 @@
--- The levels of a walk by rows: what they look at, that what they reach are rows of surviving segments, and that they end.
+-- The levels of a walk by rows: what they look at, the rows of surviving segments that they reach, and that they end.
 use Rattle.std.proofs.Common.{◌≡◌, ℕ, zero, suc, ◌+◌, ◌<◌, ◌≤◌, List, [], ◌∷◌, ◌++◌, refl, sym, ap, subst, ◌∙◌, Bool, true, false, cond, ◌||◌, ◌⊎◌, inl, inr, Option, Some, None, length, arith, ◌==◌, eqb}
 use Rattle.std.specs.Prelude.{nat_lt}
 use Rattle.std.specs.List.{filter_map, cons_option, find, list_any, range_with_len, IsDistinct}
@@ -28,7 +28,7 @@ cond_none true = refl
 cond_none false = refl
 
 module _ (C : CatalogData) (L : Sites) (S : Contents) where
-  -- a projection that a level looks at, through the first of the last level that leads to it
+  -- a projection that a level looks at, through the first row of the last level that leads to it
   pub record Looked (F : Found) (q : ℕ) (l : Landing) : Type 0 where
     pub unseen : (member (numbers_of F.reached) q || member F.marked q) ≡ false
     pub from : Reached
@@ -83,7 +83,7 @@ module _ (C : CatalogData) (L : Sites) (S : Contents) where
       let e = lost_landed y.0 y.1 q m.2 in
       (subst (λ w. w < length C.projections) e.0 k.0, subst (λ w. Looked F q w) e.1 (subst (λ w. Looked F w y.1) e.0 k.1))
 
-  -- what each level keeps, the walk keeps
+  -- what each level preserves, the walk preserves
   pub found_keeps : (Q : Found → Type 0) → ((F : Found) → Q F → list_any is_stray_landing (level C L S F) ≡ false → Q (next F)) → (n : ℕ) (F G : Found) → Q F → found C L S n F ≡ Some G → Q G
   found_keeps Q step zero F G h e = subst Q (same_Some F G e) h
   found_keeps Q step (suc n) F G h e = go (list_any is_stray_landing (level C L S F)) refl e (λ k f. found_keeps Q step n (next F) G k f)
@@ -144,7 +144,7 @@ module _ (C : CatalogData) (L : Sites) (S : Contents) where
       ap (λ l. cond (member (numbers_of F.reached) q || member F.marked q) None (option_map (λ (r : Reached). (q, landing C L S q (entry_of S r.0 q r.1))) (find (λ (r : Reached). has_join C r.0 q) l))) e
       ∙ cond_none (member (numbers_of F.reached) q || member F.marked q))
 
-  -- after m levels: distinct projections are reached, and more than m unless the last level reached none
+  -- after m levels the projections reached are distinct, and more than m unless the last level reached none
   pub record Grown (m : ℕ) (F : Found) : Type 0 where
     pub below : (q : ℕ) → IsIn q (numbers_of F.reached) → q < length C.projections
     pub distinct : IsDistinct eqb (numbers_of F.reached)
@@ -228,7 +228,7 @@ module _ (C : CatalogData) (L : Sites) (S : Contents) where
       only q (inl e) = subst (λ w. w < length C.projections) (sym e) hp
       only q (inr h) = absurd h
 
-  -- the last level of a walk reached none
+  -- the last level of a walk reached no row
   pub found_ends : (p : ℕ) (at : At) → p < length C.projections → (G : Found) → found_from C L S p at ≡ Some G → G.last ≡ []
   found_ends p at hp G e = go g.count
     where
@@ -242,13 +242,13 @@ module _ (C : CatalogData) (L : Sites) (S : Contents) where
           let m : length (numbers_of G.reached) ≡ length G.reached = simp length-map in
           absurd (omega (arith, k, l, m))
 
-  -- ---- a walk that goes on until a level reaches none
+  -- ---- a walk until a level reaches no row
 
   append_none : {X : Type 0} (xs : List X) → xs ++ [] ≡ xs
   append_none [] = refl
   append_none (x ∷ xs) = ap (λ l. x ∷ l) (append_none xs)
 
-  -- where the last level reached none, a further level changes nothing
+  -- if the last level reached no row, one more level changes nothing
   next_same : (F : Found) → F.last ≡ [] → next F ≡ F
   next_same F e =
       let a : level C L S F ≡ [] = no_level F e in
@@ -260,7 +260,7 @@ module _ (C : CatalogData) (L : Sites) (S : Contents) where
   found_stops (suc n) F e =
       ap (λ l. cond (list_any is_stray_landing l) None (found C L S n (next F))) (no_level F e) ∙ ap (found C L S n) (next_same F e) ∙ found_stops n F e
 
-  -- levels until one reaches none are all the levels
+  -- the levels until one reaches no row are all the levels
   pub found_early : (k n : ℕ) → k ≤ n → (F G : Found) → found C L S k F ≡ Some G → G.last ≡ [] → found C L S n F ≡ Some G
   found_early zero n h F G e l = let same : F ≡ G = same_Some F G e in subst (λ w. found C L S n w ≡ Some G) (sym same) (found_stops n G l)
   found_early (suc k) zero h F G e l = absurd (omega arith)
@@ -270,7 +270,7 @@ module _ (C : CatalogData) (L : Sites) (S : Contents) where
       go true f ih = absurd (none-some G f)
       go false f ih = ih f
 
-  -- and a walk that is astray in some levels is astray
+  -- and a walk that is led astray within some levels is led astray
   pub found_astray : (k n : ℕ) → k ≤ n → (F : Found) → found C L S k F ≡ None → found C L S n F ≡ None
   found_astray zero n h F e = absurd (none-some F (sym e))
   found_astray (suc k) zero h F e = absurd (omega arith)
@@ -280,7 +280,7 @@ module _ (C : CatalogData) (L : Sites) (S : Contents) where
       go true f ih = refl
       go false f ih = ih f
 
-  -- levels whose last one reached something are fewer than the projections
+  -- as long as the last level reaches a row, there are fewer levels than projections
   pub levels_few : (p : ℕ) (at : At) → p < length C.projections → (k : ℕ) (G : Found) → found C L S k (record { reached = (p, at) ∷ []; last = (p, at) ∷ []; marked = [] }) ≡ Some G → (G.last ≡ [] → ⊥) → k < length C.projections
   levels_few p at hp k G e some = go g.count
     where

@@ -1,4 +1,4 @@
--- Lists as the walk by rows makes them: filters, first elements, and rows without later repeats of a key.
+-- Lists that the walk by rows makes: filters, first elements, and rows without later repeats of a key.
 use Rattle.std.proofs.Common.{get_or, ◌≡◌, ℕ, zero, suc, ◌+◌, length, arith, List, [], ◌∷◌, ◌++◌, map, refl, sym, ap, subst, ◌∙◌, Bool, true, false, not, cond, ◌&&◌, ◌||◌, inl, inr, Option, Some, None, eqb}
 use Rattle.std.specs.Prelude.{take}
 use Rattle.std.specs.List.{filter, filter_map, cons_option, find, list_any, list_all, flat_map, range_with_len, IsDistinct}
@@ -101,7 +101,7 @@ pub any_same : {X : Type 0} (p q : X → Bool) (xs : List X) → ((x : X) → Is
 any_same p q [] h = refl
 any_same p q (x ∷ xs) h = λ i. h x (inl refl) i || any_same p q xs (λ y k. h y (inr k)) i
 
--- ---- filters of joined lists
+-- ---- filters of concatenated lists
 
 pub filter_none : {X : Type 0} (p : X → Bool) (xs : List X) → ((x : X) → IsIn x xs → p x ≡ false) → filter p xs ≡ []
 filter_none p [] h = refl
@@ -138,7 +138,7 @@ module _ (C : CatalogData) where
   from_repeats (r ∷ rs) z (inl e) = inl e
   from_repeats (r ∷ rs) z (inr h) = inr (from_repeats rs z (in_filter (λ x. not (same_key r x)) (without_repeats C rs) z h).0)
 
-  -- where rows of one key are equal, each row is kept
+  -- if rows with the same key are equal, each row is kept
   pub to_repeats : (xs : List Row) → ((x y : Row) → IsIn x xs → IsIn y xs → same_key x y ≡ true → x ≡ y) → (z : Row) → IsIn z xs → IsIn z (without_repeats C xs)
   to_repeats [] ties z h = h
   to_repeats (r ∷ rs) ties z (inl e) = inl e
@@ -162,7 +162,7 @@ module _ (C : CatalogData) where
   not_false true e = false≢true e
   not_false false e = refl
 
-  -- no key stands twice
+  -- no key occurs twice
   pub once_only : (xs : List Row) → is_twice C (without_repeats C xs) ≡ false
   once_only [] = refl
   once_only (r ∷ rs) =
@@ -174,7 +174,7 @@ module _ (C : CatalogData) where
   append_none [] = refl
   append_none (x ∷ xs) = ap (λ l. x ∷ l) (append_none xs)
 
-  -- a row at the end is left out where a row before it has its key
+  -- a row at the end is left out if an earlier row has its key
   pub repeats_push : (xs : List Row) (x : Row) → without_repeats C (xs ++ x ∷ []) ≡ cond (list_any (λ y. same_key y x) xs) (without_repeats C xs) (without_repeats C xs ++ x ∷ [])
   repeats_push [] x = refl
   repeats_push (r ∷ rs) x = ap (λ l. r ∷ filter keep l) (repeats_push rs x) ∙ go (list_any (λ y. same_key y x) rs) (same_key r x) refl

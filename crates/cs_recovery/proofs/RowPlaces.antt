@@ -1,4 +1,4 @@
--- The place of a row of a table: by its number where its segment is lost, else by its key in the image.
+-- The place of a row of a table: by its number if its segment is lost, else by its key in the image.
 use Rattle.std.proofs.Common.{◌≡◌, ℕ, zero, suc, ◌+◌, ◌<◌, ◌≤◌, List, [], ◌∷◌, map, refl, ap, ◌∙◌, Bool, true, false, cond, Option, Some, length, arith}
 use Rattle.std.specs.Prelude.{slice_index}
 use Rattle.std.specs.List.{slice_get, enumerate_from}
@@ -26,7 +26,7 @@ fresh_key n [] j l = absurd (omega arith)
 fresh_key n (x ∷ xs) zero l = ap Some (omega arith)
 fresh_key n (x ∷ xs) (suc j) l = fresh_key (n + 1) xs j (omega arith) ∙ ap Some (omega arith)
 
--- the place of a row of the table, by a key
+-- the place of a row of the table, and its key
 pub record IsPlaced (C : CatalogData) (N : Sites) (S : Contents) (T : List Row) (q : ℕ) (r : Row) : Type 0 where
   pub key : ℕ
   pub some : 1 ≤ key
@@ -56,7 +56,7 @@ module _ (C : CatalogData) (S : Contents) (T : List Row) where
       let f : List ℕ → Option ℕ → ℕ = λ ks o. option_map_or (λ i. slice_index ks i) o 0 in
       ap (λ v. (t, v)) (ap (f (image_keys (image_after C N S T q t))) a ∙ ap (λ w. f (image_keys w) (Some j)) b ∙ get_or_from_slice_get (image_keys m) j n 0 c)
 
-  -- a row whose image is kept after a loss has its key there
+  -- if a row's image is kept after a loss, the row has its key there
   pub place_kept : (N : Sites) (q : ℕ) (r : Row) (k : IsKept C S T q r) → lost C N q (segment_of_row C q r) ≡ false → place_of C N S T q r ≡ (segment_of_row C q r, k.key)
   place_kept N q r k e = place_from N q r (S.image q (segment_of_row C q r)) k.index k.key k.of_row (kept_after N q (segment_of_row C q r) e) k.at
 
@@ -64,14 +64,14 @@ module _ (C : CatalogData) (S : Contents) (T : List Row) where
     abbrev t : ℕ
     t = segment_of_row C q r
 
-    -- where its segment is lost, by its number there
+    -- if its segment is lost, by its number there
     pub fresh_place : (N : Sites) → lost C N q t ≡ true → IsPlaced C N S T q r
     fresh_place N e =
         let j = has_index C cat L S T table same keyed q r i in
         let below : j.index < length (map (project C q) (rows_of C T q t)) = slice_get_within (map (project C q) (rows_of C T q t)) j.index (project C q r) (slice_get_map (project C q) (rows_of C T q t) j.index r j.at) in
         record { key = 1 + j.index; some = omega arith; is = place_from N q r (fresh q t) j.index (1 + j.index) j.is (fresh_after N q t e) (fresh_key 1 (map (project C q) (rows_of C T q t)) j.index below) }
 
-    -- where it is not, by its key in the image
+    -- if it is not, by its key in the image
     pub kept_row : lost C L q t ≡ false → IsKept C S T q r
     kept_row l =
         let v : Survives C L (FileName.Seg q t) = ((hq, segment_below C q r), l) in

@@ -1,4 +1,4 @@
--- Two readings of the surviving files give one walk by rows.
+-- Two readings of the surviving files give the same walk by rows.
 use Rattle.std.proofs.Common.{◌≡◌, ℕ, suc, zero, ◌<◌, List, [], ◌∷◌, map, refl, sym, ap, ◌∙◌, Bool, true, false, not, cond, ◌||◌, Option, Some, None, length, arith, ◌==◌, Result, Ok, Err, pos}
 use Rattle.std.specs.Prelude.{slice_index, slice_index_or, nat_lt}
 use Rattle.std.specs.List.{filter, filter_map, find, list_any, position_or_len}

@@ -1,4 +1,5 @@
--- Where files hold a table, an entry from a row of a surviving segment leads to the same row, or to a lost segment of it.
+-- If files hold a table, an entry of a row of a surviving segment leads to the same row, or to a lost segment that has
+-- it.
 use Rattle.std.proofs.Common.{◌≡◌, ℕ, zero, suc, ◌+◌, ◌<◌, ◌≤◌, List, [], ◌∷◌, map, refl, sym, ap, subst, ◌∙◌, Bool, true, false, not, cond, ◌&&◌, ◌⊎◌, inl, inr, Option, Some, length, arith, ◌==◌, eqb-true, eq-eqb, pos}
 use Rattle.std.specs.Prelude.{slice_index, slice_index_or, IsTrue, nat_le}
 use Rattle.std.specs.List.{slice_get, position_or_len, enumerate_from}
@@ -49,7 +50,7 @@ module _ (C : CatalogData) (cat : IsCatalog C) (L : Sites) (S : Contents) (T : L
   abbrev pub Home : ℕ → Row → At → Type 0
   Home q r at = IsHome C cat L S T table same keyed q r at
 
-  -- the place of a row in a projection where it is lost: its segment, and a key of at least 1
+  -- the place of a row in a projection in which it is lost: its segment, and a key of at least 1
   lost_place : (q : ℕ) (r : Row) → IsIn r T → lost C L q (segment_of_row C q r) ≡ true → (k : ℕ) × (1 ≤ k) × (place_of C L S T q r ≡ (segment_of_row C q r, k))
   lost_place q r h l =
       let t : ℕ = segment_of_row C q r in
@@ -144,7 +145,7 @@ module _ (C : CatalogData) (cat : IsCatalog C) (L : Sites) (S : Contents) (T : L
           ap (λ b. land q e.0 b (lost C L q e.0) (position_of_key (S.image q e.0) e.1)) (lt-ltb e.0 (segments C q) (subst (λ w. w < segments C q) (sym segment) ht)) ∙ ap (λ b. land q e.0 true b (position_of_key (S.image q e.0) e.1)) (ap (lost C L q) segment ∙ lt) in
           inl (lt, ap (landing C L S q) (from ∙ found) ∙ to)
 
-  -- a cell of the row where it stands
+  -- a cell of the row, read in an image that has the row
   pub image_cell_is : (q : ℕ) (r : Row) (to : At) (c : ℕ) → q < length C.projections → Home q r to → lost C L q to.0 ≡ false → IsTrue (holds_column C q c) → image_cell C S q c to ≡ cell r c
   image_cell_is q r to c hq home l hold =
       let v : Survives C L (FileName.Seg q to.0) = ((hq, subst (λ w. w < segments C q) (sym home.segment) (segment_below C q r)), l) in

@@ -1,4 +1,4 @@
--- Each table that fits is held by some files: the claims on held tables are not empty.
+-- Each table that fits is held by some files, so the claims about held tables are not vacuous.
 use Rattle.std.proofs.Common.{◌≡◌, ℕ, List, [], refl, sym, ◌∙◌, true, false, None}
 use Rattle.cs_schema.specs.CatalogData.{CatalogData, HasSegment}
 use Rattle.cs_schema.specs.CatalogRules.{IsCatalog}
@@ -25,7 +25,7 @@ nothing = record { image = λ p s. no_image; join = λ p s q. [] }
 abbrev no_files : FileContents
 no_files n = None
 
--- the files that would recover it where every segment is lost
+-- the files that would recover it if every segment is lost
 pub store_exists : (C : CatalogData) → IsCatalog C → Layers C → (L : Sites) → ((p s : ℕ) → HasSegment C p s → lost C L p s ≡ true) → (T : List Row) → IsTable C T → Fits C T → (F : FileContents) × Holds C F T
 store_exists C cat layers L all T t fits =
     let out : FileContents = written C L nothing T in

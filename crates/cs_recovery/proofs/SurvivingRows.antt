@@ -1,4 +1,4 @@
--- The rows of surviving segments, and where each stands.
+-- The rows of surviving segments, and where each is.
 use Rattle.std.proofs.Common.{◌≡◌, ℕ, List, map, refl, sym, ap, subst, Bool, true, false, not, length, arith}
 use Rattle.std.specs.List.{filter}
 use Rattle.cs_schema.specs.CatalogData.{CatalogData, segments}

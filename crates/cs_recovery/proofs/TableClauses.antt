@@ -29,7 +29,7 @@ no_fault : {A : Type 0} (f : Fault) (T : List Row) → ◌≡◌ {A = Verdict} (
 no_fault f T e = absurd (subst IsFault e tt)
 
 module _ (C : CatalogData) (cat : IsCatalog C) (layers : Layers C) (F : FileContents) (L : Sites) where
-  -- where each verdict is the table, its rows are answered
+  -- if each verdict is the table, its rows are returned
   answered : (r : Result Columns Fault) → IsTableAnswer C F L r → (T : List Row) → ((v : Verdict) → IsRebuildVerdict C F L v → v ≡ Ok T) → IsTableOrMemory C T r
   answered (Ok columns) a T is = subst (λ U. AreColumnsOf C U columns.items) (ap table_in (is (Ok a.0) a.1)) a.2
   answered (Err e) (inl m) T is = m

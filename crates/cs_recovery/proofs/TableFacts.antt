@@ -45,7 +45,7 @@ module _ (C : CatalogData) where
 
 -- ---- the index of a row
 
--- an element of a strictly ascending list stands at one place
+-- an element of a strictly ascending list has one index
 one_place : {X : Type 0} (cmp : X → X → Ordering) → IsTotalOrder cmp → (xs : List X) → IsStrictlySortedBy cmp xs → (i j : ℕ) (x : X) → slice_get xs i ≡ Some x → slice_get xs j ≡ Some x → i ≡ j
 unfolding IsStrictlySortedBy
 one_place cmp total [] s i j x a b = absurd (none-some x a)

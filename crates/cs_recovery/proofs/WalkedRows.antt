@@ -1,4 +1,4 @@
--- Where files hold a table, the walked rows are the table's rows, each once: so no other table is held.
+-- If files hold a table, the walked rows are the table's rows, each once, so no other table is held.
 use Rattle.std.proofs.Common.{◌≡◌, ℕ, zero, suc, ◌+◌, ◌<◌, ◌≤◌, List, [], ◌∷◌, ◌++◌, map, refl, sym, ap, subst, ◌∙◌, Bool, true, false, cond, ◌&&◌, ◌||◌, ◌⊎◌, inl, inr, Option, Some, None, length, get_or, arith, ◌==◌, eqb-true, eq-eqb, Ok, Err, pos}
 use Rattle.std.specs.Prelude.{slice_index, slice_index_or, IsTrue, MatchOption}
 use Rattle.std.specs.List.{slice_get, position_or_len, range_with_len, list_any, flat_map, find}
@@ -57,7 +57,7 @@ pub map-map : {A B D : Type 0} (f : B → D) (g : A → B) (xs : List A) → map
 map-map f g [] = refl
 map-map f g (x ∷ xs) = ap (λ l. f (g x) ∷ l) (map-map f g xs)
 
--- a map of joined lists, where the map of each is known
+-- the map of concatenated lists, if the map of each is known
 map-flat_map : {A B D : Type 0} (f : B → D) (g : A → List B) (k : A → List D) (xs : List A) → ((x : A) → IsIn x xs → map f (g x) ≡ k x) → map f (flat_map g xs) ≡ flat_map k xs
 map-flat_map f g k [] h = refl
 map-flat_map f g k (x ∷ xs) h =
@@ -97,7 +97,7 @@ module _ (C : CatalogData) (cat : IsCatalog C) (L : Sites) (S : Contents) (T : L
   at_home : (r : Row) (at : At) → IsHome C cat L S T table same keyed P.anchor r at → (q : ℕ) → q ≡ P.anchor → IsHome C cat L S T table same keyed q r at
   at_home r at home q e = subst (λ w. IsHome C cat L S T table same keyed w r at) (sym e) home
 
-  -- a projection that is near and not the anchor is entered from a nearer one
+  -- a projection that is reached and is not the anchor is entered from a nearer one
   entered : (q d : ℕ) → Near q d → ((q == P.anchor) ≡ false) → (p : ℕ) × (prev_of P q ≡ Some p) × IsPrev C L P.anchor q p
   entered q d h ne = go (prev_of P q) refl (plan.prev q (near_exists q d h))
     where
@@ -141,7 +141,7 @@ module _ (C : CatalogData) (cat : IsCatalog C) (L : Sites) (S : Contents) (T : L
       go false a None x m t = false≢true t
       go false a (Some p) x m t = (suc m.nearer.nearer.0, m.nearer.nearer.1.1)
 
-  -- no anchor row is astray
+  -- no anchor row is led astray
   not_astray : (r : Row) (at : At) → IsIn r T → IsHome C cat L S T table same keyed P.anchor r at → is_astray C S P at ≡ false
   not_astray r at h home = none_any (λ q. is_planned P q && is_none (stand C S P at q)) (numbers_below (length C.projections)) (λ q i. go q (in_range 0 (length C.projections) q i).1 (is_planned P q) refl)
     where
@@ -155,7 +155,7 @@ module _ (C : CatalogData) (cat : IsCatalog C) (L : Sites) (S : Contents) (T : L
   survives : (q d : ℕ) → Near q d → (r : Row) → Survives C L (FileName.Seg q (segment_of_row C q r))
   survives q d k r = ((near_exists q d k, segment_below C q r), alive_kept C cat L q (near_exists q d k) (near_open q d k) (segment_of_row C q r) (segment_below C q r))
 
-  -- each cell of the walk is the row's
+  -- each walked cell is the row's
   cell_is : (r : Row) (at : At) → IsIn r T → IsHome C cat L S T table same keyed P.anchor r at → (c : ℕ) → c < length C.columns → cell r c ≡ walked_cell C S P at c
   cell_is r at h home c l =
       let src = plan.source c l in

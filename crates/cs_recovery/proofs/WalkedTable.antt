@@ -1,4 +1,4 @@
--- The walk of what is held finds the table's rows, and what stands under lost names is never looked at.
+-- The walk of held files finds the table's rows, and what is under lost names is never looked at.
 use Rattle.std.proofs.Common.{◌≡◌, ℕ, List, sym, ◌∙◌, false, ◌↔◌, inl, inr, Result, Ok, Err}
 use Rattle.std.specs.List.{flat_map}
 use Rattle.cs_schema.specs.declared.file_name.FileName.{FileName}

@@ -1,4 +1,4 @@
--- Where files hold a table, the walk of an anchor row finds the places of one row of the table, and all its cells.
+-- If files hold a table, the walk from an anchor row finds one row of the table, with all its cells.
 use Rattle.std.proofs.Common.{◌≡◌, ℕ, zero, suc, ◌+◌, ◌<◌, ◌≤◌, List, [], ◌∷◌, map, refl, sym, ap, subst, ◌∙◌, Bool, true, false, not, cond, ◌&&◌, ◌||◌, inl, inr, Option, Some, None, length, arith, ◌==◌, eqb-true}
 use Rattle.std.specs.Prelude.{slice_index, IsTrue}
 use Rattle.std.specs.List.{slice_get, position_or_len, list_any}
@@ -26,7 +26,7 @@ use Rattle.cs_schema.proofs.RowOrder.{rows_of-are, tied_same, key_total}
 use Rattle.cs_schema.proofs.Lists.{in_at, found_first, position_first, agreed_at, slice_get-made, slice_get_map, before_map}
 use Rattle.cs_safety.proofs.Distances.{differs}
 
--- the keys of an image are distinct, and from 1 to its top
+-- the keys of an image are distinct, and are from 1 to its top
 pub record IsKeyed (m : ImageData) : Type 0 where
   pub found : (i k : ℕ) → slice_get (image_keys m) i ≡ Some k → position_of_key m k ≡ Some i
   pub range : (i k : ℕ) → slice_get (image_keys m) i ≡ Some k → (1 ≤ k) × (k ≤ m.top)
@@ -77,7 +77,7 @@ module _ (C : CatalogData) (cat : IsCatalog C) (L : Sites) (S : Contents) (T : L
   pub kept_image : (p s : ℕ) → lost C L p s ≡ false → image_after C L S T p s ≡ S.image p s
   kept_image p s e = ap (λ b. cond b (Rattle.cs_delta.specs.Image.fresh_image (map (project C p) (rows_of C T p s))) (S.image p s)) e
 
-  -- the place of a row in a projection that is not lost there
+  -- the place of a row in a projection in which it is not lost
   pub place_is : (q : ℕ) (r : Row) (i : HasIndex q r) → Survives C L (FileName.Seg q (segment_of_row C q r)) → (k : HasKey q (segment_of_row C q r) i.index r) → place_of C L S T q r ≡ (segment_of_row C q r, k.key)
   place_is q r i h k =
       let s : ℕ = segment_of_row C q r in
@@ -102,7 +102,7 @@ module _ (C : CatalogData) (cat : IsCatalog C) (L : Sites) (S : Contents) (T : L
       parts true false x y z = false≢true z
       parts false d x y z = false≢true z
 
-  -- a row of the walk stands at a row of the table
+  -- the walk is at a row of the table
   pub record IsHome (q : ℕ) (r : Row) (at : At) : Type 0 where
     pub segment : at.0 ≡ segment_of_row C q r
     pub here : slice_get (rows_of C T q at.0) at.1 ≡ Some r

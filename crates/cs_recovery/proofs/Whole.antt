@@ -1,4 +1,4 @@
--- The surviving files with the written ones put over them hold the table again.
+-- The surviving files together with the written ones hold the table again.
 use Rattle.std.proofs.Common.{◌≡◌, ℕ, ◌+◌, ◌<◌, ◌≤◌, List, [], ◌∷◌, map, refl, sym, ap, subst, ◌∙◌, Bool, true, false, not, cond, ◌&&◌, ◌||◌, ◌⊎◌, inl, inr, Option, Some, None, length, arith, ◌==◌, eq-eqb}
 use Rattle.std.specs.Prelude.{nat_lt, nat_le, slice_index}
 use Rattle.std.specs.List.{slice_get, enumerate_from}
@@ -53,7 +53,7 @@ module _ (C : CatalogData) (cat : IsCatalog C) (layers : Layers C) (F : FileCont
   pub is_kept : (p s : ℕ) → lost C L p s ≡ false → image_after C L S T p s ≡ S.image p s
   is_kept p s e = ap (λ b. cond b (fresh p s) (S.image p s)) e
 
-  -- what is known of an image after the recovery
+  -- the facts about an image after the recovery
   pub record IsAfter (p s : ℕ) (m : ImageData) : Type 0 where
     pub keys : IsKeyed m
     pub rows : image_rows m ≡ map (project C p) (rows_of C T p s)
@@ -80,7 +80,7 @@ module _ (C : CatalogData) (cat : IsCatalog C) (layers : Layers C) (F : FileCont
             top = omega (arith, l, n);
           })
 
-  -- the place of a row is one that a join index may have, in a segment of the target
+  -- the place of a row is one that a join index can have, in a segment of the target
   pub record IsGoodPlace (q : ℕ) (e : Place) : Type 0 where
     pub segment : e.0 < segments C q
     pub entry : IsEntry e
@@ -104,7 +104,7 @@ module _ (C : CatalogData) (cat : IsCatalog C) (layers : Layers C) (F : FileCont
   abbrev entry_from : ℕ → ℕ → (Row → Place) → Option ℕ → Place
   entry_from p s f o = option_map_or f (option_and_then (slice_get (rows_of C T p s)) o) no_place
 
-  -- the entry at a key is none, or such a place
+  -- the entry for a key is no place, or such a place
   pub entry_good : (p s q k : ℕ) → q < length C.projections → (entry_for C L S T p s q k ≡ no_place) ⊎ IsGoodPlace q (entry_for C L S T p s q k)
   entry_good p s q k hq = at_position (position_of_key (image_after C L S T p s) k)
     where
@@ -170,7 +170,7 @@ module _ (C : CatalogData) (cat : IsCatalog C) (layers : Layers C) (F : FileCont
               image = is_fresh p s e ∙ is;
             }
 
-    -- a join index that is not written is one that survives, to a target with no lost segment
+    -- a join index that is not written survives, and its target has no lost segment
     unwritten : (p s q : ℕ) → HasSegment C p s → has_join C p q ≡ true → is_affected C L p s q ≡ false → (lost C L p s ≡ false) × (alive C L q ≡ true)
     unwritten p s q h d e =
         let a : (lost C L p s || not (alive C L q)) ≡ false = sym (ap (λ b. b && has_join C p q && (lost C L p s || not (alive C L q))) (exists_test p s h) ∙ ap (λ b. b && (lost C L p s || not (alive C L q))) d) ∙ e in
@@ -205,7 +205,7 @@ module _ (C : CatalogData) (cat : IsCatalog C) (layers : Layers C) (F : FileCont
     all_self q [] = refl
     all_self q (x ∷ xs) = ap (λ b. b && pointwise (agrees C [] q) xs xs) (agrees_self q x) ∙ all_self q xs
 
-    -- where nothing of the target is lost, an entry is its place
+    -- if no segment of the target is lost, an entry that agrees under the loss agrees without it
     kept_exactly : (q : ℕ) (e place : Place) → q < length C.projections → alive C L q ≡ true → (place ≡ no_place) ⊎ IsGoodPlace q place → agrees C L q e place ≡ true → agrees C [] q e place ≡ true
     kept_exactly q e place hq a g x = sym (ap (λ b. (e.0 == place.0) && cond b (nat_le 1 e.1) (e.1 == place.1)) (none g)) ∙ x
       where
@@ -244,7 +244,7 @@ module _ (C : CatalogData) (cat : IsCatalog C) (layers : Layers C) (F : FileCont
       same = left_contents;
     }
 
--- The surviving files with the written ones put over them hold the table again.
+-- The surviving files together with the written ones hold the table again.
 pub whole_again : (C : CatalogData) → IsCatalog C → Layers C → (F : FileContents) (L : Sites) (T : List Row) → HoldsSurvivors C F L T → (out : FileContents) → AreExpected C F L T out → Holds C (put_over out F) T
 whole_again C cat layers F L T h out x =
     let same = same_contents C cat layers F L h.contents x.contents h.reads x.reads T h.same in

@@ -8,13 +8,14 @@ use Rattle.cs_safety.specs.Safety.{IsSafe}
 use Rattle.cs_recovery.specs.Holding.{HoldsSurvivors, Holds}
 use Rattle.cs_recovery.specs.Claims.{SameSurvivors}
 
--- A loss is accepted with a table: it is a safe one of the catalog's sites, and the files that survive it hold the table.
+-- A loss is accepted with a table if it is a safe loss of the catalog's sites and the files that survive it hold the
+-- table.
 pub record IsAcceptedLoss (C : CatalogData) (F : FileContents) (L : Sites) (T : List Row) : Type 0 where
   pub loss : IsLoss C L
   pub safe : IsSafe C L
   pub holds : HoldsSurvivors C F L T
 
--- Files that held a table became others: under the names of these sites in any way, under no other name.
+-- files that held a table were changed: in any way under the names of these sites, and under no other name
 pub record AreChangedOn (C : CatalogData) (F G : FileContents) (B : Sites) (T : List Row) : Type 0 where
   pub held : Holds C F T
   pub sites : IsLoss C B

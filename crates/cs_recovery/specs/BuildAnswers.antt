@@ -20,25 +20,25 @@ use Rattle.cs_recovery.specs.Holding.{Holds}
 use Rattle.cs_recovery.specs.Verdicts.{twice, full}
 use Rattle.cs_recovery.specs.Claims.{SameSurvivors, IsRebuildAnswer, put_over}
 
--- each site of a catalog
+-- every site of a catalog
 abbrev pub every_site : CatalogData → Sites
 every_site C = range_with_len 1 C.sites
 
--- nothing stands under any name
+-- there is no file under any name
 abbrev pub no_files : FileContents
 no_files n = None
 
--- why no store holds the table of these rows: a primary key stands twice, or else the least range is too large
+-- why no store holds the table of these rows: a primary key occurs twice, or else the first range that is too large
 abbrev pub build_fault : CatalogData → List Row → Option Fault
 build_fault C rows = option_or (twice C rows) (full C (table_of C rows))
 
--- The answer is the fault of the rows, or what recovers their table where every site is lost: the file of each segment, a
--- delta without changes, and the join indexes that lead to the rows.
+-- An answer of `build`: the files that recover the table of the rows if every site is lost, the fault of the rows, or
+-- out of memory. The files are each segment, its delta without changes, and the join indexes.
 abbrev pub IsBuildAnswer : CatalogData → List Row → Result Files Fault → Type 0
 IsBuildAnswer C rows (Ok out) = (build_fault C rows ≡ None) × AreExpected C no_files (every_site C) (table_of C rows) (contents_of out)
 IsBuildAnswer C rows (Err e) = MemoryOr e (build_fault C rows ≡ Some e)
 
--- want of memory, or files that make the store that was built once more when they are put in place
+-- out of memory, or files that restore the store that was built when they are put in place
 abbrev pub IsBuiltAgain : CatalogData → FileContents → FileContents → Result Files Fault → Type 0
 IsBuiltAgain C built G r = MatchResult r (λ out. (n : _) → HasName C n → put_over (contents_of out) G n ≡ built n) (λ e. e ≡ Fault.Memory)
 
@@ -52,7 +52,7 @@ abbrev pub BuildAnswersSuffice : Type 0
 BuildAnswersSuffice =
     (C : CatalogData) → IsCatalog C → (rows : List Row) → ((row : Row) → IsIn row rows → IsRow C row) → (r : Result Files Fault) → IsBuildAnswer C rows r → BuildClauses C rows r
 
--- columns with the rows of a table are columns of the catalog, and that table's
+-- columns with the rows of a table are columns of the catalog, and the table of their rows is that table
 pub record AreTheTable (C : CatalogData) (T : List Row) (columns : List Cells) : Type 0 where
   pub fit : AreTableColumns C columns
   pub rows : rows_in columns ≡ T

@@ -10,13 +10,13 @@ use Rattle.cs_rows.specs.WalkedView.{rows_of, count_of}
 abbrev pub rows_in : List Cells → List Row
 rows_in columns = rows_of columns (count_of columns)
 
--- one column for each column of the table, of its kind, and all of one length
+-- one column for each column of the table, of its kind, and all of the same length
 pub record AreTableColumns (C : CatalogData) (columns : List Cells) : Type 0 where
   pub count : length columns ≡ length C.columns
   pub kinds : (c : ℕ) (d : Cells) → c < length C.columns → kind_of (slice_index_or columns c d) ≡ (column C c).kind
   pub even : (c : ℕ) (d : Cells) → c < length C.columns → length (values (slice_index_or columns c d)) ≡ count_of columns
 
--- one column for each column of the table, of its kind, with the cells of these rows in their order
+-- one column for each column of the table, of its kind, with the cells of these rows in order
 pub record AreColumnsOf (C : CatalogData) (rows : List Row) (columns : List Cells) : Type 0 where
   pub count : length columns ≡ length C.columns
   pub kinds : (c : ℕ) (d : Cells) → c < length C.columns → kind_of (slice_index_or columns c d) ≡ (column C c).kind

@@ -13,16 +13,16 @@ use Rattle.cs_jix.specs.JoinIndex.{Place, no_place}
 use Rattle.cs_recovery.specs.Contents.{IsImageOf, IsJoinOf}
 use Rattle.cs_recovery.specs.Verdicts.{IsSound}
 
--- the site on which a file stands
+-- the site of a file
 abbrev pub site_of : CatalogData → FileName → ℕ
 site_of C n = slice_index (projection C (projection_of n)).sites (segment_of n)
 
--- a segment and its delta merge to this image, which has the table's rows of that range in their order
+-- a segment and its delta merge to this image, which has the table's rows of that range in order
 pub record IsImageOfTable (C : CatalogData) (F : FileContents) (T : List Row) (p s : ℕ) (m : ImageData) : Type 0 where
   pub reads : IsImageOf C F p s m
   pub rows : image_rows m ≡ map (project C p) (rows_of C T p s)
 
--- The entry of a row of the table in a join index: it stands at the row's key, and keys begin at 1.
+-- The entry of a row of the table in a join index: it is the one for the row's key, and keys start at 1.
 pub record IsEntryOf (C : CatalogData) (F : FileContents) (T : List Row) (p s q : ℕ) (r : Row) (e : Place) : Type 0 where
   pub image : ImageData
   pub entries : List Place
@@ -42,8 +42,9 @@ pub record IsKeyOf (C : CatalogData) (F : FileContents) (T : List Row) (q : ℕ)
   pub row : index_of C T q r ≡ Some index
   pub live : slice_get (image_keys image) index ≡ Some key
 
--- A file contradicts the table by itself: it is missing or damaged, its segment has other rows, or its join index has not
--- one entry for each key, has a place at a dead key, or for a row another segment than the row's or no key.
+-- A file contradicts the table by itself if it is missing or damaged, if its segment has other rows, or if it is a join
+-- index that does not have one entry for each key, has a place at a dead key, or names for a row another segment than
+-- the row's, or no key.
 pub data Contradicts (C : CatalogData) (F : FileContents) (T : List Row) (n : FileName) : Type 0 where
   bad_file : ¬ IsSound C F n → Contradicts C F T n
   other_rows : (p s : ℕ) (m : ImageData) → n ≡ FileName.Seg p s → IsImageOf C F p s m → image_rows m ≢ map (project C p) (rows_of C T p s) → Contradicts C F T n
@@ -52,17 +53,18 @@ pub data Contradicts (C : CatalogData) (F : FileContents) (T : List Row) (n : Fi
       → slice_get entries before ≡ Some e → position_of_key m (before + 1) ≡ None → e ≢ no_place → Contradicts C F T n
   wrong_place : (p s q : ℕ) (r : Row) (e : Place) → n ≡ FileName.Jix p s q → IsEntryOf C F T p s q r e → (e.0 ≢ segment_of_row C q r) ⊎ (e.1 ≡ 0) → Contradicts C F T n
 
--- A conflict of files and a table, an edge between two sites: the entry of a row on the one names another key than the row
--- has on the other. A site with a file that contradicts the table by itself is in conflict with itself.
+-- A conflict between files and a table, an edge between two sites: the entry of a row on one site names another key
+-- than the row has on the other site. A site with a file that contradicts the table by itself is in conflict with
+-- itself.
 pub data IsConflict (C : CatalogData) (F : FileContents) (T : List Row) (x y : ℕ) : Type 0 where
   alone : (n : FileName) → HasName C n → Contradicts C F T n → x ≡ site_of C n → y ≡ site_of C n → IsConflict C F T x y
   pair : (p s q : ℕ) (r : Row) (e : Place) (key : ℕ) → HasName C (FileName.Jix p s q) → IsEntryOf C F T p s q r e → IsKeyOf C F T q r key → e.1 ≢ key
       → x ≡ site_of C (FileName.Jix p s q) → y ≡ site_of C (FileName.Seg q (segment_of_row C q r)) → IsConflict C F T x y
 
--- the loss has a site of each conflict: it is a vertex cover
+-- the loss contains a site of each conflict: it is a vertex cover
 abbrev pub HitsConflicts : CatalogData → FileContents → List Row → Sites → Type 0
 HitsConflicts C F T L = (x y : ℕ) → IsConflict C F T x y → IsTrue (member L x) ⊎ IsTrue (member L y)
 
--- each file was read, so it is known to be sound or bad
+-- each file was read, so it is known whether it is sound
 abbrev pub AreRead : CatalogData → FileContents → Type 0
 AreRead C F = (n : FileName) → HasName C n → IsSound C F n ⊎ ¬ IsSound C F n

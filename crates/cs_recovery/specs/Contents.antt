@@ -11,7 +11,7 @@ use Rattle.cs_delta.specs.DeltaFile.{IsDeltaFile, CanMerge, merged}
 use Rattle.cs_jix.specs.JoinIndex.{Place, IsJoinIndexFile}
 use Rattle.cs_rows.specs.Walk.{Contents}
 
--- the files of a segment and its delta are these, and merge to this image
+-- the files of a segment and of its delta are these, and they merge to this image
 pub record IsImageOf (C : CatalogData) (F : FileContents) (p s : ℕ) (m : ImageData) : Type 0 where
   pub segment_bytes : List ℕ
   pub delta_bytes : List ℕ

@@ -23,13 +23,13 @@ is_lost C L p s = is_segment C p s && lost C L p s
 abbrev pub is_affected : CatalogData → Sites → ℕ → ℕ → ℕ → Bool
 is_affected C L p s q = is_segment C p s && has_join C p q && (lost C L p s || not (alive C L q))
 
--- what is written under a name
+-- the file that is written under a name, if any
 abbrev pub written : CatalogData → Sites → Contents → List Row → FileContents
 written C L S T (FileName.Seg p s) = when (is_lost C L p s) (segment_text C p s (base_of C p (map (project C p) (rows_of C T p s))))
 written C L S T (FileName.Del p s) = when (is_lost C L p s) (delta_text (no_changes p s (length (rows_of C T p s))))
 written C L S T (FileName.Jix p s q) = when (is_affected C L p s q) (join_index_text p s q (entries_for C L S T p s q))
 
--- These files, and no others: what recovers the table from files at a loss.
+-- exactly the files that recover the table from the files that survive a loss
 pub record AreExpected (C : CatalogData) (F : FileContents) (L : Sites) (T : List Row) (out : FileContents) : Type 0 where
   pub contents : Contents
   pub reads : Reads C F L contents

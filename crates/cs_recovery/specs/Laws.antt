@@ -1,4 +1,4 @@
--- Laws over the definitions, each the contract of a function of src/laws.rt.
+-- Laws about the definitions; each is the contract of a function of src/laws.rt.
 use Rattle.std.specs.Prelude.{◌≡◌, ℕ, ◌<◌, ◌≤◌, false, List, [], length, ◌↔◌, Some, Result, Ok, IfOk, MatchResult}
 use Rattle.cs_store.specs.declared.fault.Fault.{Fault}
 use Rattle.cs_schema.specs.CatalogData.{CatalogData}
@@ -19,43 +19,43 @@ use Rattle.cs_recovery.specs.Claims.{IsAccepted, IsOnlyTable, SameSurvivors, IsR
 use Rattle.cs_store.specs.FileSet.{Files}
 use Rattle.cs_store.specs.FileSet.{contents_of}
 
--- where the surviving files of a safe loss hold a table, every verdict on them is that table
+-- if the surviving files of a safe loss hold a table, every verdict on them is that table
 abbrev pub VerdictIsTheTable : Type 0
 VerdictIsTheTable = (C : CatalogData) → IsCatalog C → (F : FileContents) (L : Sites) (T : List Row) → IsSafe C L → HoldsSurvivors C F L T → (v : Verdict) → IsVerdict C F L v → v ≡ Ok T
 
--- every answer on what survives of an accepted store is want of memory, or the files that recover its table
+-- every answer on what survives of an accepted store is out of memory, or the files that recover its table
 abbrev pub AcceptedStoresRecover : Type 0
 AcceptedStoresRecover =
     (C : CatalogData) → IsCatalog C → (F G : FileContents) (L : Sites) (k : ℕ) (T : List Row)
     → IsAccepted C F k T → IsLoss C L → length L ≤ k → SameSurvivors C L F G → (r : Result Files Fault) → IsRebuildAnswer C G L r → IsRecovered C F L T r
 
--- a verdict that is a table is held by the surviving files
+-- if a verdict is a table, the surviving files hold it
 abbrev pub VerdictTableIsHeld : Type 0
 VerdictTableIsHeld = (C : CatalogData) → IsCatalog C → (F : FileContents) (L : Sites) (T : List Row) → IsVerdict C F L (Ok T) → HoldsSurvivors C F L T
 
--- the surviving files with the expected ones put over them hold the table again
+-- the surviving files together with the expected ones hold the table again
 abbrev pub WholeAgain : Type 0
 WholeAgain = (C : CatalogData) → IsCatalog C → (F : FileContents) (L : Sites) (T : List Row) → HoldsSurvivors C F L T → (out : FileContents) → AreExpected C F L T out → Holds C (put_over out F) T
 
--- what `rebuild` answers is one verdict: the answers of two runs agree, want of memory aside
+-- `rebuild` has at most one verdict, so the answers of two runs agree, unless memory runs out
 abbrev pub OneRebuildVerdict : Type 0
 OneRebuildVerdict = (C : CatalogData) → IsCatalog C → (F : FileContents) (L : Sites) (v u : Verdict) → IsRebuildVerdict C F L v → IsRebuildVerdict C F L u → v ≡ u
 
--- what `check` answers is one verdict
+-- `check` has at most one verdict
 abbrev pub CheckHasOneVerdict : Type 0
 CheckHasOneVerdict = (C : CatalogData) → IsCatalog C → (F : FileContents) (k : ℕ) (v u : Verdict) → IsCheckVerdict C F k v → IsCheckVerdict C F k u → v ≡ u
 
--- where the surviving files of a safe loss hold a table, the walk ends with exactly its rows, and no key twice
+-- if the surviving files of a safe loss hold a table, the walk ends with exactly its rows, and no key occurs twice
 abbrev pub WalkFindsTheTable : Type 0
 WalkFindsTheTable =
     (C : CatalogData) → IsCatalog C → (F : FileContents) (L : Sites) (T : List Row) → IsSafe C L → HoldsSurvivors C F L T
     → (S : Contents) (w : Result (List Row) Stray) → Reads C F L S → IsWalkedBy C.safety C L S w → (rows : List Row) × (w ≡ Ok rows) × ((r : Row) → IsIn r rows ↔ IsIn r T) × (is_twice C rows ≡ false)
 
--- the last level of a walk by rows reaches none
+-- the last level of a walk by rows reaches no row
 abbrev pub LevelsEnd : Type 0
 LevelsEnd = (C : CatalogData) (L : Sites) (S : Contents) (p : ℕ) (at : At) → p < length C.projections → (G : Found) → found_from C L S p at ≡ Some G → G.last ≡ []
 
--- what stands under names that do not survive is never looked at
+-- files under names that do not survive do not change an answer
 abbrev pub SurvivorsDecide : Type 0
 SurvivorsDecide = (C : CatalogData) (F G : FileContents) (L : Sites) → SameSurvivors C L F G → (r : Result Files Fault) → IsRebuildAnswer C F L r → IsRebuildAnswer C G L r
 

@@ -1,4 +1,4 @@
--- Laws on which losses a store accepts, each the contract of a function of src/loss_laws.rt.
+-- Laws about the losses that a store accepts; each is the contract of a function of src/loss_laws.rt.
 use Rattle.std.specs.Prelude.{◌≡◌, ℕ, ◌+◌, ◌*◌, ◌≤◌, List, length}
 use Rattle.cs_schema.specs.declared.kinds.Safety.{Safety}
 use Rattle.cs_schema.specs.CatalogData.{CatalogData}
@@ -14,20 +14,20 @@ use Rattle.cs_recovery.specs.Claims.{IsOnlyTable, SameSurvivors}
 use Rattle.cs_recovery.specs.AcceptedLosses.{IsAcceptedLoss, AreChangedOn}
 use Rattle.cs_recovery.specs.Conflicts.{HitsConflicts, AreRead}
 
--- what the files that survive a loss hold, those that survive a larger one hold, whatever became of the others
+-- a table that the survivors of a loss hold is held by those of a larger loss, whatever became of the other files
 abbrev pub FewerSurvivorsHold : Type 0
 FewerSurvivorsHold =
     (C : CatalogData) → IsCatalog C → (F G : FileContents) (L M : Sites) (T : List Row)
     → IsWithin L M → SameSurvivors C M F G → HoldsSurvivors C F L T → HoldsSurvivors C G M T
 
--- a safe loss around an accepted one is accepted, with its table and no other
+-- a safe loss that contains an accepted one is accepted, with its table and no other
 abbrev pub AcceptanceGrows : Type 0
 AcceptanceGrows =
     (C : CatalogData) → IsCatalog C → (F : FileContents) (L M : Sites) (T : List Row)
     → IsAcceptedLoss C F L T → IsWithin L M → IsLoss C M → IsSafe C M → IsOnlyTable (IsAcceptedLoss C F M) T
 
--- Where two losses are within one that is safe, by either rule, the two leave one table; of two stores too, if they have the
--- same files beside the safe loss.
+-- If two losses are contained in a loss that is safe by either rule, both leave the same table. This holds of two
+-- stores too, if they have the same files outside the safe loss.
 abbrev pub OneTableIsHeld : Type 0
 OneTableIsHeld =
     (C : CatalogData) → IsCatalog C → (rule : Safety) (F G : FileContents) (L M N : Sites) (T U : List Row)
@@ -39,10 +39,10 @@ ChangedSitesAreDetected =
     (C : CatalogData) → IsCatalog C → (F G : FileContents) (B : Sites) (k : ℕ) (T : List Row)
     → IsKSafe C k → AreChangedOn C F G B T → length B ≤ k → (U : List Row) → Holds C G U → U ≡ T
 
--- Errors and erasures: the loss of the changed sites is accepted with the table, where it is safe, and so is no accepted loss
--- with another, where both are within a safe one. So let each loss of at most k sites be safe, some sites be known to be
--- gone, and m others at most have changed. If the known and twice m are at most k, each accepted loss of at most m sites
--- beside the known gives the table.
+-- Errors and erasures: the loss of the changed sites is accepted with the table if it is safe, and no loss is accepted
+-- with another table if a safe loss contains both. So let each loss of at most k sites be safe, let some sites be known
+-- to be lost, and let at most m others have been changed. If the number of known sites plus 2m is at most k, each
+-- accepted loss of the known sites and at most m others leaves the table.
 pub record AreCorrected (C : CatalogData) (G : FileContents) (B : Sites) (T : List Row) : Type 0 where
   pub changed : IsSafe C B → IsAcceptedLoss C G B T
   pub within : (M N : Sites) (U : List Row) → IsAcceptedLoss C G M U → IsWithin B N → IsWithin M N → IsSafe C N → U ≡ T
@@ -52,8 +52,8 @@ pub record AreCorrected (C : CatalogData) (G : FileContents) (B : Sites) (T : Li
 abbrev pub ChangedSitesAreCorrected : Type 0
 ChangedSitesAreCorrected = (C : CatalogData) → IsCatalog C → (F G : FileContents) (B : Sites) (T : List Row) → AreChangedOn C F G B T → AreCorrected C G B T
 
--- The losses that are accepted with a table are the safe ones that have a site of each conflict. What was read tells each file
--- for sound or bad; that an accepted loss has a site of each conflict needs no reading.
+-- The losses that are accepted with a table are the safe ones that contain a site of each conflict. That an accepted
+-- loss contains these needs no reading; the converse needs to know of each file whether it is sound.
 abbrev pub AcceptedLossesHitConflicts : Type 0
 AcceptedLossesHitConflicts =
     (C : CatalogData) → IsCatalog C → (F : FileContents) (L : Sites) (T : List Row)

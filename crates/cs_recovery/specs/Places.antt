@@ -11,7 +11,7 @@ use Rattle.cs_delta.specs.Image.{ImageData, image_keys, position_of_key, fresh_i
 use Rattle.cs_jix.specs.JoinIndex.{Place, no_place}
 use Rattle.cs_rows.specs.Walk.{Contents}
 
--- the image of a segment after the recovery: fresh where it was lost, else kept
+-- the image of a segment after the recovery: fresh if it was lost, else kept
 abbrev pub image_after : CatalogData → Sites → Contents → List Row → ℕ → ℕ → ImageData
 image_after C L S T p s = if lost C L p s then fresh_image (map (project C p) (rows_of C T p s)) else S.image p s
 
@@ -21,7 +21,7 @@ place_of C L S T q r =
     let t : ℕ = segment_of_row C q r in
     (t, option_map_or (λ i. slice_index (image_keys (image_after C L S T q t)) i) (index_of C T q r) 0)
 
--- the entry at a key: the place of its row, or none at a dead key
+-- the entry for a key: the place of its row, or no place if the key is dead
 abbrev pub entry_for : CatalogData → Sites → Contents → List Row → ℕ → ℕ → ℕ → ℕ → Place
 entry_for C L S T p s q key =
     option_map_or (λ r. place_of C L S T q r) (option_and_then (slice_get (rows_of C T p s)) (position_of_key (image_after C L S T p s) key)) no_place

@@ -18,12 +18,12 @@ use Rattle.cs_recovery.specs.Columns.{AreColumnsOf}
 abbrev pub Columns : Type 0
 Columns = Vec Cells Global
 
--- The answer is `rebuild`'s verdict: the rows of its table by primary key, or its fault.
+-- An answer of `table`: the rows of the table of `rebuild`'s verdict by primary key, its fault, or out of memory.
 abbrev pub IsTableAnswer : CatalogData → FileContents → Sites → Result Columns Fault → Type 0
 IsTableAnswer C F L (Ok columns) = (T : List Row) × IsRebuildVerdict C F L (Ok T) × AreColumnsOf C T columns.items
 IsTableAnswer C F L (Err e) = MemoryOr e (IsRebuildVerdict C F L (Err e))
 
--- want of memory, or the rows of the table
+-- out of memory, or the rows of the table
 abbrev pub IsTableOrMemory : CatalogData → List Row → Result Columns Fault → Type 0
 IsTableOrMemory C T r = MatchResult r (λ columns. AreColumnsOf C T columns.items) (λ e. e ≡ Fault.Memory)
 

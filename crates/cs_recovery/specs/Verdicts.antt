@@ -28,11 +28,11 @@ use Rattle.cs_recovery.specs.Holding.{agrees}
 use Rattle.cs_recovery.specs.Tables.{when}
 use Rattle.cs_order.specs.Tables.{all_segments, table_of, is_twice}
 
--- each site of the loss is one of the catalog's
+-- each site of the loss is a site of the catalog
 abbrev pub NamesItsSites : CatalogData → Sites → Type 0
 NamesItsSites C L = (x : ℕ) → IsTrue (member L x) → x ≤ C.sites
 
--- the file under a name is there, and is one of that name; a delta also merges with its segment
+-- there is a file under the name, and it is a file of that name; a delta also merges with its segment
 abbrev pub IsSound : CatalogData → FileContents → FileName → Type 0
 IsSound C F (FileName.Seg p s) = (bytes : List ℕ) × (b : Base) × (F (FileName.Seg p s) ≡ Some bytes) × IsSegmentFile C p s bytes b
 IsSound C F (FileName.Del p s) = (m : ImageData) × IsImageOf C F p s m
@@ -42,7 +42,7 @@ IsSound C F (FileName.Jix p s q) = (entries : List Place) × IsJoinOf F p s q en
 abbrev pub FileFault : FileContents → FileName → Fault → Type 0
 FileFault F n f = ((F n ≡ None) × (f ≡ Fault.Missing n)) ⊎ (((bytes : List ℕ) × (F n ≡ Some bytes)) × (f ≡ Fault.Damaged n))
 
--- the least surviving name whose file is missing or damaged, and why
+-- the first surviving name whose file is missing or damaged, and why
 pub record IsFirstBadFile (C : CatalogData) (F : FileContents) (L : Sites) (n : FileName) (f : Fault) : Type 0 where
   pub survives : Survives C L n
   pub bad : ¬ IsSound C F n
@@ -59,19 +59,19 @@ surviving_joins C L = flat_map (λ (a : ℕ × ℕ). map (λ q. (a.0, a.1, q)) (
 abbrev pub twice : CatalogData → List Row → Option Fault
 twice C rows = when (is_twice C rows) Fault.Twice
 
--- the least range that is too large
+-- the first range that is too large
 abbrev pub full : CatalogData → List Row → Option Fault
 full C T = option_map (λ (a : ℕ × ℕ). Fault.Full a.0 a.1) (find (λ (a : ℕ × ℕ). nat_lt row_limit (length (rows_of C T a.0 a.1))) (all_segments C))
 
--- the least surviving segment whose image is not of the table's rows
+-- the first surviving segment whose image does not have the table's rows
 abbrev pub misplaced : CatalogData → Sites → Contents → List Row → Option Fault
 misplaced C L S T = option_map (λ (a : ℕ × ℕ). Fault.Misplaced a.0 a.1) (find (λ (a : ℕ × ℕ). not (pointwise (pointwise value_eq) (image_rows (S.image a.0 a.1)) (map (project C a.0) (rows_of C T a.0 a.1)))) (surviving_segments C L))
 
--- the least surviving join index that does not lead to the places of its rows
+-- the first surviving join index that does not lead to the places of its rows
 abbrev pub misled : CatalogData → Sites → Contents → List Row → Option Fault
 misled C L S T = option_map (λ (a : ℕ × ℕ × ℕ). Fault.Misled a.0 a.1 a.2) (find (λ (a : ℕ × ℕ × ℕ). not (pointwise (agrees C L a.2) (S.join a.0 a.1 a.2) (entries_for C L S T a.0 a.1 a.2))) (surviving_joins C L))
 
--- what the contents of files come to: a fault, or the table
+-- the verdict on contents of files: a fault, or the table
 abbrev pub Verdict : Type 0
 Verdict = Result (List Row) Fault
 
@@ -89,23 +89,23 @@ abbrev pub judged : CatalogData → Sites → Contents → Result (List Row) Str
 judged C L S (Err at) = Err (Fault.Astray at.0 at.1 at.2)
 judged C L S (Ok rows) = judged_rows C L S rows
 
--- the walk of the catalog's rule
+-- the walk by the catalog's rule of safety
 abbrev pub IsWalkedBy : Safety → CatalogData → Sites → Contents → Result (List Row) Stray → Type 0
 IsWalkedBy Safety.Whole C L S w = (P : PlanData) × IsPlan C L P × (w ≡ walked C S P)
 IsWalkedBy Safety.Rows C L S w = w ≡ walked_by_rows C L S
 
--- What the surviving files of a safe loss come to: a fault of the least bad one, or what their contents do.
+-- The verdict on the surviving files of a safe loss: the fault of the first bad file, or the verdict on their contents.
 pub data IsVerdict (C : CatalogData) (F : FileContents) (L : Sites) (v : Verdict) : Type 0 where
   bad_file : (n : FileName) (f : Fault) → IsFirstBadFile C F L n f → v ≡ Err f → IsVerdict C F L v
   contents : (S : Contents) (w : Result (List Row) Stray) → Reads C F L S → IsWalkedBy C.safety C L S w → v ≡ judged C L S w → IsVerdict C F L v
 
--- What `rebuild` answers, as a verdict: the first refusal that applies, or the table whose files it answers.
+-- The verdict of `rebuild`: the first fault that applies, or the table whose files it returns.
 pub data IsRebuildVerdict (C : CatalogData) (F : FileContents) (L : Sites) (v : Verdict) : Type 0 where
   site : ¬ NamesItsSites C L → v ≡ Err Fault.Site → IsRebuildVerdict C F L v
   unsafe : NamesItsSites C L → ¬ IsSafe C L → v ≡ Err (Fault.Unsafe L) → IsRebuildVerdict C F L v
   safe : NamesItsSites C L → IsSafe C L → IsVerdict C F L v → IsRebuildVerdict C F L v
 
--- What `check` answers, as a verdict: the first refusal that applies, or the table whose rows it counts.
+-- The verdict of `check`: the first fault that applies, or the table whose rows it counts.
 pub data IsCheckVerdict (C : CatalogData) (F : FileContents) (k : ℕ) (v : Verdict) : Type 0 where
   bad_k : 3 < k → v ≡ Err Fault.BadK → IsCheckVerdict C F k v
   unsafe : k ≤ 3 → (L : Sites) → IsFirstUnsafe C k L → v ≡ Err (Fault.Unsafe L) → IsCheckVerdict C F k v

@@ -4,7 +4,7 @@ ghost use Rattle.cs_recovery.specs.TableAnswers.{TableAnswersSuffice};
 ghost use Rattle.cs_recovery.specs.BuildAnswers.{BuildAnswersSuffice, ColumnsAreTheTable};
 
 /// The other clauses of `table` follow from its answer: if the surviving files of a safe loss hold a table, that table
-/// is answered, unless memory runs out.
+/// is returned, unless memory runs out.
 pub fn table_answers_suffice()
     ensures { TableAnswersSuffice }
 {}
@@ -15,7 +15,7 @@ pub fn build_answers_suffice()
     ensures { BuildAnswersSuffice }
 {}
 
-/// Columns that `table` answered can be built from, and are those of the table.
+/// Columns that `table` returned can be passed to `build`, and their rows are those of the table.
 pub fn columns_are_the_table()
     ensures { ColumnsAreTheTable }
 {}

@@ -1,4 +1,4 @@
-//! What a recovery must be: what files hold, which files are expected, and what `rebuild` and `check` answer.
+//! The definition of recovery: what files hold, which files are expected, and what `rebuild` and `check` answer.
 #![tactic(auto)]
 
 pub mod answer_laws;

@@ -17,7 +17,7 @@ use Rattle.cs_schema.specs.Values.{values, kind_of}
 use Rattle.cs_schema.specs.Rows.{cell}
 use Rattle.cs_rows.specs.WalkedView.{row_of, rows_of, count_of, walked_data, AreColumns}
 
--- what holds of each column, of one more
+-- what holds of n columns and of one more holds of n + 1
 pub each_more : (P : ℕ → Cells → Type 0) (xs ys : List Cells) (y : Cells) (n : ℕ) → ys ≡ xs ++ y ∷ [] → length xs ≡ n → ((k : ℕ) (d : Cells) → k < n → P k (get_or xs k d)) → P n y → (k : ℕ) (d : Cells) → k < n + 1 → P k (get_or ys k d)
 each_more P xs ys y n e long each here k d h =
     ⊎_elim
@@ -66,7 +66,7 @@ rolled_back old now others at rows cells was long len below above e v h k d l =
     (cases_lt at k))
     (cases_lt k at)
 
--- ---- rows of columns of one length
+-- ---- rows of columns of the same length
 
 pub map_same : {X Y : Type 0} (f g : X → Y) (xs ys : List X) → length xs ≡ length ys → ((i : ℕ) (d : X) → i < length xs → f (get_or xs i d) ≡ g (get_or ys i d)) → map f xs ≡ map g ys
 map_same f g [] [] e h = refl

@@ -1,4 +1,4 @@
--- Blocks of rows: their places, and their cells at the end of a column.
+-- Blocks of rows: the rows that they reach, and their cells at the end of a column.
 use Rattle.std.proofs.Common.{◌≡◌, ℕ, ◌+◌, ◌-◌, ◌<◌, ◌≤◌, List, [], ◌∷◌, ◌++◌, length, map, sym, ap, ◌∙◌, subst, arith, append_assoc, ⊎_elim}
 use Rattle.std.proofs.lemmas.Bool.{cases_lt}
 use Rattle.std.proofs.lemmas.List.{get_or_push, get_or_append_left, length_push}
@@ -9,7 +9,7 @@ use Rattle.cs_rows.specs.Walk.{Contents, At}
 use Rattle.cs_rows.specs.Columns.{PlacesAre, ArePlaces, rows_from}
 use Rattle.cs_rows.proofs.RangeLemmas.{rows_plus, map_append}
 
--- the places of one row more
+-- the rows reached from one more row
 pub places_more : (C : CatalogData) (S : Contents) (P : PlanData) (s start i : ℕ) (block : List (List At)) (places : List At) → start ≤ i → length block ≡ i - start → ArePlaces C S P s start block → PlacesAre C S P (s, i) places (length C.projections) → ArePlaces C S P s start (block ++ places ∷ [])
 places_more C S P s start i block places h n are here k l =
     ⊎_elim
@@ -22,7 +22,7 @@ places_more C S P s start i block places h n are here k l =
     (subst (λ (m : ℕ). PlacesAre C S P (s, m) places (length C.projections)) b here))
     (cases_lt k (length block))
 
--- the cell of one row more
+-- the cell of one more row
 pub cells_more : (f : At → Value) (s start k : ℕ) (before now : List Value) (v : Value) → now ≡ before ++ map f (rows_from s start k) → v ≡ f (s, start + k) → now ++ v ∷ [] ≡ before ++ map f (rows_from s start (k + 1))
 cells_more f s start k before now v e read =
     let rows : List At = rows_from s start k in

@@ -1,9 +1,9 @@
--- Results that were made side by side, one for each number from 0 on, and collected.
+-- Results that were made independently, one for each number from 0 on, and collected.
 use Rattle.std.proofs.Common.{◌≡◌, ℕ, zero, suc, ◌+◌, ◌-◌, ◌<◌, List, [], ◌∷◌, length, map, get_or, refl, sym, ap, ◌∙◌, subst, arith, Result, Ok, Err}
 use Rattle.std.specs.Prelude.{Contains, IfOk, MatchResult}
 use Rattle.std.specs.List.{AllZip, range_with_len}
 
--- results that are all there, by the numbers for which they were made
+-- if the results were collected, each was made for its number
 pub all_there : {X E V : Type 0} (R : ℕ → Result X E → Type 0) (items : V → List X) (n : ℕ) (numbers : List ℕ) (results : List (Result X E)) (r : Result V E)
     → numbers ≡ range_with_len 0 (n - 0) → AllZip R numbers results → MatchResult r (λ v. (xs : List X) × (results ≡ map Ok xs) × (items v ≡ xs)) (λ e. Contains results (Err e))
     → IfOk r (λ v. AllZip R (range_with_len 0 n) (map Ok (items v)))
@@ -12,7 +12,7 @@ all_there R items n numbers results (Ok v) e zipped there =
     subst (λ ns. AllZip R ns (map Ok (items v))) (e ∙ ap (range_with_len 0) whole) (subst (AllZip R numbers) (there.1 ∙ ap (map Ok) (sym there.2)) zipped)
 all_there R items n numbers results (Err x) e zipped there = tt
 
--- results place by place, by what is known of each
+-- results one by one, with what is known of each
 pub zipped_as : {X Y : Type 0} {R : X → Y → Type 0} (S : X → Y → Type 0) (xs : List X) (ys : List Y) → AllZip R xs ys → ((x : X) (y : Y) → R x y → S x y) → AllZip S xs ys
 zipped_as S [] [] h turn = tt
 zipped_as S [] (y ∷ ys) h turn = h
@@ -35,7 +35,7 @@ module _ (E : Type 0) {X : Type 0} (P : ℕ → X → Type 0) where
           each zero d l = subst (λ c. P c x) (let e : a ≡ a + 0 = omega arith in e) h.0
           each (suc k) d l = subst (λ c. P c (get_or xs k d)) (let e : a + 1 + k ≡ a + suc k = omega arith in e) (rest.1 k d (omega arith))
 
-  -- there are so many, and it holds of each
+  -- there are n results, and it holds of each
   pub each_made : (n : ℕ) (xs : List X) → AllZip (λ k (r : Result X E). IfOk r (P k)) (range_with_len 0 n) (map Ok xs)
       → (length xs ≡ n) × ((k : ℕ) (d : X) → k < n → P k (get_or xs k d))
   each_made n xs h =

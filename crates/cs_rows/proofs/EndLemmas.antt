@@ -21,7 +21,7 @@ use Rattle.cs_safety.specs.Paths.{IsReached}
 use Rattle.cs_rows.specs.Walk.{Contents, At, is_astray, walked_cell, walked_row}
 use Rattle.cs_safety.proofs.Distances.{path_exists}
 use Rattle.cs_schema.proofs.Lists.{at_in}
-use Rattle.cs_rows.specs.declared.range.WalkFault.{WalkFault}
+use Rattle.cs_rows.specs.declared.fault.WalkFault.{WalkFault}
 use Rattle.cs_rows.specs.Steps.{PlanFits}
 use Rattle.cs_rows.proofs.RouteLemmas.{plan_depth, plan_follows}
 use Rattle.cs_rows.specs.Columns.{ColumnsFit, AreWalked, IsRowFault}
@@ -57,7 +57,7 @@ module _ (C : CatalogData) (cat : IsCatalog C) (L : Sites) (P : PlanData) (plan 
     holds = λ c h. (plan.source c h).column;
   }
 
--- that a plan fits is one fact
+-- two proofs that a plan fits are equal
 pub PlanFits-prop : (C : CatalogData) (P : PlanData) → IsProp (PlanFits C P)
 PlanFits-prop C P = hlevel props
 

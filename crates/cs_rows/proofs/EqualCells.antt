@@ -1,4 +1,4 @@
--- Cells that are equal, and orderings that say so.
+-- Equal cells, and orderings that compare them as equal.
 use Rattle.std.proofs.Common.{◌≡◌, refl, sym, ap, ◌∙◌, subst, true, false, true≢false}
 use Rattle.std.specs.declared.cmp.Ordering.{Ordering}
 use Rattle.std.specs.declared.cmp.Ordering.TheVariants.{Less, Equal, Greater}

@@ -1,4 +1,4 @@
--- The first element that passes a test, sought from the front.
+-- The first element that passes a test.
 use Rattle.std.proofs.Common.{◌≡◌, ℕ, zero, suc, ◌+◌, ◌<◌, ◌≤◌, List, [], ◌∷◌, length, take, get_or, refl, sym, ap, ◌∙◌, subst, arith, Bool, true, false, cond, not, ◌&&◌, ◌||◌, ◌==◌, Some, None, true≢false}
 use Rattle.std.specs.Prelude.{All}
 use Rattle.std.specs.List.{find, list_all, list_any, position_or_len, range_with_len}
@@ -34,7 +34,7 @@ module _ {X : Type 0} (p : X → Bool) where
       go true g r = subst P (same_Some y x g) (All-head P y ys all)
       go false g r = r g
 
--- the place of a number that stands in a list, and of one that doesn't
+-- a number is in a list if and only if its index is below the list's length
 pub found_in : (c : ℕ) (xs : List ℕ) → position_or_len (λ d. d == c) xs < length xs → list_any (λ d. d == c) xs ≡ true
 found_in c [] h = absurd (omega arith)
 found_in c (x ∷ xs) h = go (x == c) h (λ k. found_in c xs k)
@@ -80,7 +80,7 @@ one_from t a (suc n) i e h = go (t a) refl e i h (λ g j k. one_from t (a + 1) n
     go true f g (suc i) k later = let s : a + 1 + i ≡ a + suc i = omega arith in ap t (sym s) ∙ later g i (omega arith)
     go false f g i k later = absurd (true≢false (sym g))
 
--- what is true of all is of one
+-- what holds of all numbers below n holds of each
 pub one_of_all : (t : ℕ → Bool) (n : ℕ) → list_all t (numbers_below n) ≡ true → (k : ℕ) → k < n → t k ≡ true
 one_of_all t n e k h = let z : 0 + k ≡ k = omega arith in ap t (sym z) ∙ one_from t 0 n k e h
 

@@ -22,7 +22,7 @@ use Rattle.cs_delta.specs.KindedImage.{KindedImage}
 use Rattle.cs_segment.specs.SegmentData.{kinds_at}
 use Rattle.cs_safety.specs.Paths.{holds_column}
 use Rattle.cs_rows.specs.declared.sources.Source.{Source}
-use Rattle.cs_rows.specs.declared.range.WalkFault.{WalkFault}
+use Rattle.cs_rows.specs.declared.fault.WalkFault.{WalkFault}
 use Rattle.cs_rows.specs.Walk.{Contents, image_cell}
 use Rattle.cs_rows.specs.WalkByRows.{Reached, Found, numbers_of, found_from, source_in, is_full, found_row}
 use Rattle.cs_rows.specs.OwnRows.{is_fresh, is_given}
@@ -50,7 +50,7 @@ module _ (C : CatalogData) (c : ℕ) where
     pub source_past : length columns ≤ place → find holds (take (k + 1) ps) ≡ None
     source_past h = none_before holds ps k 0 within before (missing_in c (projection C (slice_index ps k)).columns (subst (λ (l : List ℕ). length l ≤ position_or_len (λ e. e == c) l) are (subst (λ (n : ℕ). length columns ≤ n) is h)))
 
--- rows are sought by their numbers
+-- a search by projection finds none among rows if it finds none among their projections
 find_number : (p : ℕ → Bool) (rs : List Reached) → find p (numbers_of rs) ≡ None → find (λ (r : Reached). p r.0) rs ≡ None
 find_number p [] e = refl
 find_number p (r ∷ rs) e = go (p r.0) e (find_number p rs)
@@ -67,7 +67,7 @@ some_number p (r ∷ rs) = go (p r.0) (some_number p rs)
     go true e = refl
     go false e = e
 
--- what is found is full where the projections reached have all columns
+-- the walk found a full row if and only if the projections reached have all columns
 pub full_by_numbers : (C : CatalogData) (F : Found) → have_all C (numbers_of F.reached) ≡ is_full C F
 full_by_numbers C F = λ i. list_all (λ c. some_number (λ p. holds_column C p c) F.reached i) (numbers_below (length C.columns))
 
@@ -135,7 +135,7 @@ module _ (C : CatalogData) (S : SurvivorsData) (rs : List Reached) (stand : All 
 
 -- ---- cells at the ends of columns
 
--- values stand at the end of each of the first n columns
+-- values have been appended to each of the first n columns
 abbrev pub AreAdded : (ℕ → List Value) → List Cells → List Cells → ℕ → Type 0
 AreAdded added before after n = (c : ℕ) (d : Cells) → c < n → (kind_of (get_or after c d) ≡ kind_of (get_or before c d)) × (values (get_or after c d) ≡ values (get_or before c d) ++ added c)
 
@@ -206,13 +206,13 @@ kinds_fit C columns fit =
     fill_by_all f (map kind_of columns) n Kind.Int (length-map columns kind_of ∙ fit.count) (λ c b. get_or_map_in kind_of columns c Kind.Int (column C c).kind (omega (arith, fit.count)) (λ d. fit.kinds c d b))
     ∙ sym (fill_by_all f (map (λ (c : ColumnData). c.kind) C.columns) n Kind.Int (length-map C.columns (λ (c : ColumnData). c.kind)) (λ c b. get_or-map (λ (x : ColumnData). x.kind) C.columns c no_column Kind.Int b))
 
--- ---- rows in turn
+-- ---- rows one by one
 
--- the row that was found, where it is fresh
+-- the row that was found, if it is fresh
 abbrev pub if_fresh : CatalogData → Contents → Found → Option Row
 if_fresh C S F = cond (is_fresh C F) (Some (found_row C S F)) None
 
--- the row that was found, where it is given
+-- the row that was found, if it is given
 abbrev pub if_given : Bool → CatalogData → Contents → Found → Option Row
 if_given fresh_only C S F = cond (is_given fresh_only C F) (Some (found_row C S F)) None
 
@@ -239,7 +239,7 @@ module _ (C : CatalogData) (L : Sites) (S : Contents) where
     pub not_given_found : (row : Reached) (F : Found) → found_from C L S row.0 row.1 ≡ Some F → is_given fresh_only C F ≡ false → filter_map (given_row fresh_only C L S) (row ∷ []) ≡ []
     not_given_found row F e f = ap (λ (o : Option Found). cons_option (option_and_then (if_given fresh_only C S) o) []) e ∙ ap (λ (b : Bool). cons_option (cond b (Some (found_row C S F)) None) []) f
 
-    -- the columns have the rows found among xs at their ends
+    -- the rows found from xs have been appended to the columns
     abbrev pub Grows : List Reached → List Cells → List Cells → Type 0
     Grows xs before after = (rows : List Row) → AreRows C rows before → AreRows C (rows ++ filter_map (given_row fresh_only C L S) xs) after
 
@@ -256,7 +256,7 @@ module _ (C : CatalogData) (L : Sites) (S : Contents) where
     pub grows_not : (row : Reached) (columns : List Cells) → filter_map (given_row fresh_only C L S) (row ∷ []) ≡ [] → Grows (row ∷ []) columns columns
     grows_not row columns e rows are = subst (λ (l : List Row). AreRows C l columns) (sym (ap (λ (l : List Row). rows ++ l) e ∙ append-nil rows)) are
 
-    -- what was found is pushed where it is given
+    -- the row that was found is appended if it is given
     pub grows_found : (row : Reached) (F : Found) (before after : List Cells) → found_from C L S row.0 row.1 ≡ Some F → (is_given fresh_only C F ≡ true → RowPushed (found_row C S F) before after (length C.columns)) → (is_given fresh_only C F ≡ false → after ≡ before) → Grows (row ∷ []) before after
     grows_found row F before after e pushed kept = go (is_given fresh_only C F) refl
       where

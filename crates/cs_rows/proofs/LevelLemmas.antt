@@ -33,7 +33,7 @@ pub numbers_any : (rs : List Reached) (q : ℕ) → list_any (λ (r : Reached). 
 numbers_any [] q = refl
 numbers_any (r ∷ rs) q = ap (λ b. (r.0 == q) || b) (numbers_any rs q)
 
--- what a filter keeps of one element more
+-- a filter that keeps one more element
 pub kept_more : {A B : Type 0} (f : A → Option B) (xs : List A) (x : A) (y : B) → f x ≡ Some y → filter_map f (xs ++ x ∷ []) ≡ filter_map f xs ++ y ∷ []
 kept_more f xs x y e = filter_map-append f xs (x ∷ []) ∙ ap (λ o. filter_map f xs ++ cons_option o []) e
 
@@ -49,7 +49,7 @@ not_true true e = absurd (true≢false (sym e))
 not_true false e = refl
 
 module _ (C : CatalogData) (L : Sites) (S : Contents) where
-  -- where the last level reached nothing, the next looks at nothing
+  -- if the last level reached nothing, the next one looks at nothing
   no_level : (F : Found) → F.last ≡ [] → level C L S F ≡ []
   no_level F e = none_kept (looked_at C L S F) (numbers_below (length C.projections)) (λ q.
       ap (λ (l : List Reached). cond (member (numbers_of F.reached) q || member F.marked q) None (option_map (λ (r : Reached). (q, landing C L S q (entry_of S r.0 q r.1))) (find (λ (r : Reached). has_join C r.0 q) l))) e
@@ -61,7 +61,7 @@ module _ (C : CatalogData) (L : Sites) (S : Contents) where
       let b : with_level F [] ≡ F = λ i. record { reached = append-nil F.reached i; last = sym e i; marked = append-nil F.marked i } in
       ap (with_level F) a ∙ b
 
-  -- and further levels change nothing
+  -- and more levels change nothing
   pub found_stops : (n : ℕ) (F : Found) → F.last ≡ [] → found C L S n F ≡ Some F
   found_stops zero F e = refl
   found_stops (suc n) F e =
@@ -70,7 +70,7 @@ module _ (C : CatalogData) (L : Sites) (S : Contents) where
   pub found_ended : (n : ℕ) (F : Found) (r : Option Found) → F.last ≡ [] → r ≡ found C L S n F → r ≡ Some F
   found_ended n F r e h = h ∙ found_stops n F e
 
-  -- a level more
+  -- one more level
   pub found_more : (n m : ℕ) (F G : Found) → n ≡ m + 1 → list_any is_stray_landing (level C L S F) ≡ false → G ≡ with_level F (level C L S F) → found C L S n F ≡ found C L S m G
   found_more zero m F G e h g = absurd (omega arith)
   found_more (suc n) m F G e h g =
@@ -81,7 +81,7 @@ module _ (C : CatalogData) (L : Sites) (S : Contents) where
   found_astray zero m F e h = absurd (omega arith)
   found_astray (suc n) m F e h = ap (λ (b : Bool). cond b None (found C L S n (with_level F (level C L S F)))) h
 
-  -- how a projection is looked at
+  -- how a level looks at a projection
   abbrev landed_through : ℕ → Reached → ℕ × Landing
   landed_through q r = (q, landing C L S q (entry_of S r.0 q r.1))
 
@@ -95,7 +95,7 @@ module _ (C : CatalogData) (L : Sites) (S : Contents) where
   pub looks_nowhere : (F : Found) (q : ℕ) (b : Bool) → b ≡ (member (numbers_of F.reached) q || member F.marked q) → b ≡ false → entrance C F q ≡ None → None ≡ looked_at C L S F q
   looks_nowhere F q b e f entered = sym (ap (λ (x : Bool). cond x None (option_map (landed_through q) (entrance C F q))) (sym e ∙ f) ∙ ap (option_map (landed_through q)) entered)
 
-  -- what a level looks at, one projection more
+  -- what a level looks at, with one more projection
   pub looked_more : (F : Found) (q : ℕ) (xs : List (ℕ × Landed)) (l : Landed) → landings_of xs ≡ filter_map (looked_at C L S F) (numbers_below q) → option_map (landing_at q) (Some l) ≡ looked_at C L S F q → landings_of (xs ++ (q, l) ∷ []) ≡ filter_map (looked_at C L S F) (numbers_below (q + 1))
   looked_more F q xs l e h =
       map_append (λ (x : ℕ × Landed). landing_at x.0 x.1) xs ((q, l) ∷ [])
@@ -118,7 +118,7 @@ module _ (C : CatalogData) (S : Contents) where
   pub level_stands : (F : Found) (xs : List (ℕ × Landed)) → AllStand C S F → AllLandWell C S xs → AllStand C S (with_level F (landings_of xs))
   level_stands F xs h w = record { reached = All-append (Stands C S) F.reached (filter_map row_landing (landings_of xs)) h.reached (rows_stand xs w); last = rows_stand xs w }
 
--- ---- landings in turn
+-- ---- landings one by one
 
 pub landings_more : (xs : List (ℕ × Landed)) (k : ℕ) (d : ℕ × Landed) → k < length xs → landings_of (take (k + 1) xs) ≡ landings_of (take k xs) ++ landing_at (get_or xs k d).0 (get_or xs k d).1 ∷ []
 landings_more xs k d h = ap landings_of (take_more xs k d h) ∙ map_append (λ (x : ℕ × Landed). landing_at x.0 x.1) (take k xs) (get_or xs k d ∷ [])
@@ -128,7 +128,7 @@ landings_split [] k d h = absurd (omega arith)
 landings_split (x ∷ xs) zero d h = (landings_of xs, refl)
 landings_split (x ∷ xs) (suc k) d h = let r = landings_split xs k d (omega arith) in (r.0, ap (λ ys. landing_at x.0 x.1 ∷ ys) r.1)
 
--- a stray landing among them
+-- one of them is a stray landing
 pub stray_among : (xs : List (ℕ × Landed)) (k : ℕ) (d : ℕ × Landed) → k < length xs → (get_or xs k d).1 ≡ Landed.Astray → list_any is_stray_landing (landings_of xs) ≡ true
 stray_among [] k d h e = absurd (omega arith)
 stray_among (x ∷ xs) zero d h e = ap (λ l. is_stray_landing (landing_at x.0 l) || list_any is_stray_landing (landings_of xs)) e
@@ -138,7 +138,7 @@ stray_among (x ∷ xs) (suc k) d h e = ap (λ b. is_stray_landing (landing_at x.
     or_true true = refl
     or_true false = refl
 
--- one landing more
+-- what the landings so far have added; none of them is stray
 pub record Entered (reached : List Reached) (marked : List ℕ) (reached' : List Reached) (marked' : List ℕ) (ls : List (ℕ × Landing)) : Type 0 where
   pub reached_are : reached' ≡ reached ++ filter_map row_landing ls
   pub marked_are : marked' ≡ marked ++ filter_map lost_landing ls

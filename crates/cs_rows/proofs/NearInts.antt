@@ -35,7 +35,7 @@ near_all xs least most count far up e k d h =
 
 -- ---- marks
 
--- which ints stand in the rows so far, and which of these rows' ints stand in an earlier one
+-- which ints occur in the rows so far, and which of these rows repeat an earlier int
 pub record Noted (ints : List ℤ) (least : ℤ) (count : ℕ) (seen marks : List Bool) (row : ℕ) : Type 0 where
   pub marked_count : length marks ≡ length ints
   pub seen_count : length seen ≡ count

@@ -30,7 +30,7 @@ use Rattle.cs_rows.proofs.RangeLemmas.{map_append}
 use Rattle.cs_rows.proofs.FoundRows.{Grows, if_given}
 use Rattle.cs_rows.proofs.FirstLemmas.{one_of_all}
 
--- a projection that has all columns has each
+-- a projection that has all columns has each column
 pub all_held : (C : CatalogData) (p : ℕ) → HasAll C p → (c : ℕ) → c < length C.columns → holds_column C p c ≡ true
 all_held C p all c h = one_of_all (holds_column C p) (length C.columns) all c h
 
@@ -54,7 +54,7 @@ module _ (C : CatalogData) (L : Sites) (S : Contents) where
       go true f later = absurd (none-some G f)
       go false f later = later (record { rest = b.rest ++ xs; is = ap (λ (l : List Reached). l ++ xs) b.is }) f
 
-  -- the row as it stands in its own image
+  -- the row as it is in its own image
   abbrev pub own_row : Reached → Row
   own_row x = map (λ c. image_cell C S x.0 c x.1) (numbers_below (length C.columns))
 
@@ -71,7 +71,7 @@ module _ (C : CatalogData) (L : Sites) (S : Contents) where
     own_full : is_full C F ≡ true
     own_full = full_below (length C.columns) 0 (omega arith)
 
-    -- its key is its own, so no walk before reads that
+    -- its key is its own, so no earlier walk finds it
     not_before : is_found_before C (numbers_of F.reached) ≡ false
     not_before =
         let later : ℕ → Bool = λ q. nat_lt q x.0 && has_all C q in
@@ -117,18 +117,18 @@ module _ (C : CatalogData) (L : Sites) (S : Contents) where
   cells_of [] c h = refl
   cells_of (x ∷ xs) c h = λ i. get_or-map-range_with_len (λ (d : ℕ). image_cell C S x.0 d x.1) 0 (length C.columns) c c (Value.Int (pos 0)) h (zero-add c) i ∷ cells_of xs c h i
 
-  -- columns to which the own cells of rows are added have the rows that walks from these find
+  -- if the own cells of rows are appended to columns, the rows found from these are appended
   pub own_grow : (fresh_only : Bool) → C.key < length C.columns → (xs : List Reached) (before after : List Cells) → All (λ (x : Reached). HasAll C x.0) xs → find (is_stray_row C L S) xs ≡ None
       → ((c : ℕ) (d : Cells) → c < length C.columns → values (get_or after c d) ≡ values (get_or before c d) ++ own_cells C S xs c) → Grows C L S fresh_only xs before after
   own_grow fresh_only keyed xs before after all sound added rows are c d h =
       added c d h ∙ (λ i. are c d h i ++ sym (ap (map (λ (r : Row). cell r c)) (own_rows fresh_only keyed xs all sound) ∙ cells_of xs c h) i)
       ∙ sym (map_append (λ (r : Row). cell r c) rows (filter_map (given_row fresh_only C L S) xs))
 
--- the rows of a segment are of its projection
+-- the rows of a segment belong to its projection
 pub all_of : (P : ℕ → Type 0) (p s start n : ℕ) → P p → All (λ (x : Reached). P x.0) (reached_from p s start n)
 all_of P p s start n h k d l = subst (λ (x : Reached). P x.0) (sym (get_or-map-range_with_len (row_at p s) start n k (start + k) d (omega (arith, l, length-map-range_with_len (row_at p s) start n)) refl)) h
 
--- a part of an image's column has the cells of the rows there
+-- a part of an image's column is the cells of the rows there
 pub part_of_column : (C : CatalogData) (S : Contents) (p s start stop c : ℕ) → start ≤ stop → stop ≤ length (S.image p s).pairs
     → take (stop - start) (drop start (image_column (S.image p s) (position_or_len (λ d. d == c) (projection C p).columns))) ≡ own_cells C S (reached_from p s start (stop - start)) c
 part_of_column C S p s start stop c order within =
@@ -147,7 +147,7 @@ part_of_column C S p s start stop c order within =
     ∙ sym (fill_by_all f (map g xs) n v (length-map xs g ∙ many)
     (λ k h. get_or-map g xs k (p, (s, 0)) v (omega (arith, h, many)) ∙ ap g (get_or-map-range_with_len (row_at p s) start n k (start + k) (p, (s, 0)) h refl)))
 
--- where a column of the table stands in an image
+-- the index of a column of the table in an image
 module _ (C : CatalogData) (S : SurvivorsData) (p : ℕ) (all : HasAll C p) (c : ℕ) (h : c < length C.columns) where
   abbrev pub place : ℕ
   place = position_or_len (λ d. d == c) (projection C p).columns

@@ -1,4 +1,4 @@
--- Parts of lists that are made of lists in turn.
+-- Parts of concatenated lists.
 use Rattle.std.proofs.Common.{◌≡◌, ℕ, ◌+◌, ◌-◌, ◌<◌, ◌≤◌, List, [], ◌∷◌, ◌++◌, length, map, take, drop, refl, sym, ap, ◌∙◌, arith, min, zero-add, length-append}
 use Rattle.std.specs.List.{flat_map, range_with_len}
 use Rattle.std.proofs.lemmas.List.{get_or-take, get_or-drop, length-take, length-drop}
@@ -44,10 +44,10 @@ module _ {X : Type 0} (g : ℕ → X) where
       get_or-drop a (take b (run 0 n)) k (g 0) ∙ get_or-take b (run 0 n) (a + k) (g 0) ab ∙ get_or-map-range_with_len g 0 n (a + k) (a + k) (g 0) an (zero-add (a + k)) ∙ ap g e)
       ∙ sym (fill_by_all at (run (min a n) m) m (g 0) (length-map-range_with_len g (min a n) m) (λ k h. get_or-map-range_with_len g (min a n) m k (min a n + k) (g 0) h refl))
 
--- ---- lists in turn
+-- ---- concatenated lists
 
 module _ {X : Type 0} (f : ℕ → List X) where
-  -- the first lists
+  -- the first n lists
   abbrev pub done : ℕ → List X
   done n = flat_map f (numbers_below n)
 

@@ -1,4 +1,4 @@
--- The rows of pieces one after the other, and what is left of them without the marked ones.
+-- The rows of concatenated pieces, and those of them that are not marked.
 use Rattle.std.proofs.Common.{◌≡◌, ℕ, suc, ◌+◌, ◌<◌, ◌≤◌, List, [], ◌∷◌, ◌++◌, length, map, take, drop, get_or, sym, ap, ◌∙◌, arith, Bool, Result, Ok, append_assoc, length-append, length-drop, drop-cons}
 use Rattle.std.specs.Prelude.{All, IfOk}
 use Rattle.std.specs.List.{AllZip, flat_map, range_with_len}
@@ -42,7 +42,7 @@ module _ (pieces : List WalkedData) (i : ℕ) (piece : WalkedData) (there : i < 
     pub later_fits : (n : ℕ) → n ≡ length piece.rows → length (drop n marks) ≡ length later
     later_fits n e = let l = length-drop n marks in omega (arith, l, total, e)
 
-    -- a piece's unmarked cells stand after those of the ones before it
+    -- a piece's unmarked cells come after those of the pieces before it
     pub left_more : (f : Row → Value) (before after whole : List Value) (n : ℕ) → n ≡ length piece.rows → after ≡ before ++ unmarked (take n marks) (map f piece.rows)
         → before ++ map f (unmarked marks (piece_rows (drop i pieces))) ≡ whole → after ++ map f (unmarked (drop n marks) later) ≡ whole
     left_more f before after whole n e pushed so_far =
@@ -83,7 +83,7 @@ module _ (C : CatalogData) (rows : List Row) (columns : List Cells) (made : AllZ
 
 -- ---- the width of rows
 
--- each row of pieces with the table's columns has a cell in each of them
+-- each row of pieces with the table's columns has a cell in each column
 pub pieces_wide : (C : CatalogData) (pieces : List WalkedData) → All (λ (piece : WalkedData). piece.kinds ≡ map (λ (c : ColumnData). c.kind) C.columns) pieces → All IsWide pieces
     → All (λ (row : Row). length row ≡ length C.columns) (piece_rows pieces)
 pieces_wide C [] kinds wide = All-nil (λ (row : Row). length row ≡ length C.columns)

@@ -1,4 +1,4 @@
--- Where a plan's walk stands in a projection follows from where it stands in the one before.
+-- The row that a plan's walk reaches in a projection follows from the one that it reaches in the projection before.
 use Rattle.std.proofs.Common.{◌≡◌, ℕ, zero, suc, ◌<◌, ◌≤◌, length, refl, sym, ap, ◌∙◌, subst, arith, Option, Some, None, ◌⊎◌, inl, inr}
 use Rattle.std.specs.Prelude.{MatchOption}
 use Rattle.std.specs.Option.{option_and_then}
@@ -51,7 +51,7 @@ module _ (C : CatalogData) (L : Sites) (S : Contents) (P : PlanData) (plan : IsP
       let b = before q n d in
       enters q n m d b ∙ ap (option_and_then (follow C S b.from q)) (steps_enough n b.from m b.near (omega arith)) ∙ sym (enters q n n d b)
 
-  -- the walk's place in q is one step from its place in the projection before q
+  -- the walk's row in q is one step from its row in the projection before q
   pub stand_by_prev : (q n p : ℕ) → Near q (suc n) → prev_of P q ≡ Some p → stand C S P at q ≡ option_and_then (follow C S p q) (stand C S P at p)
   stand_by_prev q n p d e =
       let b = before q n d in

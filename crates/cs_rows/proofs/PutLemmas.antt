@@ -1,4 +1,4 @@
--- What is put into survivors.
+-- What putting an image or a join index into survivors changes.
 use Rattle.std.proofs.Common.{◌≡◌, ◌≢◌, ℕ, zero, suc, ◌+◌, ◌<◌, List, [], ◌∷◌, length, map, replicate, set, get_or, refl, sym, ap, ◌∙◌, subst, arith, ◌⊎◌, ⊎_elim, inl, inr, Option, Some, None, get_or-set_same, get_or-set_other}
 use Rattle.std.proofs.lemmas.Bool.{cases_eq}
 use Rattle.std.proofs.lemmas.Option.{none-some, same_Some}
@@ -10,7 +10,7 @@ use Rattle.cs_jix.specs.JoinIndex.{Place}
 use Rattle.cs_rows.specs.Survivors.{SurvivorsData, HasRoom, HoldsImages, images_of, joins_of, image_at, join_at, no_images, no_joins, no_survivors, with_image, with_join}
 use Rattle.cs_rows.specs.PutLaws.{PutsImage, PutsJoin, RoomIsEmpty, ImagesArePut, JoinsArePut}
 
--- an element of a list that was set at a place
+-- an element of a list after one of its elements was replaced
 at_place : {X : Type 0} (xs : List X) (i : ℕ) (x d : X) → i < length xs → (P : X → Type 0) (k : ℕ) → (k ≡ i → P x) → (k ≢ i → P (get_or xs k d)) → P (get_or (set xs i x) k d)
 at_place xs i x d h P k here there =
     ⊎_elim
@@ -126,7 +126,7 @@ images_are_put C S p s m room there = puts_image C S room p s there m
 pub joins_are_put : JoinsArePut
 joins_are_put C S p s q entries room there target = puts_join C S room p s there q entries target
 
--- ---- room with nothing there
+-- ---- empty slots
 
 no_element : {X : Type 0} (n i : ℕ) → ◌≡◌ {A = Option X} (get_or (replicate n None) i None) None
 no_element zero i = refl

@@ -1,4 +1,4 @@
--- The walk of rows in turn.
+-- The walk of a range of rows, row by row.
 use Rattle.std.proofs.Common.{◌≡◌, ℕ, zero, suc, ◌+◌, ◌-◌, ◌<◌, ◌≤◌, List, [], ◌∷◌, ◌++◌, length, map, take, drop, refl, sym, ap, ◌∙◌, subst, arith, None, append_assoc, min, zero-add, add-zero, length-append}
 use Rattle.std.specs.List.{find, flat_map, range_with_len}
 use Rattle.std.specs.Option.{option_or}
@@ -11,7 +11,7 @@ use Rattle.cs_schema.specs.Lists.{numbers_below}
 use Rattle.cs_schema.specs.CatalogData.{CatalogData}
 use Rattle.cs_safety.specs.PlanData.{PlanData}
 use Rattle.cs_rows.specs.Walk.{Contents, At, is_astray, walked_cell, segment_rows}
-use Rattle.cs_rows.specs.declared.range.WalkFault.{WalkFault}
+use Rattle.cs_rows.specs.declared.fault.WalkFault.{WalkFault}
 use Rattle.cs_rows.specs.Columns.{Pushed, AreWalked, IsRowFault, rows_from}
 
 pub range_plus : (a n m : ℕ) → range_with_len a (n + m) ≡ range_with_len a n ++ range_with_len (a + n) m
@@ -44,12 +44,12 @@ rows_split s start i j end h k l =
 pub rows_one : (s i : ℕ) → rows_from s i (i + 1 - i) ≡ (s, i) ∷ []
 rows_one s i = let e : i + 1 - i ≡ 1 = omega arith in ap (rows_from s i) e
 
--- those before a row, the row, and those after it
+-- the rows before a row, the row, and the rows after it
 pub rows_around : (s start i end : ℕ) → start ≤ i → i < end → rows_from s start (end - start) ≡ rows_from s start (i - start) ++ ((s, i) ∷ [] ++ rows_from s (i + 1) (end - (i + 1)))
 rows_around s start i end h k =
     rows_split s start i (i + 1) end h (omega arith) (omega arith) ∙ ap (λ (rows : List At). rows_from s start (i - start) ++ (rows ++ rows_from s (i + 1) (end - (i + 1)))) (rows_one s i)
 
--- one row more
+-- one more row
 pub rows_more : (s start i : ℕ) → start ≤ i → rows_from s start (i + 1 - start) ≡ rows_from s start (i - start) ++ (s, i) ∷ []
 rows_more s start i h = rows_join s start i (i + 1) h (omega arith) ∙ ap (λ (rows : List At). rows_from s start (i - start) ++ rows) (rows_one s i)
 
@@ -189,7 +189,7 @@ module _ (S : Contents) (p : ℕ) where
       let n : ℕ = length (S.image p s).pairs in
       sym (ap length (done_more s) ∙ length-append (done s) (segment_rows S p s) ∙ (λ i. sym e i + length-map-range_with_len (in_segment s) 0 n i))
 
--- a fault of one segment is one of all
+-- the fault of one segment is the fault of all
 module _ (C : CatalogData) (S : Contents) (P : PlanData) where
   pub fault_of_part : (start end first s total : ℕ) (e : WalkFault) → s < total → first ≡ length (done S P.anchor s) → find (is_astray C S P) (part S P.anchor start end s) ≡ None → IsRowFault C S P (here S P.anchor start end first s) e → IsRowFault C S P (part S P.anchor start end total) e
   fault_of_part start end first s total e h k n f =

@@ -1,4 +1,4 @@
--- The numbers below one: each is there, and once.
+-- Each number below n occurs in the range from 0, and once.
 use Rattle.std.proofs.Common.{◌≡◌, ℕ, ◌+◌, ◌<◌, refl, sym, ◌∙◌, arith, ⊎_elim, eqb}
 use Rattle.std.specs.Prelude.{All, Contains}
 use Rattle.std.specs.List.{range_with_len, IsDistinct}

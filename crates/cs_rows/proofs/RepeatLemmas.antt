@@ -1,4 +1,4 @@
--- Rows whose key stands in an earlier row, among rows sorted by their keys.
+-- Rows whose key occurs in an earlier row, found among rows sorted by key.
 use Rattle.std.proofs.Common.{◌≡◌, ◌≢◌, ℕ, zero, suc, ◌+◌, ◌-◌, ◌<◌, ◌≤◌, List, [], ◌∷◌, ◌++◌, length, map, take, set, get_or, refl, sym, ap, ◌∙◌, subst, arith, Bool, true, false, not, cond, ◌||◌, ⊎_elim, Some, true≢false, get_or-set_same, get_or-set_other, eqb, replicate}
 use Rattle.std.specs.Prelude.{slice_get, pos}
 use Rattle.std.specs.declared.cmp.Ordering.{Ordering}
@@ -28,12 +28,12 @@ use Rattle.cs_rows.proofs.RangeNumbers.{flips, distinct_range, range_below, rang
 
 -- ---- sorted rows
 
--- the row at a place has the key of the row before it
+-- the k-th row has the key of the row before it
 abbrev pub tied : List Value → List ℕ → ℕ → Bool
 tied keys ys zero = false
 tied keys ys (suc k) = value_eq (cell keys (get_or ys k 0)) (cell keys (get_or ys (suc k) 0))
 
--- the rows at the places below next are marked where they are tied, and no others are
+-- of the first `next` rows exactly the tied ones are marked, and no later row is
 pub record Marked (keys : List Value) (ys : List ℕ) (marks : List Bool) (next : ℕ) : Type 0 where
   pub count : length marks ≡ length keys
   pub each : (k : ℕ) → k < next → k < length ys → get_or marks (get_or ys k 0) false ≡ tied keys ys k
@@ -72,7 +72,7 @@ module _ (keys : List Value) (ys : List ℕ) (moved : IsPermutation (range_with_
   later : (i j : ℕ) → i ≤ j → j < length ys → is_lt (numbered_cmp keys (get_or ys j 0) (get_or ys i 0)) ≡ false
   later i j h k = sorted_far (λ x y. is_lt (numbered_cmp keys x y)) (ranks_by numbered_total (λ x. x)) ys up i j 0 h k
 
-  -- where a row stands
+  -- the index at which a row is in the order
   place_of : (i : ℕ) → i < length keys → (k : ℕ) × (k < length ys) × (get_or ys k 0 ≡ i)
   place_of i h =
       let (k, within, at) = Contains-permutation _ _ i moved (range_has (length keys) i h) in
@@ -92,7 +92,7 @@ module _ (keys : List Value) (ys : List ℕ) (moved : IsPermutation (range_with_
       let front : a < length (take j keys) = omega (arith, length-take-le j keys (omega arith)) in
       list_any_at (λ v. value_eq v (cell keys j)) (take j keys) a (Value.Int (pos 0)) front (ap (λ (v : Value). value_eq v (cell keys j)) (get_or-take j keys a (Value.Int (pos 0)) lt) ∙ e)
 
-  -- and a row that is not tied doesn't
+  -- a row that is not tied does not repeat one
   free_differs : (k i : ℕ) → k < length ys → tied keys ys k ≡ false → i < get_or ys k 0 → cell keys i ≡ cell keys (get_or ys k 0) → ⊥
   free_differs k i h free lt same =
       let j : ℕ = get_or ys k 0 in
@@ -201,7 +201,7 @@ module _ (C : CatalogData) where
   abbrev pub key_of : Row → Value
   key_of r = cell r C.key
 
-  -- a row at the end is left out where a row before it has its key
+  -- a row at the end is left out if an earlier row has its key
   pub repeats_push : (xs : List Row) (x : Row) → without_repeats C (xs ++ x ∷ []) ≡ cond (list_any (λ y. same_key y x) xs) (without_repeats C xs) (without_repeats C xs ++ x ∷ [])
   repeats_push [] x = refl
   repeats_push (r ∷ rs) x = ap (λ l. r ∷ filter keep l) (repeats_push rs x) ∙ go (list_any (λ y. same_key y x) rs) (same_key r x) refl

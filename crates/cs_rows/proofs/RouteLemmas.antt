@@ -28,7 +28,7 @@ or_true : (b : Bool) → (b || true) ≡ true
 or_true true = refl
 or_true false = refl
 
--- ---- what is met
+-- ---- which projections are met
 
 module _ (P : PlanData) where
   pub anchor_met : (route : List RouteStep) (q : ℕ) → q ≡ P.anchor → is_met P route q ≡ true
@@ -51,7 +51,7 @@ module _ (P : PlanData) where
       ∙ ap (λ (b : Bool). (q == P.anchor) || b) (or_true (list_any (λ (x : RouteStep). x.0 == q) route))
       ∙ or_true (q == P.anchor)
 
-  -- what is met through one step more was met, or is that step
+  -- what one more step meets was met before, or is the end of that step
   pub met_cases : (route : List RouteStep) (k : ℕ) (d : RouteStep) (q : ℕ) → k < length route → is_met P (take (k + 1) route) q ≡ true → (is_met P (take k route) q ≡ true) ⊎ ((get_or route k d).0 ≡ q)
   met_cases route k d q h e =
       go (q == P.anchor) (list_any (λ (x : RouteStep). x.0 == q) (take k route)) ((get_or route k d).0 == q) refl
@@ -68,7 +68,7 @@ module _ (P : PlanData) where
 
 -- ---- finding the route
 
--- steps that follow those before them, and what is met of the projections at a depth below r, and of those at r below n
+-- each step follows those before it; all projections of depth at most r are met, and those below n of depth r + 1
 pub record IsRound (C : CatalogData) (P : PlanData) (route : List RouteStep) (r n : ℕ) : Type 0 where
   pub steps : (k : ℕ) (d : RouteStep) → k < length route → IsStep C P (take k route) (get_or route k d)
   pub nearer : (q d : ℕ) → q < length C.projections → HasDepth P d q → d ≤ r → is_met P route q ≡ true
@@ -153,10 +153,10 @@ module _ (C : CatalogData) (L : Sites) (P : PlanData) (plan : IsPlan C L P) wher
       go None f m = absurd (none-some p f)
       go (Some r) f m = let near = m.nearer.nearer in stand_by_prev C L S P plan at q near.0 p near.1.1 e
 
--- ---- places along a route
+-- ---- rows reached along a route
 
 module _ (C : CatalogData) (S : Contents) (P : PlanData) (row : At) where
-  -- the places of what the first k steps meet
+  -- the rows reached in the projections that the first k steps meet
   abbrev pub ArePlaced : List RouteStep → List At → ℕ → Type 0
   ArePlaced route places k = (q : ℕ) → q < length C.projections → is_met P (take k route) q ≡ true → (stand C S P row q ≡ Some (get_or places q (0, 0))) × IsAt C S q (get_or places q (0, 0))
 

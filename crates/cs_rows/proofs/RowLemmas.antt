@@ -1,4 +1,4 @@
--- The walk of one row.
+-- The walk from one row.
 use Rattle.std.proofs.Common.{◌≡◌, ℕ, suc, ◌+◌, ◌<◌, List, [], ◌∷◌, length, get_or, refl, sym, ap, ◌∙◌, subst, arith, Bool, true, false, not, cond, ◌||◌, Option, Some, inl, inr, eqb-true, true≢false, ◌==◌}
 use Rattle.std.specs.Prelude.{slice_index, slice_index_or, pos}
 use Rattle.std.specs.List.{list_any, position_or_len}

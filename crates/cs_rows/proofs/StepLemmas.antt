@@ -1,4 +1,4 @@
--- Steps of a walk over what has been read.
+-- Steps of a walk through survivors.
 use Rattle.std.proofs.Common.{◌≡◌, ℕ, zero, suc, ◌+◌, ◌<◌, ◌≤◌, List, [], length, refl, sym, ap, ◌∙◌, subst, arith, Bool, true, false, cond, Option, Some, None, ⊎_elim, eqb, eq-eqb, eqb-true}
 use Rattle.std.specs.Prelude.{slice_index, slice_index_or, nat_lt, IfSome}
 use Rattle.std.specs.List.{slice_get, position}
@@ -104,7 +104,7 @@ module _ (C : CatalogData) (S : Contents) (P : PlanData) (at : At) where
   not_eqb x y n true e = absurd (n (eqb-true x y e))
   not_eqb x y n false e = e
 
-  -- the walk's last step, where q is not the anchor
+  -- the walk's last step, if q is not the anchor
   pub stand_enters : (n m q : ℕ) → (q ≡ P.anchor → ⊥) → n ≡ m + 1 → option_and_then (λ (p : ℕ). option_and_then (follow C S p q) (stands C S P at m p)) (prev_of P q) ≡ stands C S P at n q
   stand_enters zero m q h e = absurd (omega arith)
   stand_enters (suc n) m q h e =

@@ -1,4 +1,4 @@
--- Walks of ranges, one after the other, are the walk of all.
+-- Walks of consecutive ranges together are the walk of all.
 use Rattle.std.proofs.Common.{◌≡◌, ℕ, zero, suc, ◌≤◌, List, [], ◌∷◌, ◌++◌, length, map, take, drop, refl, sym, ap, ◌∙◌, arith, Option, Some, None, Ok, Err, Bool}
 use Rattle.std.specs.Prelude.{Result}
 use Rattle.std.specs.List.{find, filter_map}
@@ -31,7 +31,7 @@ part_join (suc a) (suc b) (suc c) (x ∷ xs) h k = part_join a b c xs (omega ari
 pub part_all : {X : Type 0} (n : ℕ) (xs : List X) → length xs ≤ n → drop 0 (take n xs) ≡ xs
 part_all n xs h = take_all n xs h
 
--- ---- the rows of some starts, or the first start that is astray
+-- ---- the rows found from some starts, or the first start that is led astray
 
 module _ {X : Type 0} (stray : X → Bool) (error : X → Stray) (rows : List X → List Row) (joins : (xs ys : List X) → rows (xs ++ ys) ≡ rows xs ++ rows ys) where
   abbrev among : List X → Result (List Row) Stray
@@ -103,8 +103,8 @@ module _ (C : CatalogData) (L : Sites) (S : Contents) where
   pub surviving_all : (n : ℕ) → length (surviving_rows C L S) ≤ n → surviving_between C L S 0 n ≡ surviving_rows C L S
   surviving_all n h = part_all n (surviving_rows C L S) h
 
-  -- the walk by rows is the rows found from all surviving rows, without the later repeats of a key: those that are found before are
-  -- such repeats
+  -- if no row is led astray, the walk by rows is the rows found from all surviving rows without later repeats of a key;
+  -- rows that an earlier walk finds are such repeats
   pub walk_by_rows_found : (find (is_stray_row C L S) (surviving_rows C L S) ≡ None → without_repeats C (filter_map (row_from C L S) (surviving_rows C L S)) ≡ without_repeats C (filter_map (fresh_row C L S) (surviving_rows C L S))) → (found : List Row) → Ok found ≡ fresh_among C L S (surviving_rows C L S) → walked_by_rows C L S ≡ Ok (without_repeats C found)
   walk_by_rows_found repeats found e =
       let a = among_ok (is_stray_row C L S) stray_of (filter_map (fresh_row C L S)) (filter_map-append (fresh_row C L S)) (surviving_rows C L S) found e in

@@ -1,4 +1,4 @@
--- Columns read as rows.
+-- The rows of columns.
 use Rattle.std.proofs.Common.{◌≡◌, ℕ, ◌<◌, List, [], ◌∷◌, length, map, get_or, refl, sym, ap, ◌∙◌, arith}
 use Rattle.std.specs.Prelude.{pos}
 use Rattle.std.proofs.lemmas.List.{length-map, get_or-map}
@@ -23,7 +23,7 @@ rows_wide columns k d h =
     ap length (get_or-map-range_with_len (row_of columns) 0 n k k d (omega (arith, l, h)) (omega arith))
     ∙ length-map columns (λ (x : Cells). cell (values x) k) ∙ sym (length-map columns kind_of)
 
--- a column of the rows is the column
+-- the cells of the rows in a column are those of the column
 pub column_of_rows : (columns : List Cells) (c : ℕ) (cells : Cells) → c < length columns → cells ≡ get_or columns c cells → AreColumns columns → values cells ≡ map (λ (row : Row). cell row c) (rows_of columns (count_of columns))
 column_of_rows columns c cells h e are =
     let n : ℕ = count_of columns in

@@ -42,7 +42,7 @@ stays C S P is at = none_below (λ q. is_planned P q && is_none (stand C S P at 
 
 -- ---- a column that is read at the anchor
 
--- its number there
+-- the column's index in the anchor
 abbrev pub place : CatalogData → PlanData → ℕ → ℕ
 place C P c = position_or_len (λ d. d == c) (projection C P.anchor).columns
 
@@ -58,7 +58,7 @@ module _ (C : CatalogData) (S : Contents) (P : PlanData) (c : ℕ) where
         (λ i. image_cell C S (here i) c (unwrap_or (stand C S P at (here i)) (0, 0)))
         ∙ ap (λ (o : Option At). image_cell C S P.anchor c (unwrap_or o (0, 0))) (sym (stand_anchor C S P at (length C.projections) P.anchor refl))
 
-    -- the column of a segment's image has the cells of the segment's rows
+    -- the column of a segment's image is the cells of the segment's rows
     pub column_walked : (s : ℕ) → image_column (S.image P.anchor s) (place C P c) ≡ map (λ at. walked_cell C S P at c) (segment_rows S P.anchor s)
     column_walked s =
         let m : ImageData = S.image P.anchor s in
@@ -73,7 +73,7 @@ module _ (C : CatalogData) (S : Contents) (P : PlanData) (c : ℕ) where
         let b : k < length rows = omega arith in
         get_or-map f rows k (0, 0) v b ∙ ap f (get_or-map-range_with_len (in_segment s) 0 n k k (0, 0) h (zero-add k))))
 
-    -- the cells of one segment more
+    -- the cells of one more segment
     pub more_cells : (s : ℕ) (before : List Value) → before ≡ map (λ at. walked_cell C S P at c) (done S P.anchor s) → before ++ image_column (S.image P.anchor s) (place C P c) ≡ map (λ at. walked_cell C S P at c) (done S P.anchor (s + 1))
     more_cells s before e =
         let f : At → Value = λ at. walked_cell C S P at c in
@@ -81,7 +81,7 @@ module _ (C : CatalogData) (S : Contents) (P : PlanData) (c : ℕ) where
         (λ i. e i ++ column_walked s i)
         ∙ sym (ap (map f) (flat_more (segment_rows S P.anchor) 0 s ∙ ap (λ (k : ℕ). done S P.anchor s ++ segment_rows S P.anchor k) z) ∙ map_append f (done S P.anchor s) (segment_rows S P.anchor s))
 
--- the column of the table stands at its place in each image of the anchor
+-- the column of the table is at this index in each image of the anchor
 module _ (C : CatalogData) (S : SurvivorsData) (P : PlanData) (fits : PlanFits C P) (c : ℕ) (h : c < length C.columns) (here : slice_index P.source c ≡ P.anchor) where
   found : (place C P c < length (projection C P.anchor).columns) × ((get_or (projection C P.anchor).columns (place C P c) 0 == c) ≡ true)
   found = position_first (λ d. d == c) (projection C P.anchor).columns 0 (subst (λ (q : ℕ). IsTrue (holds_column C q c)) here (fits.holds c h))
@@ -97,7 +97,7 @@ module _ (C : CatalogData) (S : SurvivorsData) (P : PlanData) (fits : PlanFits C
         ap (λ (ks : List Kind). slice_index_or ks j Kind.Int) kinds ∙ get_or-map-range_with_len (kind_at C P.anchor) 0 n j j Kind.Int b (zero-add j) ∙ ap (λ (x : ℕ). (column C x).kind) (eqb-true _ c found.1),
       )
 
-  -- the same by the names that a copy has for the anchor and the place
+  -- `column_there`, and the cells, for another name of the anchor and of the index
   pub column_of_image : (q j s : ℕ) (m : KindedImage) → q ≡ P.anchor → j ≡ place C P c → image_at S q s ≡ Some m → m.kinds ≡ kinds_at C q
       → (j < length m.kinds) × (slice_index_or m.kinds j Kind.Int ≡ (column C c).kind) × (image_column m.image j ≡ image_column ((contents_of S).image P.anchor s) (place C P c))
   column_of_image q j s m a b e kinds =
@@ -108,6 +108,6 @@ module _ (C : CatalogData) (S : SurvivorsData) (P : PlanData) (fits : PlanFits C
         ap (image_column m.image) b ∙ ap (λ (o : Option KindedImage). image_column (held o) (place C P c)) (sym f),
       )
 
-  -- nothing of a segment whose image is not there
+  -- a segment whose image is absent has no cells
   pub no_cells : (q s : ℕ) → q ≡ P.anchor → image_at S q s ≡ None → [] ≡ image_column ((contents_of S).image P.anchor s) (place C P c)
   no_cells q s a e = ap (λ (o : Option KindedImage). image_column (held o) (place C P c)) (sym (subst (λ (p : ℕ). image_at S p s ≡ None) a e))

@@ -12,3 +12,5 @@ pub mod Steps
 pub mod Range
 pub mod Columns
 pub mod Repeats
+pub mod PlanWalks
+pub mod RowWalks

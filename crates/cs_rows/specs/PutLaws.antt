@@ -1,4 +1,4 @@
--- Laws over survivors: room that was made, and what is put there.
+-- Laws about survivors: what a new one has, and what putting an image or a join index changes.
 use Rattle.std.specs.Prelude.{◌≡◌, ◌≢◌, ℕ, ◌<◌, length, List, Some, None, ◌⊎◌}
 use Rattle.cs_schema.specs.CatalogData.{CatalogData, HasSegment}
 use Rattle.cs_delta.specs.KindedImage.{KindedImage}
@@ -6,7 +6,7 @@ use Rattle.cs_segment.specs.SegmentData.{kinds_at}
 use Rattle.cs_jix.specs.JoinIndex.{Place}
 use Rattle.cs_rows.specs.Survivors.{SurvivorsData, HasRoom, HoldsImages, image_at, join_at, no_survivors, with_image, with_join}
 
--- room for each name of the catalog, and nothing there
+-- a slot for each name of the catalog, and all are empty
 pub record IsEmptyRoom (C : CatalogData) (S : SurvivorsData) : Type 0 where
   pub room : HasRoom C S
   pub images : (p s : ℕ) → image_at S p s ≡ None

@@ -1,4 +1,4 @@
--- Rows whose key stands in an earlier row, by their numbers.
+-- Rows whose key occurs in an earlier row, by their numbers.
 use Rattle.std.specs.Prelude.{ℕ, ℤ, pos, ◌+ℤ◌, ◌≤ℤ◌, ◌<ℤ◌, ◌≡◌, ◌<◌, Bool, false, if◌then◌else◌, List, [], ◌∷◌, length, take, slice_index_or}
 use Rattle.std.specs.List.{list_any}
 use Rattle.std.specs.Ordering.{ordering_then, nat_cmp}
@@ -7,20 +7,20 @@ use Rattle.cs_schema.specs.declared.cells.Value.{Value}
 use Rattle.cs_schema.specs.Values.{value_cmp, value_eq}
 use Rattle.cs_schema.specs.Rows.{cell}
 
--- rows by their keys, and rows of one key by number
+-- row numbers by the keys of the rows, then by number
 abbrev pub numbered_cmp : List Value → ℕ → ℕ → Ordering
 numbered_cmp keys a b = ordering_then (value_cmp (cell keys a) (cell keys b)) (nat_cmp a b)
 
--- the key of a row stands in an earlier row
+-- the key of a row occurs in an earlier row
 abbrev pub is_repeat : List Value → ℕ → Bool
 is_repeat keys j = list_any (λ v. value_eq v (cell keys j)) (take j keys)
 
--- a mark for each row whose key stands in an earlier one, and for no other
+-- marks exactly the rows whose key occurs in an earlier row
 pub record AreRepeats (keys : List Value) (marks : List Bool) : Type 0 where
   pub count : length marks ≡ length keys
   pub each : (j : ℕ) → j < length keys → slice_index_or marks j false ≡ is_repeat keys j
 
--- the int is one of so many from the least on
+-- the int is one of the `count` ints from `least` on
 abbrev pub IsNear : ℤ → ℕ → ℤ → Type 0
 IsNear least count x = (least ≤ℤ x) × (x <ℤ (least +ℤ pos count))
 

@@ -1,4 +1,4 @@
--- What the steps of a walk by rows need to know.
+-- The steps of a walk by rows.
 use Rattle.std.specs.Prelude.{ℕ, Bool, true, not, ◌&&◌, ◌≡◌, ◌<◌, ◌==◌, ◌++◌, List, [], ◌∷◌, All, map, take, length, slice_index, slice_index_or, Some, None, if◌then◌else◌}
 use Rattle.std.specs.List.{find, flat_map, list_all, position_or_len, range_with_len}
 use Rattle.std.specs.Option.{is_some}
@@ -12,7 +12,7 @@ use Rattle.cs_safety.specs.Paths.{holds_column}
 use Rattle.cs_rows.specs.declared.levels.Landed.{Landed}
 use Rattle.cs_rows.specs.declared.sources.Source.{Source}
 use Rattle.cs_rows.specs.declared.sources.Reading.{Reading}
-use Rattle.cs_rows.specs.declared.range.WalkFault.{WalkFault}
+use Rattle.cs_rows.specs.declared.fault.WalkFault.{WalkFault}
 use Rattle.cs_rows.specs.Walk.{Contents}
 use Rattle.cs_rows.specs.WalkByRows.{Reached, Found, Landing, numbers_of}
 use Rattle.cs_rows.specs.RangeByRows.{is_stray_row}
@@ -33,7 +33,7 @@ landing_at q l = (q, landing_of l)
 abbrev pub landings_of : List (ℕ × Landed) → List (ℕ × Landing)
 landings_of xs = map (λ (x : ℕ × Landed). landing_at x.0 x.1) xs
 
--- a walk that has found the row alone from which it starts
+-- a walk that has found only the row from which it starts
 abbrev pub started : Reached → Found
 started row = record { reached = row ∷ []; last = row ∷ []; marked = [] }
 
@@ -50,14 +50,14 @@ LandsWell C S q (Landed.Row at) = Stands C S (q, at)
 abbrev pub AllLandWell : CatalogData → Contents → List (ℕ × Landed) → Type 0
 AllLandWell C S xs = All (λ (x : ℕ × Landed). LandsWell C S x.0 x.1) xs
 
--- what a walk has reached are rows of images
+-- the rows that a walk has reached are rows of images
 pub record AllStand (C : CatalogData) (S : Contents) (F : Found) : Type 0 where
   pub reached : All (Stands C S) F.reached
   pub last : All (Stands C S) F.last
 
 -- ---- rows
 
--- where a column is read of rows that were reached in some projections: at the first with it, and its number there
+-- where a column is read if rows were reached in some projections: in the first that has it, at its index there
 pub record IsSource (C : CatalogData) (ps : List ℕ) (c : ℕ) (source : Source) : Type 0 where
   pub within : source.reached < length ps
   pub before : find (λ p. holds_column C p c) (take source.reached ps) ≡ None
@@ -67,18 +67,18 @@ pub record IsSource (C : CatalogData) (ps : List ℕ) (c : ℕ) (source : Source
 abbrev pub AreSources : CatalogData → List ℕ → List Source → ℕ → Type 0
 AreSources C ps sources n = (c : ℕ) (d : Source) → c < n → IsSource C ps c (slice_index_or sources c d)
 
--- each column is one of some projection
+-- each column of the table is in one of the projections
 abbrev pub have_all : CatalogData → List ℕ → Bool
 have_all C ps = list_all (λ c. is_some (find (λ p. holds_column C p c) ps)) (numbers_below (length C.columns))
 
--- Whether what is reached in some projections is a full row that is to be given, and where each column is read then. Where fresh
--- rows alone are asked for, one that is found before is not.
+-- Whether rows that are reached in some projections are given, and where each column is read if they are. They are
+-- given if the projections have every column and, with `fresh_only`, no earlier walk finds them.
 pub record IsReading (fresh_only : Bool) (C : CatalogData) (reading : Reading) : Type 0 where
   pub count : length reading.sources.items ≡ length C.columns
   pub given : reading.given ≡ (have_all C reading.projections.items && not (fresh_only && is_found_before C reading.projections.items))
   pub each : reading.given ≡ true → AreSources C reading.projections.items reading.sources.items (length C.columns)
 
--- where each column of a full row is read, which was found through rows that stand in images
+-- where each column is read of a full row that was found through rows of images
 pub record AreSourcesOf (C : CatalogData) (S : Contents) (rs : List Reached) (sources : List Source) : Type 0 where
   pub count : length sources ≡ length C.columns
   pub stand : All (Stands C S) rs
@@ -88,11 +88,11 @@ pub record AreSourcesOf (C : CatalogData) (S : Contents) (rs : List Reached) (so
 abbrev pub through : List Reached → Found
 through rs = record { reached = rs; last = []; marked = [] }
 
--- the cells of a row stand at the end of each of the first n columns
+-- the cells of a row have been appended to each of the first n columns
 abbrev pub RowPushed : Row → List Cells → List Cells → ℕ → Type 0
 RowPushed row before after n = (c : ℕ) (d : Cells) → c < n → (kind_of (slice_index_or after c d) ≡ kind_of (slice_index_or before c d)) × (values (slice_index_or after c d) ≡ values (slice_index_or before c d) ++ cell row c ∷ [])
 
--- the columns have the cells of some rows
+-- the columns are the cells of some rows
 abbrev pub AreRows : CatalogData → List Row → List Cells → Type 0
 AreRows C rows columns = (c : ℕ) (d : Cells) → c < length C.columns → values (slice_index_or columns c d) ≡ map (λ r. cell r c) rows
 
@@ -100,11 +100,11 @@ AreRows C rows columns = (c : ℕ) (d : Cells) → c < length C.columns → valu
 abbrev pub row_at : ℕ → ℕ → ℕ → Reached
 row_at p s i = (p, (s, i))
 
--- the rows of a segment from start on
+-- n rows of a segment, from `start` on
 abbrev pub reached_from : ℕ → ℕ → ℕ → ℕ → List Reached
 reached_from p s start n = map (row_at p s) (range_with_len start n)
 
--- how many rows survive in a segment
+-- the number of surviving rows of a segment
 abbrev pub kept_count : CatalogData → Sites → Contents → ℕ → ℕ → ℕ
 kept_count C L S p s = if lost C L p s then 0 else length (S.image p s).pairs
 
@@ -116,7 +116,7 @@ kept_rows C L S p s = reached_from p s 0 (kept_count C L S p s)
 abbrev pub projection_kept : CatalogData → Sites → Contents → ℕ → List Reached
 projection_kept C L S p = flat_map (kept_rows C L S p) (numbers_below (segments C p))
 
--- want of memory, or the first row that is astray
+-- out of memory, or the first row that is led astray
 abbrev pub IsStrayFault : CatalogData → Sites → Contents → List Reached → WalkFault → Type 0
 IsStrayFault C L S xs WalkFault.Memory = Unit {0}
 IsStrayFault C L S xs (WalkFault.Astray p s row) = find (is_stray_row C L S) xs ≡ Some (row_at p s row)

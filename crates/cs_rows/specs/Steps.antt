@@ -1,4 +1,4 @@
--- What the walk of one row needs to know.
+-- What the walk from one row relies on.
 use Rattle.std.specs.Prelude.{ℕ, ◌≡◌, ◌<◌, ◌≤◌, length, slice_index, Some, true, IsTrue}
 use Rattle.cs_schema.specs.CatalogData.{CatalogData, segments}
 use Rattle.cs_safety.specs.PlanData.{PlanData, prev_of}
@@ -12,7 +12,8 @@ use Rattle.cs_safety.specs.PlanData.{is_planned}
 abbrev pub IsAt : CatalogData → Contents → ℕ → At → Type 0
 IsAt C S q at = (at.0 < segments C q) × (at.1 < length (S.image q at.0).pairs)
 
--- the plan names projections of the catalog, reads each column from one that it reaches, and reaches each one from the one before it
+-- the plan names projections of the catalog, reads each column in one that it reaches, and enters each one from the one
+-- before it
 pub record PlanFits (C : CatalogData) (P : PlanData) : Type 0 where
   pub few : length C.projections ≤ 8
   pub few_segments : (q : ℕ) → q < length C.projections → segments C q ≤ 16

@@ -1,4 +1,4 @@
--- What has been read of the surviving segments of a catalog's store: images and join indexes, where they are there.
+-- What has been read of a store's surviving segments: images and join indexes, each of which may be absent.
 use Rattle.std.specs.Prelude.{ℕ, ◌≡◌, ◌+◌, ◌<◌, List, [], map, length, replicate, slice_index_or, slice_set, Option, Some, None}
 use Rattle.std.specs.Option.{unwrap_or}
 use Rattle.cs_schema.specs.declared.cells.Value.{Value}
@@ -31,7 +31,7 @@ join_at S p s q = slice_index_or (joins_of S p s) q None
 abbrev pub no_image : ImageData
 no_image = record { pairs = []; top = 0 }
 
--- the image that is held, where one is there
+-- the image in a slot, or one without rows if there is none
 abbrev pub held : Option KindedImage → ImageData
 held None = no_image
 held (Some m) = m.image
@@ -40,11 +40,11 @@ held (Some m) = m.image
 abbrev pub image_row : ImageData → ℕ → List Value
 image_row m i = slice_index_or (image_rows m) i []
 
--- what they hold: nothing where nothing is there
+-- the images and join indexes in all slots; an empty slot counts as an image without rows, or as no entries
 abbrev pub contents_of : SurvivorsData → Contents
 contents_of S = record { image = λ p s. held (image_at S p s); join = λ p s q. unwrap_or (join_at S p s q) [] }
 
--- room for each name of a catalog
+-- a slot for each name of a catalog
 pub record HasRoom (C : CatalogData) (S : SurvivorsData) : Type 0 where
   pub images : length S.images ≡ length C.projections
   pub segments_of_images : (p : ℕ) → p < length C.projections → length (images_of S p) ≡ segments C p
@@ -67,7 +67,7 @@ no_images P = replicate (length P.cuts + 1) None
 abbrev pub no_joins : ℕ → ProjectionData → List (List (Option (List Place)))
 no_joins count P = replicate (length P.cuts + 1) (replicate count None)
 
--- room for each name of a catalog, and nothing there
+-- a slot for each name of a catalog, and all are empty
 abbrev pub no_survivors : CatalogData → SurvivorsData
 no_survivors C = record { catalog = C; images = map no_images C.projections; joins = map (no_joins (length C.projections)) C.projections }
 

@@ -1,10 +1,10 @@
--- The columns of a table, made or lent.
+-- The columns of a table, owned or borrowed.
 use Rattle.std.specs.Prelude.{List, [], ◌∷◌, Option}
 use Rattle.std.specs.Option.{unwrap_or}
 use Rattle.cs_schema.specs.declared.cells.Cells.{Cells}
 use Rattle.cs_rows.specs.declared.table.Table.TheInside.{Inside}
 
--- columns, and in their place what is lent, from the first on
+-- the columns, from the first on, each replaced by the borrowed one if there is one
 unfoldable pub over : List Cells → List (Option Cells) → List Cells
 over [] lent = []
 over (column ∷ columns) [] = column ∷ columns

@@ -19,7 +19,7 @@ pub record Contents : Type 0 where
 abbrev pub At : Type 0
 At = ℕ × ℕ
 
--- the row at which an entry points, where its key is live there
+-- the row to which an entry points, if its key is live
 abbrev pub landed : CatalogData → Contents → ℕ → Place → Option At
 landed C S q e = if nat_lt e.0 (segments C q) then option_map (λ i. (e.0, i)) (position_of_key (S.image q e.0) e.1) else None
 
@@ -36,7 +36,7 @@ image_cell C S q c at = cell (slice_index_or (image_rows (S.image q at.0)) at.1 
 
 -- ---- the walk of a plan
 
--- where the walk of an anchor row stands in q, in at most n steps
+-- the row of q that the walk from an anchor row reaches in at most n steps
 abbrev pub stands : CatalogData → Contents → PlanData → At → ℕ → ℕ → Option At
 stands C S P at zero q = if q == P.anchor then Some at else None
 stands C S P at (suc n) q = if q == P.anchor then Some at else option_and_then (λ p. option_and_then (follow C S p q) (stands C S P at n p)) (prev_of P q)
@@ -65,7 +65,7 @@ projection_rows C S p = flat_map (segment_rows S p) (numbers_below (segments C p
 abbrev pub Stray : Type 0
 Stray = ℕ × ℕ × ℕ
 
--- the rows of all anchor rows, or the first that is astray
+-- the rows to which all anchor rows lead, or the first anchor row that is led astray
 abbrev pub walked : CatalogData → Contents → PlanData → Result (List Row) Stray
 walked C S P =
     option_map_or (λ at. Err (P.anchor, at.0, at.1)) (find (is_astray C S P) (projection_rows C S P.anchor))

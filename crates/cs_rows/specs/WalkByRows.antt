@@ -13,11 +13,12 @@ use Rattle.cs_jix.specs.JoinIndex.{Place}
 use Rattle.cs_safety.specs.Paths.{holds_column}
 use Rattle.cs_rows.specs.Walk.{Contents, At, Stray, entry_of, image_cell, projection_rows}
 
--- a projection that is reached, with where the walk stands there
+-- a projection that a walk has reached, and the row of it
 abbrev pub Reached : Type 0
 Reached = ℕ × At
 
--- What a walk has found: the projections reached, by level and number; those of its last level; those whose segment is lost.
+-- What a walk has found: the rows reached, by level and then by projection; those of its last level; the projections
+-- whose segment is lost.
 pub record Found : Type 0 where
   pub reached : List Reached
   pub last : List Reached
@@ -39,11 +40,11 @@ landing C L S q (Some e) =
     then (if lost C L q e.0 then Landing.in_lost else option_map_or (λ i. Landing.at_row (e.0, i)) (position_of_key (S.image q e.0) e.1) Landing.astray)
     else Landing.astray
 
--- the first projection of the last level with a declared join to q
+-- the first row of the last level whose projection declares a join index to q
 abbrev pub entrance : CatalogData → Found → ℕ → Option Reached
 entrance C F q = find (λ (r : Reached). has_join C r.0 q) F.last
 
--- the projections that the next level looks at, with their landings
+-- where the next level lands in q, if it looks there: unless q was reached or marked, and if the last level leads there
 abbrev pub looked_at : CatalogData → Sites → Contents → Found → ℕ → Option (ℕ × Landing)
 looked_at C L S F q = if member (numbers_of F.reached) q || member F.marked q then None else option_map (λ (r : Reached). (q, landing C L S q (entry_of S r.0 q r.1))) (entrance C F q)
 
@@ -62,7 +63,7 @@ level C L S F = filter_map (looked_at C L S F) (numbers_below (length C.projecti
 abbrev pub with_level : Found → List (ℕ × Landing) → Found
 with_level F xs = record { reached = F.reached ++ filter_map row_landing xs; last = filter_map row_landing xs; marked = F.marked ++ filter_map lost_landing xs }
 
--- what a walk finds in n levels more, or nothing where it is astray
+-- what a walk finds in n more levels, or `None` if it is led astray
 abbrev pub found : CatalogData → Sites → Contents → ℕ → Found → Option Found
 found C L S zero F = Some F
 found C L S (suc n) F = if list_any is_stray_landing (level C L S F) then None else found C L S n (with_level F (level C L S F))
@@ -70,7 +71,7 @@ found C L S (suc n) F = if list_any is_stray_landing (level C L S F) then None e
 abbrev pub found_from : CatalogData → Sites → Contents → ℕ → At → Option Found
 found_from C L S p at = found C L S (length C.projections) (record { reached = (p, at) ∷ []; last = (p, at) ∷ []; marked = [] })
 
--- the first reached projection with the column
+-- the first reached row whose projection has the column
 abbrev pub source_in : CatalogData → Found → ℕ → Option Reached
 source_in C F c = find (λ (r : Reached). holds_column C r.0 c) F.reached
 
@@ -87,7 +88,7 @@ full_row C S F = if is_full C F then Some (found_row C S F) else None
 abbrev pub surviving_rows : CatalogData → Sites → Contents → List (ℕ × At)
 surviving_rows C L S = flat_map (λ p. map (λ (at : At). (p, at)) (filter (λ (at : At). not (lost C L p at.0)) (projection_rows C S p))) (numbers_below (length C.projections))
 
--- a list without the later repeats of a key
+-- the rows without each one whose key occurs in an earlier row
 abbrev pub without_repeats : CatalogData → List Row → List Row
 without_repeats C [] = []
 without_repeats C (r ∷ rs) = r ∷ filter (λ x. not (value_eq (cell r C.key) (cell x C.key))) (without_repeats C rs)

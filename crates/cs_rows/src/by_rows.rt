@@ -1,29 +1,28 @@
 //! The walk by rows, from a range of surviving rows.
-ghost use Rattle.std.specs.Prelude.{◌≡◌, ◌<◌, ◌≤◌, ◌-◌, ◌++◌, ◌∷◌, [], Bool, List, length, map, true, false, IfOk, IfErr, OnOk, drop, take, None, Ok};
-ghost use Rattle.std.specs.List.{find, filter_map};
+ghost use Rattle.std.specs.Prelude.{◌≡◌, ◌<◌, ◌≤◌, ◌-◌, ◌∷◌, [], length, map, true, false, IfOk, IfErr, OnOk, Ok};
 ghost use Rattle.cs_schema.specs.CatalogData.{segments};
-ghost use Rattle.cs_schema.specs.Rows.{Row};
 ghost use Rattle.cs_rows.specs.Survivors.{contents_of};
 ghost use Rattle.cs_rows.specs.Columns.{ColumnsFit};
 ghost use Rattle.cs_rows.specs.Range.{IsWalkFault};
 ghost use Rattle.cs_rows.specs.WalkByRows.{found_row};
 ghost use Rattle.cs_rows.specs.OwnRows.{is_given};
-ghost use Rattle.cs_rows.specs.RangeByRows.{is_stray_row, given_row, surviving_between, found_among, fresh_among, given_among};
-ghost use Rattle.cs_rows.specs.RowSteps.{Stands, AllStand, IsReading, AreSourcesOf, through, RowPushed, AreRows, reached_from, projection_kept, IsStrayFault};
+ghost use Rattle.cs_rows.specs.RangeByRows.{surviving_between, found_among, fresh_among, given_among};
+ghost use Rattle.cs_rows.specs.RowSteps.{Stands, AllStand, IsReading, AreSourcesOf, through, RowPushed, reached_from};
+ghost use Rattle.cs_rows.specs.RowWalks.{NoneAstray, IsFirstAstray, Extends, rows_between, rows_in_projection};
 
-use crate::catalog_of;
+use crate::catalog_of::{self, has_all_columns};
+use crate::columns::{new_columns, push_cell};
 use crate::counts::{kept_in_projection, kept_in_segment, surviving_row_count};
 use crate::desk::{Desk, new_desk};
+use crate::fault::WalkFault;
 use crate::levels::{Finding, RowWalk, walk_from};
-use crate::own_rows::has_all_columns;
-use crate::range::{WalkFault, new_columns, push_cell};
 use crate::sources::{Reading, Source};
 use crate::survivors::Survivors;
 use crate::walked::Walked;
 use cs_schema::{Catalog, Cells, Loss};
 use std::alloc::{AllocError, Global};
 
-/// Appends the cells of a full row to the columns, read at the rows that were reached.
+/// Appends a full row to the columns. Each cell is read at one of the rows that the walk reached.
 fn push_row(
     survivors: &Survivors<'_>,
     reached: &[(u16, (u16, u32))],
@@ -33,7 +32,8 @@ fn push_row(
     requires sources { AreSourcesOf survivors.now.catalog (contents_of survivors.now) reached.now sources.now }
     requires columns { ColumnsFit survivors.now.catalog columns.old.items }
     ensures count { length columns.new.items ≡ length columns.old.items }
-    ensures ok { OnOk result (RowPushed (found_row survivors.now.catalog (contents_of survivors.now) (through reached.now)) columns.old.items columns.new.items (length survivors.now.catalog.columns)) }
+    ensures ok { OnOk result (RowPushed (found_row survivors.now.catalog (contents_of survivors.now) (through reached.now))
+        columns.old.items columns.new.items (length survivors.now.catalog.columns)) }
 {
     for c in 0..columns.len() {
         let source = sources[c];
@@ -47,7 +47,7 @@ fn push_row(
     Ok(())
 }
 
-/// Appends what a walk has found if it is a full row; with `fresh_only`, only if no earlier walk finds it.
+/// Appends what a walk has found if it is a full row and, with `fresh_only`, no earlier walk finds it.
 fn push_found(
     survivors: &Survivors<'_>,
     finding: &Finding,
@@ -60,7 +60,9 @@ fn push_found(
     requires columns { ColumnsFit survivors.now.catalog columns.old.items }
     ensures reading { OnOk result (IsReading fresh_only survivors.now.catalog reading.new) }
     ensures count { length columns.new.items ≡ length columns.old.items }
-    ensures given { OnOk result (is_given fresh_only survivors.now.catalog finding.now ≡ true → RowPushed (found_row survivors.now.catalog (contents_of survivors.now) finding.now) columns.old.items columns.new.items (length survivors.now.catalog.columns)) }
+    ensures given { OnOk result (is_given fresh_only survivors.now.catalog finding.now ≡ true
+        → RowPushed (found_row survivors.now.catalog (contents_of survivors.now) finding.now)
+        columns.old.items columns.new.items (length survivors.now.catalog.columns)) }
     ensures not_given { OnOk result (is_given fresh_only survivors.now.catalog finding.now ≡ false → columns.new.items ≡ columns.old.items) }
 {
     let reached = finding.reached();
@@ -72,7 +74,7 @@ fn push_found(
 }
 
 impl RowWalk<'_> {
-    /// Walks from one row and appends what it finds, if that is wanted.
+    /// Walks from one row and appends the row that it finds, if it is to be returned.
     fn walk_row(
         &self,
         row: (u16, (u16, u32)),
@@ -84,9 +86,9 @@ impl RowWalk<'_> {
         requires columns { ColumnsFit self.now.survivors.now.catalog columns.old.items }
         ensures desk { OnOk result (IsReading self.now.fresh_only self.now.survivors.now.catalog desk.new.reading) }
         ensures fit { OnOk result (ColumnsFit self.now.survivors.now.catalog columns.new.items) }
-        ensures sound { OnOk result (find (is_stray_row self.now.survivors.now.catalog self.now.loss (contents_of self.now.survivors.now)) (row ∷ []) ≡ None) }
-        ensures cells { OnOk result ((rows : List Row) → AreRows self.now.survivors.now.catalog rows columns.old.items → AreRows self.now.survivors.now.catalog (rows ++ filter_map (given_row self.now.fresh_only self.now.survivors.now.catalog self.now.loss (contents_of self.now.survivors.now)) (row ∷ [])) columns.new.items) }
-        ensures fault { IfErr result (IsStrayFault self.now.survivors.now.catalog self.now.loss (contents_of self.now.survivors.now) (row ∷ [])) }
+        ensures sound { OnOk result (NoneAstray self.now (row ∷ [])) }
+        ensures cells { OnOk result (Extends self.now (row ∷ []) columns.old.items columns.new.items) }
+        ensures fault { IfErr result (IsFirstAstray self.now (row ∷ [])) }
     {
         if !walk_from(self, row, &mut desk.finding, &mut desk.landings)? {
             return Err(WalkFault::Astray {
@@ -121,9 +123,10 @@ impl RowWalk<'_> {
         requires within { rows.1 ≤ length ((contents_of self.now.survivors.now).image segment.0 segment.1).pairs }
         ensures desk { OnOk result (IsReading self.now.fresh_only self.now.survivors.now.catalog desk.new.reading) }
         ensures fit { OnOk result (ColumnsFit self.now.survivors.now.catalog columns.new.items) }
-        ensures sound { OnOk result (find (is_stray_row self.now.survivors.now.catalog self.now.loss (contents_of self.now.survivors.now)) (reached_from segment.0 segment.1 rows.0 (rows.1 - rows.0)) ≡ None) }
-        ensures cells { OnOk result ((found : List Row) → AreRows self.now.survivors.now.catalog found columns.old.items → AreRows self.now.survivors.now.catalog (found ++ filter_map (given_row self.now.fresh_only self.now.survivors.now.catalog self.now.loss (contents_of self.now.survivors.now)) (reached_from segment.0 segment.1 rows.0 (rows.1 - rows.0))) columns.new.items) }
-        ensures fault { IfErr result (IsStrayFault self.now.survivors.now.catalog self.now.loss (contents_of self.now.survivors.now) (reached_from segment.0 segment.1 rows.0 (rows.1 - rows.0))) }
+        ensures sound { OnOk result (NoneAstray self.now (reached_from segment.0 segment.1 rows.0 (rows.1 - rows.0))) }
+        ensures cells { OnOk result (Extends self.now (reached_from segment.0 segment.1 rows.0 (rows.1 - rows.0))
+            columns.old.items columns.new.items) }
+        ensures fault { IfErr result (IsFirstAstray self.now (reached_from segment.0 segment.1 rows.0 (rows.1 - rows.0))) }
     {
         if has_all_columns(self.survivors, segment.0) {
             return self.walk_own_rows(segment, rows, desk, columns);
@@ -138,7 +141,7 @@ impl RowWalk<'_> {
         Ok(())
     }
 
-    /// Walks from the surviving rows `from..to` of a projection.
+    /// Walks from a range of the surviving rows of a projection, numbered from 0 in that projection.
     fn walk_projection(
         &self,
         p: u16,
@@ -152,9 +155,9 @@ impl RowWalk<'_> {
         requires order { range.0 ≤ range.1 }
         ensures desk { OnOk result (IsReading self.now.fresh_only self.now.survivors.now.catalog desk.new.reading) }
         ensures fit { OnOk result (ColumnsFit self.now.survivors.now.catalog columns.new.items) }
-        ensures sound { OnOk result (find (is_stray_row self.now.survivors.now.catalog self.now.loss (contents_of self.now.survivors.now)) (drop range.0 (take range.1 (projection_kept self.now.survivors.now.catalog self.now.loss (contents_of self.now.survivors.now) p))) ≡ None) }
-        ensures cells { OnOk result ((found : List Row) → AreRows self.now.survivors.now.catalog found columns.old.items → AreRows self.now.survivors.now.catalog (found ++ filter_map (given_row self.now.fresh_only self.now.survivors.now.catalog self.now.loss (contents_of self.now.survivors.now)) (drop range.0 (take range.1 (projection_kept self.now.survivors.now.catalog self.now.loss (contents_of self.now.survivors.now) p)))) columns.new.items) }
-        ensures fault { IfErr result (IsStrayFault self.now.survivors.now.catalog self.now.loss (contents_of self.now.survivors.now) (drop range.0 (take range.1 (projection_kept self.now.survivors.now.catalog self.now.loss (contents_of self.now.survivors.now) p)))) }
+        ensures sound { OnOk result (NoneAstray self.now (rows_in_projection self.now p range.0 range.1)) }
+        ensures cells { OnOk result (Extends self.now (rows_in_projection self.now p range.0 range.1) columns.old.items columns.new.items) }
+        ensures fault { IfErr result (IsFirstAstray self.now (rows_in_projection self.now p range.0 range.1)) }
     {
         let mut first: usize = 0;
         for s in 0..catalog_of::segments(self.survivors, p) {
@@ -170,7 +173,7 @@ impl RowWalk<'_> {
         Ok(())
     }
 
-    /// Walks from the surviving rows `from..to` of all projections.
+    /// Walks from a range of the surviving rows of all projections.
     fn walk_projections(
         &self,
         range: (usize, usize),
@@ -181,9 +184,9 @@ impl RowWalk<'_> {
         requires columns { ColumnsFit self.now.survivors.now.catalog columns.old.items }
         requires order { range.0 ≤ range.1 }
         ensures fit { OnOk result (ColumnsFit self.now.survivors.now.catalog columns.new.items) }
-        ensures sound { OnOk result (find (is_stray_row self.now.survivors.now.catalog self.now.loss (contents_of self.now.survivors.now)) (surviving_between self.now.survivors.now.catalog self.now.loss (contents_of self.now.survivors.now) range.0 range.1) ≡ None) }
-        ensures cells { OnOk result ((found : List Row) → AreRows self.now.survivors.now.catalog found columns.old.items → AreRows self.now.survivors.now.catalog (found ++ filter_map (given_row self.now.fresh_only self.now.survivors.now.catalog self.now.loss (contents_of self.now.survivors.now)) (surviving_between self.now.survivors.now.catalog self.now.loss (contents_of self.now.survivors.now) range.0 range.1)) columns.new.items) }
-        ensures fault { IfErr result (IsStrayFault self.now.survivors.now.catalog self.now.loss (contents_of self.now.survivors.now) (surviving_between self.now.survivors.now.catalog self.now.loss (contents_of self.now.survivors.now) range.0 range.1)) }
+        ensures sound { OnOk result (NoneAstray self.now (rows_between self.now range.0 range.1)) }
+        ensures cells { OnOk result (Extends self.now (rows_between self.now range.0 range.1) columns.old.items columns.new.items) }
+        ensures fault { IfErr result (IsFirstAstray self.now (rows_between self.now range.0 range.1)) }
     {
         let mut first: usize = 0;
         for p in 0..catalog_of::projection_count(self.survivors) {
@@ -197,7 +200,8 @@ impl RowWalk<'_> {
         Ok(())
     }
 
-    /// The rows that the walks from the surviving rows `from..to` find.
+    /// The rows that the walks from the surviving rows `from..to` find; with `fresh_only`, those that no earlier walk
+    /// finds.
     fn range(
         &self,
         alloc: Global,
@@ -208,8 +212,12 @@ impl RowWalk<'_> {
         requires same { self.now.survivors.now.catalog ≡ catalog.now }
         requires order { from ≤ to }
         ensures kinds { IfOk result (λ walked. walked.kinds ≡ map (λ c. c.kind) catalog.now.columns) }
-        ensures rows { IfOk result (λ walked. Ok walked.rows ≡ given_among self.now.fresh_only catalog.now self.now.loss (contents_of self.now.survivors.now) (surviving_between catalog.now self.now.loss (contents_of self.now.survivors.now) from to)) }
-        ensures fault { IfErr result (IsWalkFault (given_among self.now.fresh_only catalog.now self.now.loss (contents_of self.now.survivors.now) (surviving_between catalog.now self.now.loss (contents_of self.now.survivors.now) from to))) }
+        ensures rows { IfOk result (λ walked. Ok walked.rows
+            ≡ given_among self.now.fresh_only catalog.now self.now.loss (contents_of self.now.survivors.now)
+            (surviving_between catalog.now self.now.loss (contents_of self.now.survivors.now) from to)) }
+        ensures fault { IfErr result (IsWalkFault (given_among self.now.fresh_only catalog.now self.now.loss
+            (contents_of self.now.survivors.now)
+            (surviving_between catalog.now self.now.loss (contents_of self.now.survivors.now) from to))) }
     {
         // most walks find a row
         let room = to
@@ -246,8 +254,10 @@ pub fn walk_rows(
     requires same { survivors.now.catalog ≡ catalog.now }
     requires order { from ≤ to }
     ensures kinds { IfOk result (λ walked. walked.kinds ≡ map (λ c. c.kind) catalog.now.columns) }
-    ensures rows { IfOk result (λ walked. Ok walked.rows ≡ found_among catalog.now loss (contents_of survivors.now) (surviving_between catalog.now loss (contents_of survivors.now) from to)) }
-    ensures fault { IfErr result (IsWalkFault (found_among catalog.now loss (contents_of survivors.now) (surviving_between catalog.now loss (contents_of survivors.now) from to))) }
+    ensures rows { IfOk result (λ walked. Ok walked.rows ≡ found_among catalog.now loss (contents_of survivors.now)
+        (surviving_between catalog.now loss (contents_of survivors.now) from to)) }
+    ensures fault { IfErr result (IsWalkFault (found_among catalog.now loss (contents_of survivors.now)
+        (surviving_between catalog.now loss (contents_of survivors.now) from to))) }
 {
     let fresh_only = false;
     let walk = RowWalk {
@@ -258,10 +268,13 @@ pub fn walk_rows(
     walk.range(alloc, catalog, from, to)
 }
 
-/// The rows of `walk_rows` without those whose key is read in a row of an earlier projection that has every column: the
-/// walk from there finds the row too. `rebuild` uses this, since these rows are later repeats of a key.
+/// Walks from the surviving rows `from..to` and returns each full row that they find, except the rows that an earlier
+/// walk finds by itself: those whose key is read in a projection that has every column and precedes the one the walk
+/// starts from.
 ///
-/// Fails as `walk_rows` does.
+/// Without later repeats of a key, these are the rows of `walk_rows`, and fewer cells are copied; `rebuild` calls this.
+/// The surviving rows are those of all segments that are not lost, by projection, segment and position. Fails with
+/// `Astray` at the first of them that the join indexes lead astray, and with `Memory` only if memory is refused.
 pub fn walk_fresh_rows(
     alloc: Global,
     catalog: &Catalog,
@@ -273,8 +286,10 @@ pub fn walk_fresh_rows(
     requires same { survivors.now.catalog ≡ catalog.now }
     requires order { from ≤ to }
     ensures kinds { IfOk result (λ walked. walked.kinds ≡ map (λ c. c.kind) catalog.now.columns) }
-    ensures rows { IfOk result (λ walked. Ok walked.rows ≡ fresh_among catalog.now loss (contents_of survivors.now) (surviving_between catalog.now loss (contents_of survivors.now) from to)) }
-    ensures fault { IfErr result (IsWalkFault (fresh_among catalog.now loss (contents_of survivors.now) (surviving_between catalog.now loss (contents_of survivors.now) from to))) }
+    ensures rows { IfOk result (λ walked. Ok walked.rows ≡ fresh_among catalog.now loss (contents_of survivors.now)
+        (surviving_between catalog.now loss (contents_of survivors.now) from to)) }
+    ensures fault { IfErr result (IsWalkFault (fresh_among catalog.now loss (contents_of survivors.now)
+        (surviving_between catalog.now loss (contents_of survivors.now) from to))) }
 {
     let fresh_only = true;
     let walk = RowWalk {

@@ -3,8 +3,9 @@ ghost use Rattle.std.specs.Prelude.{◌≡◌, ◌<◌, length};
 ghost use Rattle.cs_schema.specs.CatalogData.{column, projection, segments, has_join};
 ghost use Rattle.cs_schema.specs.Losses.{lost};
 ghost use Rattle.cs_schema.specs.CatalogRules.{IsCatalog};
+ghost use Rattle.cs_rows.specs.OwnRows.{has_all};
 
-use crate::numbers;
+use crate::numbers::{self, place_in};
 use crate::survivors::Survivors;
 use cs_schema::{Kind, Loss};
 
@@ -21,7 +22,7 @@ pub(crate) fn column_count(survivors: &Survivors<'_>) -> usize
     ensures count { result ≡ length survivors.now.catalog.columns }
     ensures rules { IsCatalog survivors.now.catalog }
 {
-    numbers::column_count(survivors.catalog())
+    survivors.catalog().column_count()
 }
 
 /// The column of the primary key.
@@ -29,7 +30,7 @@ pub(crate) fn key_column(survivors: &Survivors<'_>) -> usize
     ensures key { result ≡ survivors.now.catalog.key }
     ensures inside { result < length survivors.now.catalog.columns }
 {
-    numbers::key_column(survivors.catalog())
+    survivors.catalog().key_column()
 }
 
 /// The number of segments of a projection.
@@ -42,11 +43,25 @@ pub(crate) fn segments(survivors: &Survivors<'_>, p: u16) -> u16
 }
 
 /// The numbers of a projection's columns.
-pub(crate) fn columns_of<'a>(survivors: &Survivors<'a>, p: usize) -> &'a [u8]
+pub(crate) fn columns_of<'a>(survivors: &Survivors<'a>, p: u16) -> &'a [u8]
     requires { p < length survivors.now.catalog.projections }
     ensures { result.now ≡ (projection survivors.now.catalog p).columns }
 {
-    numbers::columns_of(survivors.catalog(), p)
+    survivors.catalog().columns_of(p)
+}
+
+/// Whether a projection is a superprojection.
+pub(crate) fn has_all_columns(survivors: &Survivors<'_>, p: u16) -> bool
+    requires { p < length survivors.now.catalog.projections }
+    ensures { result ≡ has_all survivors.now.catalog p }
+{
+    let columns = columns_of(survivors, p);
+    for c in 0..column_count(survivors) {
+        if place_in(columns, c) >= columns.len() {
+            return false;
+        }
+    }
+    true
 }
 
 /// The kind of a column of the table.
@@ -66,7 +81,7 @@ pub(crate) fn is_lost(survivors: &Survivors<'_>, loss: Loss, p: u16, s: u16) -> 
     survivors.catalog().lost(p, s, loss)
 }
 
-/// Whether a projection declares a join to another.
+/// Whether a projection declares a join index to another.
 pub(crate) fn has_join(survivors: &Survivors<'_>, p: u16, q: u16) -> bool
     requires { p < length survivors.now.catalog.projections }
     ensures { result ≡ has_join survivors.now.catalog p q }

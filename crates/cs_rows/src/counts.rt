@@ -1,10 +1,11 @@
-//! Numbers of rows to walk.
+//! Counts of rows.
 ghost use Rattle.std.specs.Prelude.{◌≡◌, ◌<◌, ◌≤◌, length};
 ghost use Rattle.cs_schema.specs.CatalogData.{segments};
 ghost use Rattle.cs_rows.specs.Walk.{projection_rows};
 ghost use Rattle.cs_rows.specs.WalkByRows.{surviving_rows};
 ghost use Rattle.cs_rows.specs.Survivors.{contents_of};
 ghost use Rattle.cs_rows.specs.RowSteps.{kept_count, projection_kept};
+ghost use Rattle.cs_rows.specs.PlanWalks.{anchor_rows};
 
 use crate::catalog_of::{is_lost, projection_count, segments};
 use crate::numbers::anchor;
@@ -12,7 +13,7 @@ use crate::plan_walk::PlanWalk;
 use crate::survivors::Survivors;
 use cs_schema::Loss;
 
-/// The number of rows of a segment's image, 0 if it is absent.
+/// The number of rows of a segment's image, or 0 if the image is absent.
 pub(crate) fn row_count(survivors: &Survivors<'_>, p: u16, s: u16) -> u32
     requires projection { p < length survivors.now.catalog.projections }
     requires segment { s < segments survivors.now.catalog p }
@@ -37,15 +38,17 @@ pub(crate) fn rows_in_projection(survivors: &Survivors<'_>, p: u16) -> usize
 }
 
 impl PlanWalk<'_, '_> {
-    /// The number of rows of the anchor, over all its segments. A range of the walk numbers these.
+    /// The number of rows of the anchor, over all its segments. Ranges of the walk are given by the numbers of these
+    /// rows, from 0.
     pub fn anchor_rows(&self) -> usize
-        ensures { result ≡ length (projection_rows self.now.survivors.now.catalog (contents_of self.now.survivors.now) self.now.plan.now.anchor) }
+        ensures { result ≡ length (anchor_rows self.now) }
     {
         rows_in_projection(self.survivors, anchor(self.plan))
     }
 }
 
-/// The number of surviving rows of all projections. `walk_rows` numbers these.
+/// The number of surviving rows of all projections. Ranges of `walk_rows` are given by the numbers of these rows, from
+/// 0.
 pub fn surviving_row_count(survivors: &Survivors<'_>, loss: Loss) -> usize
     ensures { result ≡ length (surviving_rows survivors.now.catalog loss (contents_of survivors.now)) }
 {
@@ -68,7 +71,7 @@ pub(crate) fn kept_in_segment(survivors: &Survivors<'_>, loss: Loss, p: u16, s: 
     row_count(survivors, p, s)
 }
 
-/// The number of surviving rows of a projection: at most 16 times 2^32.
+/// The number of surviving rows of a projection: at most 2^32 in each of at most 16 segments.
 pub(crate) fn kept_in_projection(survivors: &Survivors<'_>, loss: Loss, p: u16) -> usize
     requires { p < length survivors.now.catalog.projections }
     ensures count { result ≡ length (projection_kept survivors.now.catalog loss (contents_of survivors.now) p) }

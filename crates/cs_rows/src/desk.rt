@@ -4,7 +4,6 @@ ghost use Rattle.cs_schema.specs.CatalogRules.{IsCatalog};
 ghost use Rattle.cs_rows.specs.RowSteps.{IsReading};
 
 use crate::levels::{Finding, Landed};
-use crate::numbers::{column_count, projection_count};
 use crate::sources::Reading;
 use cs_schema::Catalog;
 use std::alloc::{AllocError, Global};
@@ -17,13 +16,13 @@ pub(crate) struct Desk {
     pub(crate) reading: Reading,
 }
 
-/// Scratch space for the walk from a row under a catalog.
+/// Scratch space for walks by rows under a catalog.
 pub(crate) fn new_desk(alloc: Global, catalog: &Catalog) -> Result<Desk, AllocError>
     ensures reading { IfOk result (λ desk. (fresh_only : Bool) → IsReading fresh_only catalog.now desk.reading) }
     ensures rules { IsCatalog catalog.now }
 {
-    let projections = projection_count(catalog);
-    let columns = column_count(catalog);
+    let projections = catalog.projection_count() as usize;
+    let columns = catalog.column_count();
     Ok(Desk {
         finding: Finding::new(alloc, projections)?,
         landings: Vec::with_capacity(alloc, projections)?,

@@ -1,7 +1,7 @@
 //! Laws about survivors. Each function does nothing; its contract is the law.
 ghost use Rattle.cs_rows.specs.PutLaws.{RoomIsEmpty, ImagesArePut, JoinsArePut};
 
-/// The room made for a catalog has a slot for each of its names, and all are empty.
+/// New survivors have a slot for each name of the catalog, and every slot is empty.
 pub fn room_is_empty()
     ensures { RoomIsEmpty }
 {}

@@ -6,7 +6,7 @@ use cs_schema::Cells;
 use std::alloc::{AllocError, Global};
 use std::marker::Model;
 
-/// For each column, from the first on, the borrowed column that takes its place, if any.
+/// For each column, from the first on, the borrowed column that replaces it, if any.
 #[derive(Drop)]
 pub struct Lent<'a> {
     columns: Vec<Option<&'a Cells>>,
@@ -23,7 +23,7 @@ impl<'a> Model for Lent<'a> {
 }
 
 impl<'a> Lent<'a> {
-    /// No column is borrowed.
+    /// No borrowed columns.
     pub fn nothing(alloc: Global) -> Self
         ensures { result ≡ [] }
     {
@@ -32,7 +32,7 @@ impl<'a> Lent<'a> {
         }
     }
 
-    /// Adds what is borrowed for the next column.
+    /// Adds the entry of the next column: the borrowed column that replaces it, or `None`.
     pub fn push(&mut self, column: Option<&'a Cells>) -> Result<(), AllocError>
         ensures ok { OnOk result (self.new ≡ self.old ++ option_map (λ lent. lent.now) column.entry ∷ []) }
     {
@@ -40,7 +40,7 @@ impl<'a> Lent<'a> {
         Ok(())
     }
 
-    /// What is borrowed for a column.
+    /// The borrowed column that replaces a column, if any.
     pub fn column(&self, c: usize) -> Option<&Cells>
         ensures { option_map (λ lent. lent.now) result ≡ slice_index_or self.now c None }
     {
@@ -50,7 +50,7 @@ impl<'a> Lent<'a> {
         None
     }
 
-    /// Whether a column is borrowed.
+    /// Whether a borrowed column replaces this one.
     pub fn has(&self, c: usize) -> bool
         ensures { result ≡ is_some (slice_index_or self.now c None) }
     {

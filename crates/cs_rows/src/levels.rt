@@ -1,12 +1,14 @@
 //! The walk by rows from one row, level by level.
-ghost use Rattle.std.specs.Prelude.{◌≡◌, ◌<◌, ◌≤◌, ◌==◌, ◌||◌, ◌++◌, ◌↔◌, [], ℕ, length, true, not, All, Some, None, IfOk, OnOk, IfSome, IsTrue, if◌then◌else◌};
+ghost use Rattle.std.specs.Prelude.{◌≡◌, ◌<◌, ◌≤◌, ◌==◌, ◌||◌, ◌++◌, ◌↔◌, [], length, true, not, All, Some, None, IfOk, OnOk, IfSome, if◌then◌else◌};
+ghost use Rattle.std.specs.Prelude.{IsTrue};
 ghost use Rattle.std.specs.List.{list_any, find, filter_map};
 ghost use Rattle.std.specs.Option.{option_map};
 ghost use Rattle.cs_schema.specs.Lists.{member};
 ghost use Rattle.cs_schema.specs.CatalogData.{segments, has_join};
 ghost use Rattle.cs_delta.specs.Image.{position_of_key};
 ghost use Rattle.cs_rows.specs.Walk.{entry_of};
-ghost use Rattle.cs_rows.specs.WalkByRows.{numbers_of, landing, looked_at, is_stray_landing, row_landing, lost_landing, level, with_level, found_from};
+ghost use Rattle.cs_rows.specs.WalkByRows.{numbers_of, landing, looked_at, level, with_level, found_from};
+ghost use Rattle.cs_rows.specs.WalkByRows.{is_stray_landing, row_landing, lost_landing};
 ghost use Rattle.cs_rows.specs.Survivors.{contents_of};
 ghost use Rattle.cs_rows.specs.RowSteps.{landing_of, landing_at, landings_of, started, Stands, LandsWell, AllLandWell, AllStand};
 
@@ -25,8 +27,8 @@ pub(crate) enum Landed {
     Row((u16, u32)),
 }
 
-/// What the walk from a row has found: the rows reached, with their projections, by level and number; the start of the
-/// last level among them; and the projections whose segment is lost.
+/// What the walk from a row has found so far: the rows reached, with their projections, by level and then by
+/// projection; the index at which the last level starts among them; and the projections whose segment is lost.
 #[derive(Drop)]
 pub(crate) struct Finding {
     reached: Vec<(u16, (u16, u32))>,
@@ -50,11 +52,11 @@ impl Model for Finding {
 pub(crate) struct RowWalk<'a> {
     pub(crate) survivors: &'a Survivors<'a>,
     pub(crate) loss: Loss,
-    /// Whether to leave out rows that the walk from an earlier row finds too.
+    /// Whether to leave out rows that an earlier walk finds too.
     pub(crate) fresh_only: bool,
 }
 
-/// The entry of a row in the join index to a projection.
+/// The entry of a row in its join index to a projection.
 fn entry(survivors: &Survivors<'_>, from: (u16, (u16, u32)), q: u16) -> Option<(u16, u32)>
     requires from { Stands survivors.now.catalog (contents_of survivors.now) from }
     requires projection { q < length survivors.now.catalog.projections }
@@ -72,7 +74,7 @@ fn entry(survivors: &Survivors<'_>, from: (u16, (u16, u32)), q: u16) -> Option<(
     }
 }
 
-/// The position of a live key in a segment's image.
+/// The position of a storage key in a segment's image, if the key is live.
 fn position(survivors: &Survivors<'_>, q: u16, segment: u16, key: u32) -> Option<u32>
     requires projection { q < length survivors.now.catalog.projections }
     requires segment { segment < segments survivors.now.catalog q }
@@ -85,11 +87,12 @@ fn position(survivors: &Survivors<'_>, q: u16, segment: u16, key: u32) -> Option
     }
 }
 
-/// Where the entry of a row to a projection leads.
+/// Where the entry of a row in the join index to a projection leads.
 fn land(walk: &RowWalk<'_>, from: (u16, (u16, u32)), q: u16) -> Landed
     requires from { Stands walk.now.survivors.now.catalog (contents_of walk.now.survivors.now) from }
     requires projection { q < length walk.now.survivors.now.catalog.projections }
-    ensures leads { landing_of result ≡ landing walk.now.survivors.now.catalog walk.now.loss (contents_of walk.now.survivors.now) q (entry_of (contents_of walk.now.survivors.now) from.0 q from.1) }
+    ensures leads { landing_of result ≡ landing walk.now.survivors.now.catalog walk.now.loss
+        (contents_of walk.now.survivors.now) q (entry_of (contents_of walk.now.survivors.now) from.0 q from.1) }
     ensures there { LandsWell walk.now.survivors.now.catalog (contents_of walk.now.survivors.now) q result }
 {
     match entry(walk.survivors, from, q) {
@@ -109,7 +112,7 @@ fn land(walk: &RowWalk<'_>, from: (u16, (u16, u32)), q: u16) -> Landed
     }
 }
 
-/// The first of the rows whose projection declares a join to `q`.
+/// The first of the rows whose projection declares a join index to `q`.
 fn first_joined(
     survivors: &Survivors<'_>,
     rows: &[(u16, (u16, u32))],
@@ -126,7 +129,7 @@ fn first_joined(
     None
 }
 
-/// Whether one of the rows is of a projection.
+/// Whether one of the rows belongs to a projection.
 fn is_among(rows: &[(u16, (u16, u32))], q: u16) -> bool
     ensures { result ≡ list_any (λ r. r.0 == q) rows.now }
 {
@@ -140,7 +143,7 @@ fn is_marked(marked: &[u16], q: u16) -> bool
     marked.iter().any(|mark| *mark == q)
 }
 
-/// Adds the targets of a level to what was found. Answers whether none is astray.
+/// Adds the targets of a level to what was found. Returns false if one of them is astray.
 fn enter_all(
     reached: &mut Vec<(u16, (u16, u32))>,
     marked: &mut Vec<u16>,
@@ -148,7 +151,8 @@ fn enter_all(
 ) -> Result<bool, AllocError>
     ensures grows { length reached.old.items ≤ length reached.new.items }
     ensures sound { IfOk result (λ sound. sound ≡ not (list_any is_stray_landing (landings_of landings.now))) }
-    ensures reached { IfOk result (λ sound. sound ≡ true → reached.new.items ≡ reached.old.items ++ filter_map row_landing (landings_of landings.now)) }
+    ensures reached { IfOk result (λ sound. sound ≡ true → reached.new.items
+        ≡ reached.old.items ++ filter_map row_landing (landings_of landings.now)) }
     ensures marked { IfOk result (λ sound. sound ≡ true → marked.new.items ≡ marked.old.items ++ filter_map lost_landing (landings_of landings.now)) }
 {
     for (q, landed) in landings {
@@ -171,7 +175,7 @@ impl Finding {
         })
     }
 
-    /// The rows reached, by level and number of projection.
+    /// The rows reached, by level and then by projection.
     pub(crate) fn reached(&self) -> &[(u16, (u16, u32))]
         ensures { result.now ≡ self.now.reached }
     {
@@ -185,7 +189,7 @@ impl Finding {
         &self.reached.as_slice()[self.last..]
     }
 
-    /// Starts the walk at a row.
+    /// Restarts at a row.
     fn start(&mut self, row: (u16, (u16, u32))) -> Result<(), AllocError>
         ensures { OnOk result (self.new ≡ started row) }
     {
@@ -196,7 +200,7 @@ impl Finding {
         Ok(())
     }
 
-    /// Whether the last level reached nothing.
+    /// Whether the last level reached no row.
     fn is_ended(&self) -> bool
         ensures { IsTrue result ↔ (self.now.last ≡ []) }
     {
@@ -214,7 +218,8 @@ impl Finding {
     fn look(&self, walk: &RowWalk<'_>, q: u16) -> Option<Landed>
         requires stand { AllStand walk.now.survivors.now.catalog (contents_of walk.now.survivors.now) self.now }
         requires projection { q < length walk.now.survivors.now.catalog.projections }
-        ensures looked { option_map (landing_at q) result ≡ looked_at walk.now.survivors.now.catalog walk.now.loss (contents_of walk.now.survivors.now) self.now q }
+        ensures looked { option_map (landing_at q) result ≡ looked_at walk.now.survivors.now.catalog
+            walk.now.loss (contents_of walk.now.survivors.now) self.now q }
         ensures there { IfSome result (LandsWell walk.now.survivors.now.catalog (contents_of walk.now.survivors.now) q) }
     {
         if self.is_seen(q) {
@@ -233,7 +238,8 @@ impl Finding {
         landings: &mut Vec<(u16, Landed)>,
     ) -> Result<(), AllocError>
         requires stand { AllStand walk.now.survivors.now.catalog (contents_of walk.now.survivors.now) self.now }
-        ensures level { OnOk result (landings_of landings.new.items ≡ level walk.now.survivors.now.catalog walk.now.loss (contents_of walk.now.survivors.now) self.now) }
+        ensures level { OnOk result (landings_of landings.new.items
+            ≡ level walk.now.survivors.now.catalog walk.now.loss (contents_of walk.now.survivors.now) self.now) }
         ensures there { OnOk result (AllLandWell walk.now.survivors.now.catalog (contents_of walk.now.survivors.now) landings.new.items) }
     {
         landings.clear();
@@ -246,7 +252,7 @@ impl Finding {
         Ok(())
     }
 
-    /// Adds the next level. Answers whether none of its targets is astray.
+    /// Adds the next level. Returns false if one of its targets is astray.
     fn enter(&mut self, landings: &[(u16, Landed)]) -> Result<bool, AllocError>
         ensures sound { IfOk result (λ sound. sound ≡ not (list_any is_stray_landing (landings_of landings.now))) }
         ensures entered { IfOk result (λ sound. sound ≡ true → self.new ≡ with_level self.old (landings_of landings.now)) }
@@ -258,7 +264,7 @@ impl Finding {
     }
 }
 
-/// Walks from a row until a level reaches nothing. Answers whether the walk is not astray.
+/// Walks from a row until a level reaches no row. Returns false if the walk is led astray.
 #[inline(always)]
 pub(crate) fn walk_from(
     walk: &RowWalk<'_>,
@@ -267,7 +273,8 @@ pub(crate) fn walk_from(
     landings: &mut Vec<(u16, Landed)>,
 ) -> Result<bool, AllocError>
     requires row { Stands walk.now.survivors.now.catalog (contents_of walk.now.survivors.now) row }
-    ensures found { IfOk result (λ sound. found_from walk.now.survivors.now.catalog walk.now.loss (contents_of walk.now.survivors.now) row.0 row.1 ≡ (if sound then Some finding.new else None)) }
+    ensures found { IfOk result (λ sound. found_from walk.now.survivors.now.catalog walk.now.loss
+        (contents_of walk.now.survivors.now) row.0 row.1 ≡ (if sound then Some finding.new else None)) }
     ensures stand { IfOk result (λ sound. sound ≡ true → AllStand walk.now.survivors.now.catalog (contents_of walk.now.survivors.now) finding.new) }
 {
     finding.start(row)?;

@@ -1,17 +1,20 @@
 //! Walks through the join indexes of surviving segments.
 //!
-//! `walk_range` gives the rows that a plan's walk finds from a range of its anchor's rows, `walk_rows` the full rows
-//! that the walks from a range of surviving rows find. Each fails at the first row that is led astray. A row costs one
-//! look-up in a join index for each projection that it reaches, and no memory except for its cells. `Walked::append`
-//! concatenates walked rows; `Walked::once` removes later rows with the same key. `walk_fresh_rows` and `join_once`
-//! together give the rows of `walk_rows`, `append` and `once`; `rebuild` calls them. `laws` says what a put changes.
+//! `walk_range` returns the rows that a plan's walk finds from a range of its anchor's rows, and `walk_rows` the full
+//! rows that the walks from a range of surviving rows find. Each fails at the first row that is led astray. A row costs
+//! one look-up in a join index for each projection that it reaches, and allocates only for its cells. `Walked::append`
+//! concatenates walked rows; `Walked::once` removes later rows with the same key. `rebuild` calls `walk_fresh_rows` and
+//! `join_once`, which together give the rows that `walk_rows`, `append` and `once` give. `laws` states what putting an
+//! image or a join index changes.
 #![tactic(auto)]
 
 mod block;
 pub mod by_rows;
 mod catalog_of;
+mod columns;
 pub mod counts;
 mod desk;
+mod fault;
 pub mod joining;
 pub mod laws;
 pub mod lent;

@@ -31,7 +31,7 @@ fn push_run(left: &mut Cells, cells: &Cells, from: usize, to: usize) -> Result<(
     left.extend(cells, from, to)
 }
 
-/// Appends a copy of each unmarked cell of another column, in order. Cells between two marked ones are copied at once.
+/// Appends a copy of each unmarked cell of another column, in order. Cells between two marked ones are copied together.
 pub(crate) fn push_unmarked(
     left: &mut Cells,
     cells: &Cells,

@@ -1,19 +1,20 @@
-//! Finding repeated int keys that lie close together.
+//! Repeats among int keys that lie close together.
 //!
-//! Each int from the least to the greatest has a mark, so rows are read once and nothing is sorted.
-ghost use Rattle.std.specs.Prelude.{◌≡◌, ◌≤◌, All, IfSome, OnOk, map, length};
+//! Each int from the smallest to the largest has a mark, so each row is read once and nothing is sorted.
+ghost use Rattle.std.specs.Prelude.{◌≡◌, ◌≤◌, ◌*◌, All, IfSome, OnOk, map, length};
 ghost use Rattle.cs_schema.specs.declared.cells.Value.{Value};
 ghost use Rattle.cs_rows.specs.Repeats.{AreRepeats, IsNear};
 
 use crate::marks::no_marks;
 use std::alloc::{AllocError, Global};
 
-/// The maximum number of marks for each row: they take half the room of the row's pair.
+/// The maximum number of marks for each row. A mark takes one byte, so they take less memory than sorting the rows.
 const MARKS: u64 = 8;
 
-/// The least int, and the number of ints from it to the greatest, if that is small for the number of rows.
+/// The smallest int, and the number of ints from it to the largest, if that is at most `MARKS` for each row.
 pub(crate) fn near_ints(ints: &[i64]) -> Option<(i64, usize)>
-    ensures { IfSome result (λ near. All (IsNear near.0 near.1) ints.now) }
+    ensures near { IfSome result (λ near. All (IsNear near.0 near.1) ints.now) }
+    ensures few { IfSome result (λ near. near.1 ≤ 8 * length ints.now) }
 {
     let mut least = i64::MAX;
     let mut most = i64::MIN;
@@ -32,7 +33,8 @@ pub(crate) fn near_ints(ints: &[i64]) -> Option<(i64, usize)>
     }
 }
 
-/// Marks each row whose int occurs in an earlier row. Each int is one of the `count` ints from the least on.
+/// Sets each row's mark to whether its int occurs in an earlier row. Each int is one of the `count` ints from `least`
+/// on.
 pub(crate) fn mark_near_ints(
     alloc: Global,
     ints: &[i64],

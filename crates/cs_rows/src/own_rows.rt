@@ -1,38 +1,25 @@
-//! The walk by rows from a projection that has every column of the table (a superprojection): each row is full by
-//! itself, so the walk only checks whether it is led astray, and the cells of many rows are copied at once.
-ghost use Rattle.std.specs.Prelude.{◌≡◌, ◌<◌, ◌≤◌, ◌-◌, ◌++◌, ◌∷◌, [], ℕ, List, IfErr, OnOk, None, length, slice_index_or};
-ghost use Rattle.std.specs.List.{find, filter_map};
+//! The walk by rows from a superprojection, which has every column of the table.
+//!
+//! Each row is full by itself. So the walk only checks whether the row is led astray, and the cells of many rows are
+//! copied together.
+ghost use Rattle.std.specs.Prelude.{◌≡◌, ◌<◌, ◌≤◌, ◌-◌, ◌++◌, ◌∷◌, [], ℕ, IfErr, OnOk, length, slice_index_or};
 ghost use Rattle.cs_schema.specs.CatalogData.{segments};
 ghost use Rattle.cs_schema.specs.Values.{values};
 ghost use Rattle.cs_schema.specs.declared.cells.Cells.{Cells as CellsData};
 ghost use Rattle.cs_rows.specs.Survivors.{contents_of};
 ghost use Rattle.cs_rows.specs.Columns.{ColumnsFit};
-ghost use Rattle.cs_rows.specs.OwnRows.{HasAll, has_all, own_cells};
-ghost use Rattle.cs_rows.specs.RangeByRows.{is_stray_row, given_row};
-ghost use Rattle.cs_rows.specs.RowSteps.{Stands, AreRows, reached_from, IsStrayFault};
-ghost use Rattle.cs_schema.specs.Rows.{Row};
+ghost use Rattle.cs_rows.specs.OwnRows.{HasAll, own_cells};
+ghost use Rattle.cs_rows.specs.RowSteps.{Stands, reached_from};
+ghost use Rattle.cs_rows.specs.RowWalks.{NoneAstray, IsFirstAstray, Extends};
 
-use crate::catalog_of::{column_count, columns_of, projection_count};
+use crate::catalog_of::{columns_of, projection_count};
 use crate::desk::Desk;
+use crate::fault::WalkFault;
 use crate::levels::{RowWalk, walk_from};
-use crate::range::{WalkFault, place_in};
+use crate::numbers::place_in;
 use crate::survivors::Survivors;
 use cs_schema::Cells;
 use std::alloc::AllocError;
-
-/// Whether a projection is a superprojection.
-pub(crate) fn has_all_columns(survivors: &Survivors<'_>, p: u16) -> bool
-    requires { p < length survivors.now.catalog.projections }
-    ensures { result ≡ has_all survivors.now.catalog p }
-{
-    let columns = columns_of(survivors, p as usize);
-    for c in 0..column_count(survivors) {
-        if place_in(columns, c) >= columns.len() {
-            return false;
-        }
-    }
-    true
-}
 
 /// Appends the cells of a range of a segment's rows to the table's columns.
 pub(crate) fn copy_rows(
@@ -48,12 +35,16 @@ pub(crate) fn copy_rows(
     requires order { rows.0 ≤ rows.1 }
     requires within { rows.1 ≤ length ((contents_of survivors.now).image segment.0 segment.1).pairs }
     ensures fit { OnOk result (ColumnsFit survivors.now.catalog columns.new.items) }
-    ensures cells { OnOk result ((c : ℕ) (d : CellsData) → c < length survivors.now.catalog.columns → values (slice_index_or columns.new.items c d) ≡ values (slice_index_or columns.old.items c d) ++ own_cells survivors.now.catalog (contents_of survivors.now) (reached_from segment.0 segment.1 rows.0 (rows.1 - rows.0)) c) }
+    ensures cells { OnOk result ((c : ℕ) (d : CellsData) → c < length survivors.now.catalog.columns
+        → values (slice_index_or columns.new.items c d)
+        ≡ values (slice_index_or columns.old.items c d)
+        ++ own_cells survivors.now.catalog (contents_of survivors.now)
+        (reached_from segment.0 segment.1 rows.0 (rows.1 - rows.0)) c) }
 {
     if rows.0 == rows.1 {
         return Ok(());
     }
-    let own = columns_of(survivors, segment.0 as usize);
+    let own = columns_of(survivors, segment.0);
     for c in 0..columns.len() {
         match survivors.image(segment.0 as usize, segment.1 as usize) {
             Some(image) => {
@@ -67,12 +58,12 @@ pub(crate) fn copy_rows(
 }
 
 impl RowWalk<'_> {
-    /// Walks from one row, whatever it finds.
+    /// Walks from one row only to check whether it is led astray.
     fn follow_row(&self, row: (u16, (u16, u32)), desk: &mut Desk) -> Result<(), WalkFault>
         requires { Stands self.now.survivors.now.catalog (contents_of self.now.survivors.now) row }
         ensures reading { desk.new.reading ≡ desk.old.reading }
-        ensures sound { OnOk result (find (is_stray_row self.now.survivors.now.catalog self.now.loss (contents_of self.now.survivors.now)) (row ∷ []) ≡ None) }
-        ensures fault { IfErr result (IsStrayFault self.now.survivors.now.catalog self.now.loss (contents_of self.now.survivors.now) (row ∷ [])) }
+        ensures sound { OnOk result (NoneAstray self.now (row ∷ [])) }
+        ensures fault { IfErr result (IsFirstAstray self.now (row ∷ [])) }
     {
         if !walk_from(self, row, &mut desk.finding, &mut desk.landings)? {
             return Err(WalkFault::Astray {
@@ -84,7 +75,7 @@ impl RowWalk<'_> {
         Ok(())
     }
 
-    /// Follows a range of a segment's rows.
+    /// Walks from a range of a segment's rows only to check whether one is led astray.
     fn follow_segment(
         &self,
         segment: (u16, u16),
@@ -96,8 +87,8 @@ impl RowWalk<'_> {
         requires order { rows.0 ≤ rows.1 }
         requires within { rows.1 ≤ length ((contents_of self.now.survivors.now).image segment.0 segment.1).pairs }
         ensures reading { desk.new.reading ≡ desk.old.reading }
-        ensures sound { OnOk result (find (is_stray_row self.now.survivors.now.catalog self.now.loss (contents_of self.now.survivors.now)) (reached_from segment.0 segment.1 rows.0 (rows.1 - rows.0)) ≡ None) }
-        ensures fault { IfErr result (IsStrayFault self.now.survivors.now.catalog self.now.loss (contents_of self.now.survivors.now) (reached_from segment.0 segment.1 rows.0 (rows.1 - rows.0))) }
+        ensures sound { OnOk result (NoneAstray self.now (reached_from segment.0 segment.1 rows.0 (rows.1 - rows.0))) }
+        ensures fault { IfErr result (IsFirstAstray self.now (reached_from segment.0 segment.1 rows.0 (rows.1 - rows.0))) }
     {
         for i in rows.0..rows.1 {
             let row = (segment.0, (segment.1, i));
@@ -109,7 +100,7 @@ impl RowWalk<'_> {
         Ok(())
     }
 
-    /// Walks a segment of a superprojection: each row is full by itself.
+    /// Walks from a range of rows of a superprojection's segment, and copies their cells together.
     pub(crate) fn walk_own_rows(
         &self,
         segment: (u16, u16),
@@ -125,11 +116,12 @@ impl RowWalk<'_> {
         requires within { rows.1 ≤ length ((contents_of self.now.survivors.now).image segment.0 segment.1).pairs }
         ensures reading { desk.new.reading ≡ desk.old.reading }
         ensures fit { OnOk result (ColumnsFit self.now.survivors.now.catalog columns.new.items) }
-        ensures sound { OnOk result (find (is_stray_row self.now.survivors.now.catalog self.now.loss (contents_of self.now.survivors.now)) (reached_from segment.0 segment.1 rows.0 (rows.1 - rows.0)) ≡ None) }
-        ensures cells { OnOk result ((found : List Row) → AreRows self.now.survivors.now.catalog found columns.old.items → AreRows self.now.survivors.now.catalog (found ++ filter_map (given_row self.now.fresh_only self.now.survivors.now.catalog self.now.loss (contents_of self.now.survivors.now)) (reached_from segment.0 segment.1 rows.0 (rows.1 - rows.0))) columns.new.items) }
-        ensures fault { IfErr result (IsStrayFault self.now.survivors.now.catalog self.now.loss (contents_of self.now.survivors.now) (reached_from segment.0 segment.1 rows.0 (rows.1 - rows.0))) }
+        ensures sound { OnOk result (NoneAstray self.now (reached_from segment.0 segment.1 rows.0 (rows.1 - rows.0))) }
+        ensures cells { OnOk result (Extends self.now (reached_from segment.0 segment.1 rows.0 (rows.1 - rows.0))
+            columns.old.items columns.new.items) }
+        ensures fault { IfErr result (IsFirstAstray self.now (reached_from segment.0 segment.1 rows.0 (rows.1 - rows.0))) }
     {
-        // says that the key is a column
+        // for the clause that the key is a column
         let _rules = projection_count(self.survivors);
         match self.follow_segment(segment, rows, desk) {
             Ok(()) => {}

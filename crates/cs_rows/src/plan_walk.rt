@@ -1,4 +1,4 @@
-//! The walk of a plan: what it knows before its first row.
+//! The walk of a plan, prepared before its first row.
 ghost use Rattle.std.specs.Prelude.{◌≡◌, ◌<◌, ◌==◌, ℕ, length, slice_index_or, IfOk, IsTrue, ◌↔◌};
 ghost use Rattle.cs_schema.specs.CatalogData.{column};
 ghost use Rattle.cs_schema.specs.CatalogRules.{IsCatalog};
@@ -8,16 +8,15 @@ ghost use Rattle.cs_rows.specs.Range.{IsPlanOf};
 ghost use Rattle.cs_rows.specs.Routes.{IsRoute};
 
 use crate::catalog_of;
-use crate::numbers::{column_count, columns_of, source};
-use crate::range::place_in;
+use crate::numbers::{place_in, source};
 use crate::route::find_route;
 use crate::survivors::Survivors;
 use cs_safety::Plan;
 use cs_schema::{Catalog, Kind};
 use std::alloc::{AllocError, Global};
 
-/// The walk of a plan through what survives: where each column of the table is read, and the steps to the projections
-/// that the plan reaches.
+/// The walk of a plan through survivors: where each column of the table is read, and the steps to the projections that
+/// the plan reaches.
 #[derive(Drop)]
 pub struct PlanWalk<'p, 'a> {
     pub survivors: &'a Survivors<'a>,
@@ -29,7 +28,7 @@ pub struct PlanWalk<'p, 'a> {
     pub ghost route_is: { IsRoute survivors.now.catalog plan.now route.items },
 }
 
-/// For each column of the table, the projection where it is read and its number there.
+/// For each column of the table, the projection in which it is read and its index there.
 fn find_reads(
     alloc: Global,
     catalog: &Catalog,
@@ -39,15 +38,15 @@ fn find_reads(
     ensures { IfOk result (λ reads. AreReads catalog.now plan.now reads.items) }
 {
     let mut reads: Vec<(usize, usize)> = Vec::new(alloc);
-    for c in 0..column_count(catalog) {
-        let q = source(plan, c) as usize;
-        reads.push((q, place_in(columns_of(catalog, q), c)))?;
+    for c in 0..catalog.column_count() {
+        let q = source(plan, c);
+        reads.push((q as usize, place_in(catalog.columns_of(q), c)))?;
     }
     Ok(reads)
 }
 
 impl<'p, 'a> PlanWalk<'p, 'a> {
-    /// The walk of a plan through what survives of a store.
+    /// Prepares the walk of a plan through the survivors of a store. Fails only if memory is refused.
     pub fn new(
         alloc: Global,
         catalog: &Catalog,

@@ -1,72 +1,27 @@
 //! The walk of a range of anchor rows.
-ghost use Rattle.std.specs.Prelude.{◌≡◌, ◌<◌, ◌≤◌, ◌+◌, ◌-◌, ◌==◌, ◌++◌, ◌∷◌, [], ℕ, List, length, map, IfOk, IfErr, OnOk, slice_index_or, Some, None, Ok, Err};
-ghost use Rattle.std.specs.List.{find, position_or_len};
-ghost use Rattle.cs_schema.specs.Values.{values, kind_of};
-ghost use Rattle.cs_schema.specs.Rows.{cell};
-ghost use Rattle.cs_schema.specs.CatalogData.{column, projection, segments};
+ghost use Rattle.std.specs.Prelude.{◌≡◌, ◌<◌, ◌≤◌, ◌-◌, length, map, IfOk, IfErr, OnOk, Ok};
+ghost use Rattle.cs_schema.specs.CatalogData.{segments};
 ghost use Rattle.cs_schema.specs.CatalogRules.{IsCatalog};
-ghost use Rattle.cs_rows.specs.Walk.{At, is_astray};
-ghost use Rattle.cs_schema.specs.declared.kinds.Kind.{Kind as KindValue};
-ghost use Rattle.cs_rows.specs.declared.range.WalkFault.TheVariants.{Memory};
-ghost use Rattle.cs_rows.specs.Survivors.{contents_of, image_row};
-ghost use Rattle.cs_rows.specs.Columns.{ColumnsFit, AreWalked, IsRowFault, rows_from};
+ghost use Rattle.cs_rows.specs.Survivors.{contents_of};
+ghost use Rattle.cs_rows.specs.Columns.{ColumnsFit, rows_from};
 ghost use Rattle.cs_rows.specs.Range.{walked_among, rows_between, IsPlanOf, IsWalkFault};
+ghost use Rattle.cs_rows.specs.PlanWalks.{NoneAstray, IsFirstAstray, Extends, anchor_rows_between, walked_from};
 
 use crate::block::{BLOCK_ROWS, Places};
 use crate::catalog_of::segments;
+use crate::columns::new_columns;
 use crate::counts::row_count;
-use crate::numbers::{anchor, column_count, kind};
+pub use crate::fault::WalkFault;
+use crate::numbers::anchor;
 use crate::plan_walk::PlanWalk;
 use crate::survivors::Survivors;
 use crate::walked::Walked;
-use cs_delta::image::Image;
 use cs_safety::Plan;
 use cs_schema::{Catalog, Cells};
-use std::alloc::{AllocError, AllocFailed, Global};
-
-/// Why a walk gives no rows.
-#[derive(Debug, Clone, Copy, PartialEq, Eq)]
-pub enum WalkFault {
-    /// Out of memory.
-    Memory,
-    /// The first row that the join indexes lead astray: its projection, segment and position in the image.
-    Astray { p: u16, s: u16, row: u32 },
-}
-
-impl From<AllocError> for WalkFault {
-    ghost from_gives = { λ _ e. e ≡ Memory };
-
-    fn from(_e: AllocError) -> Self {
-        WalkFault::Memory
-    }
-}
-
-impl<T: Drop> From<AllocFailed<T>> for WalkFault {
-    ghost from_gives = { λ _ e. e ≡ Memory };
-
-    fn from(_e: AllocFailed<T>) -> Self {
-        WalkFault::Memory
-    }
-}
-
-/// Appends the cell of an image's row to a column.
-pub(crate) fn push_cell(
-    cells: &mut Cells,
-    image: &Image,
-    row: u32,
-    j: usize,
-) -> Result<(), AllocError>
-    requires row { row < length image.now.image.pairs }
-    requires there { j < length image.now.kinds }
-    requires kind { kind_of cells.old ≡ slice_index_or image.now.kinds j KindValue.Int }
-    ensures kind { kind_of cells.new ≡ kind_of cells.old }
-    ensures ok { OnOk result (values cells.new ≡ values cells.old ++ cell (image_row image.now.image row) j ∷ []) }
-{
-    cells.push_cell(image.column(j), row as usize)
-}
+use std::alloc::Global;
 
 impl PlanWalk<'_, '_> {
-    /// Walks a range of rows of one of the anchor's segments. `block` is scratch space.
+    /// Walks a range of rows of one of the anchor's segments and appends their cells. `block` is scratch space.
     fn walk_segment(
         &self,
         s: u16,
@@ -79,9 +34,9 @@ impl PlanWalk<'_, '_> {
         requires order { rows.0 ≤ rows.1 }
         requires within { rows.1 ≤ length ((contents_of self.now.survivors.now).image self.now.plan.now.anchor s).pairs }
         ensures fit { OnOk result (ColumnsFit self.now.survivors.now.catalog columns.new.items) }
-        ensures sound { OnOk result (find (is_astray self.now.survivors.now.catalog (contents_of self.now.survivors.now) self.now.plan.now) (rows_from s rows.0 (rows.1 - rows.0)) ≡ None) }
-        ensures cells { OnOk result ((ats : List At) → AreWalked self.now.survivors.now.catalog (contents_of self.now.survivors.now) self.now.plan.now ats columns.old.items → AreWalked self.now.survivors.now.catalog (contents_of self.now.survivors.now) self.now.plan.now (ats ++ rows_from s rows.0 (rows.1 - rows.0)) columns.new.items) }
-        ensures fault { IfErr result (IsRowFault self.now.survivors.now.catalog (contents_of self.now.survivors.now) self.now.plan.now (rows_from s rows.0 (rows.1 - rows.0))) }
+        ensures sound { OnOk result (NoneAstray self.now (rows_from s rows.0 (rows.1 - rows.0))) }
+        ensures cells { OnOk result (Extends self.now (rows_from s rows.0 (rows.1 - rows.0)) columns.old.items columns.new.items) }
+        ensures fault { IfErr result (IsFirstAstray self.now (rows_from s rows.0 (rows.1 - rows.0))) }
     {
         let mut from = rows.0;
         while from < rows.1 {
@@ -95,7 +50,8 @@ impl PlanWalk<'_, '_> {
         Ok(())
     }
 
-    /// Walks the rows `from..to` of the anchor, through all its segments. `block` is scratch space.
+    /// Walks the rows `from..to` of the anchor, over all its segments, and appends their cells. `block` is scratch
+    /// space.
     fn walk_segments(
         &self,
         from: usize,
@@ -106,9 +62,9 @@ impl PlanWalk<'_, '_> {
         requires columns { ColumnsFit self.now.survivors.now.catalog columns.old.items }
         requires order { from ≤ to }
         ensures fit { OnOk result (ColumnsFit self.now.survivors.now.catalog columns.new.items) }
-        ensures sound { OnOk result (find (is_astray self.now.survivors.now.catalog (contents_of self.now.survivors.now) self.now.plan.now) (rows_between self.now.survivors.now.catalog (contents_of self.now.survivors.now) self.now.plan.now from to) ≡ None) }
-        ensures cells { OnOk result ((ats : List At) → AreWalked self.now.survivors.now.catalog (contents_of self.now.survivors.now) self.now.plan.now ats columns.old.items → AreWalked self.now.survivors.now.catalog (contents_of self.now.survivors.now) self.now.plan.now (ats ++ rows_between self.now.survivors.now.catalog (contents_of self.now.survivors.now) self.now.plan.now from to) columns.new.items) }
-        ensures fault { IfErr result (IsRowFault self.now.survivors.now.catalog (contents_of self.now.survivors.now) self.now.plan.now (rows_between self.now.survivors.now.catalog (contents_of self.now.survivors.now) self.now.plan.now from to)) }
+        ensures sound { OnOk result (NoneAstray self.now (anchor_rows_between self.now from to)) }
+        ensures cells { OnOk result (Extends self.now (anchor_rows_between self.now from to) columns.old.items columns.new.items) }
+        ensures fault { IfErr result (IsFirstAstray self.now (anchor_rows_between self.now from to)) }
     {
         let anchor = anchor(self.plan);
         // the number of the segment's first row
@@ -126,15 +82,16 @@ impl PlanWalk<'_, '_> {
         Ok(())
     }
 
-    /// The rows that the walk finds from the anchor's rows `from..to`.
+    /// Walks the rows `from..to` of the anchor, numbered from 0 over all its segments, and returns the row that each of
+    /// them leads to.
     ///
     /// Fails with `Astray` at the first of them that the join indexes lead astray, and with `Memory` only if memory is
     /// refused.
     pub fn range(&self, alloc: Global, from: usize, to: usize) -> Result<Walked, WalkFault>
         requires { from ≤ to }
         ensures kinds { IfOk result (λ walked. walked.kinds ≡ map (λ c. c.kind) self.now.survivors.now.catalog.columns) }
-        ensures rows { IfOk result (λ walked. Ok walked.rows ≡ walked_among self.now.survivors.now.catalog (contents_of self.now.survivors.now) self.now.plan.now (rows_between self.now.survivors.now.catalog (contents_of self.now.survivors.now) self.now.plan.now from to)) }
-        ensures fault { IfErr result (IsWalkFault (walked_among self.now.survivors.now.catalog (contents_of self.now.survivors.now) self.now.plan.now (rows_between self.now.survivors.now.catalog (contents_of self.now.survivors.now) self.now.plan.now from to))) }
+        ensures rows { IfOk result (λ walked. Ok walked.rows ≡ walked_from self.now (anchor_rows_between self.now from to)) }
+        ensures fault { IfErr result (IsWalkFault (walked_from self.now (anchor_rows_between self.now from to))) }
     {
         let survivors = self.survivors;
         let room = to.min(self.anchor_rows()).saturating_sub(from);
@@ -150,39 +107,11 @@ impl PlanWalk<'_, '_> {
     }
 }
 
-/// An empty column for each column of the table, each with room for `count` cells; eight bytes are reserved for each
-/// text.
-pub(crate) fn new_columns(
-    alloc: Global,
-    catalog: &Catalog,
-    room: usize,
-) -> Result<Vec<Cells>, AllocError>
-    ensures fit { IfOk result (λ columns. ColumnsFit catalog.now columns.items) }
-    ensures rules { IsCatalog catalog.now }
-    ensures none { IfOk result (λ columns. (c : ℕ) (d : Cells) → c < length catalog.now.columns → values (slice_index_or columns.items c d) ≡ []) }
-{
-    let mut columns: Vec<Cells> = Vec::new(alloc);
-    for c in 0..column_count(catalog) {
-        let mut cells = Cells::new(alloc, kind(catalog, c));
-        cells.reserve(room, room.saturating_mul(8))?;
-        columns.push(cells)?;
-    }
-    Ok(columns)
-}
-
-/// The number of a table's column among the columns of a projection.
-pub(crate) fn place_in(columns: &[u8], c: usize) -> usize
-    ensures { result ≡ position_or_len (λ d. d == c) columns.now }
-{
-    for (j, column) in columns.iter().enumerate() {
-        if *column as usize == c {
-            return j;
-        }
-    }
-    columns.len()
-}
-
-/// The rows that the walk of a plan finds from the anchor's rows `from..to`: one range of `PlanWalk`.
+/// Walks a plan from the rows `from..to` of its anchor, numbered from 0 over all its segments, and returns the row that
+/// each of them leads to.
+///
+/// Fails with `Astray` at the first of them that the join indexes lead astray, and with `Memory` only if memory is
+/// refused. For several ranges, make one `PlanWalk` and call `range`.
 pub fn walk_range(
     alloc: Global,
     catalog: &Catalog,
@@ -196,8 +125,10 @@ pub fn walk_range(
     requires same { survivors.now.catalog ≡ catalog.now }
     requires order { from ≤ to }
     ensures kinds { IfOk result (λ walked. walked.kinds ≡ map (λ c. c.kind) catalog.now.columns) }
-    ensures rows { IfOk result (λ walked. Ok walked.rows ≡ walked_among catalog.now (contents_of survivors.now) plan.now (rows_between catalog.now (contents_of survivors.now) plan.now from to)) }
-    ensures fault { IfErr result (IsWalkFault (walked_among catalog.now (contents_of survivors.now) plan.now (rows_between catalog.now (contents_of survivors.now) plan.now from to))) }
+    ensures rows { IfOk result (λ walked. Ok walked.rows ≡ walked_among catalog.now (contents_of survivors.now) plan.now
+        (rows_between catalog.now (contents_of survivors.now) plan.now from to)) }
+    ensures fault { IfErr result (IsWalkFault (walked_among catalog.now (contents_of survivors.now) plan.now
+        (rows_between catalog.now (contents_of survivors.now) plan.now from to))) }
 {
     match PlanWalk::new(alloc, catalog, plan, survivors) {
         Ok(walk) => walk.range(alloc, from, to),

@@ -32,7 +32,9 @@ struct KeyedRow<'a> {
 impl PartialEq for KeyedRow<'_> {
     ghost eq = { eq_by_cmp (then_cmp (on (λ it. cell (values it.keys.now) it.row) value_cmp) (on (λ it. it.row) nat_cmp)) };
 
-    ghost laws = { partial_equiv_from_equiv (eq_by_cmp_equiv (then_total (on_total (λ it. cell (values it.keys.now) it.row) value_cmp_total) (on_total (λ it. it.row) nat_cmp_total))) };
+    ghost laws = { partial_equiv_from_equiv (eq_by_cmp_equiv
+        (then_total (on_total (λ it. cell (values it.keys.now) it.row) value_cmp_total)
+        (on_total (λ it. it.row) nat_cmp_total))) };
 
     fn eq(&self, other: &Self) -> bool {
         self.cmp(other).is_eq()
@@ -40,13 +42,17 @@ impl PartialEq for KeyedRow<'_> {
 }
 
 impl Eq for KeyedRow<'_> {
-    ghost laws = { eq_by_cmp_equiv (then_total (on_total (λ it. cell (values it.keys.now) it.row) value_cmp_total) (on_total (λ it. it.row) nat_cmp_total)) };
+    ghost laws = { eq_by_cmp_equiv
+        (then_total (on_total (λ it. cell (values it.keys.now) it.row) value_cmp_total)
+        (on_total (λ it. it.row) nat_cmp_total)) };
 }
 
 impl PartialOrd for KeyedRow<'_> {
     ghost partial_cmp = { as_partial_cmp (then_cmp (on (λ it. cell (values it.keys.now) it.row) value_cmp) (on (λ it. it.row) nat_cmp)) };
 
-    ghost laws = { partial_order_from_total (then_total (on_total (λ it. cell (values it.keys.now) it.row) value_cmp_total) (on_total (λ it. it.row) nat_cmp_total)) };
+    ghost laws = { partial_order_from_total
+        (then_total (on_total (λ it. cell (values it.keys.now) it.row) value_cmp_total)
+        (on_total (λ it. it.row) nat_cmp_total)) };
 
     fn partial_cmp(&self, other: &Self) -> Option<Ordering> {
         Some(self.cmp(other))
@@ -70,7 +76,7 @@ impl Ord for KeyedRow<'_> {
     }
 }
 
-/// A `KeyedRow` for each row.
+/// A `KeyedRow` for each row, in order.
 fn keyed_rows(alloc: Global, keys: &Cells) -> Result<Vec<KeyedRow<'_>>, AllocError>
     ensures numbers { IfOk result (λ v. map (λ item. item.row) v.items ≡ range_with_len 0 (length (values keys.now))) }
     ensures alike { IfOk result (λ v. All (λ item. item.keys.now ≡ keys.now) v.items) }
@@ -110,7 +116,7 @@ fn sorted_rows<R: Threads + Sync>(
     numbers(alloc, rows)
 }
 
-/// The numbers of `sorted_rows`, sorted in this thread.
+/// The numbers of all rows by ascending key; rows with the same key by number. Sorts in this thread.
 fn sorted_rows_alone(alloc: Global, keys: &Cells) -> Result<Vec<usize>, AllocError>
     ensures permutation { IfOk result (λ v. IsPermutation (range_with_len 0 (length (values keys.now))) v.items) }
     ensures sorted { IfOk result (λ v. IsSorted (numbered_cmp (values keys.now)) v.items) }
@@ -121,7 +127,7 @@ fn sorted_rows_alone(alloc: Global, keys: &Cells) -> Result<Vec<usize>, AllocErr
     numbers(alloc, rows)
 }
 
-/// Marks each row whose left neighbour in the order of keys has the same key.
+/// Marks each row that has the same key as its predecessor in the order of keys.
 fn mark_repeats(keys: &Cells, sorted: &[usize], marks: &mut [bool])
     requires permutation { IsPermutation (range_with_len 0 (length (values keys.now))) sorted.now }
     requires sorted { IsSorted (numbered_cmp (values keys.now)) sorted.now }
@@ -155,7 +161,7 @@ pub(crate) fn find_repeats<R: Threads + Sync>(
     Ok(marks)
 }
 
-/// The marks of `find_repeats`, found in this thread.
+/// Marks the rows whose key occurs in an earlier row, in O(n log n) steps in this thread.
 pub(crate) fn find_repeats_alone(alloc: Global, keys: &Cells) -> Result<Vec<bool>, AllocError>
     ensures { IfOk result (λ marks. AreRepeats (values keys.now) marks.items) }
 {

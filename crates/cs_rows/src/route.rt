@@ -4,7 +4,7 @@ ghost use Rattle.std.specs.List.{list_any};
 ghost use Rattle.cs_rows.specs.Steps.{PlanFits};
 ghost use Rattle.cs_rows.specs.Routes.{is_met, IsNextStep, IsRoute};
 
-use crate::numbers::{anchor, prev, projection_count};
+use crate::numbers::{anchor, prev};
 use cs_safety::Plan;
 use cs_schema::Catalog;
 use std::alloc::{AllocError, Global};
@@ -53,7 +53,7 @@ pub(crate) fn find_route(
     requires { PlanFits catalog.now plan.now }
     ensures { IfOk result (λ route. IsRoute catalog.now plan.now route.items) }
 {
-    let count = projection_count(catalog);
+    let count = catalog.projection_count() as usize;
     let mut route: Vec<(usize, usize)> = Vec::with_capacity(alloc, count)?;
     for _round in 0..count {
         for q in 0..count {

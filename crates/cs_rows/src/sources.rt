@@ -1,5 +1,6 @@
-//! Where the columns of found rows are read. Looked up once for consecutive rows that were found through the same
-//! projections.
+//! Where the columns of found rows are read.
+//!
+//! They are looked up once for consecutive rows that were found through the same projections.
 ghost use Rattle.std.specs.Prelude.{◌≡◌, ◌<◌, ◌↔◌, ◌&&◌, Bool, ℕ, length, true, All, IfOk, OnOk, IsTrue, MatchOption, None};
 ghost use Rattle.std.specs.List.{find};
 ghost use Rattle.cs_schema.specs.CatalogData.{CatalogData};
@@ -8,20 +9,19 @@ ghost use Rattle.cs_rows.specs.WalkByRows.{numbers_of};
 ghost use Rattle.cs_rows.specs.RowSteps.{IsSource, AreSources, IsReading, have_all};
 ghost use Rattle.cs_rows.specs.OwnRows.{is_found_before};
 
-use crate::catalog_of::{columns_of, key_column};
-use crate::own_rows::has_all_columns;
-use crate::range::place_in;
+use crate::catalog_of::{columns_of, has_all_columns, key_column};
+use crate::numbers::place_in;
 use crate::survivors::Survivors;
 use std::alloc::{AllocError, Global};
 
-/// Where a column of a found row is read: the index of a reached row, and the column's number in its projection.
+/// Where a column of a found row is read: the index of a reached row, and the column's index in that row's projection.
 #[derive(Clone, Copy)]
 pub(crate) struct Source {
     pub(crate) reached: usize,
     pub(crate) place: usize,
 }
 
-/// Whether rows found through some projections are wanted, and where each column is read then.
+/// Whether rows found through some projections are to be returned, and where each column is read if they are.
 #[derive(Drop)]
 pub(crate) struct Reading {
     projections: Vec<u16>,
@@ -29,13 +29,14 @@ pub(crate) struct Reading {
     pub(crate) given: bool,
 }
 
-/// Where a column is read, if one of the projections has it: the first that does.
+/// Where a column is read: in the first of the projections that has it, if any.
 fn first_source(survivors: &Survivors<'_>, projections: &[u16], c: usize) -> Option<Source>
     requires { All (λ p. p < length survivors.now.catalog.projections) projections.now }
-    ensures { MatchOption result (find (λ p. holds_column survivors.now.catalog p c) projections.now ≡ None) (IsSource survivors.now.catalog projections.now c) }
+    ensures { MatchOption result (find (λ p. holds_column survivors.now.catalog p c) projections.now ≡ None)
+        (IsSource survivors.now.catalog projections.now c) }
 {
     for at in 0..projections.len() {
-        let columns = columns_of(survivors, projections[at] as usize);
+        let columns = columns_of(survivors, projections[at]);
         let place = place_in(columns, c);
         if place < columns.len() {
             return Some(Source { reached: at, place });
@@ -44,7 +45,7 @@ fn first_source(survivors: &Survivors<'_>, projections: &[u16], c: usize) -> Opt
     None
 }
 
-/// Finds where each column is read. Answers whether the projections have all columns.
+/// Finds where each column is read. Returns false if the projections lack a column.
 fn find_sources(survivors: &Survivors<'_>, projections: &[u16], sources: &mut Vec<Source>) -> bool
     requires there { All (λ p. p < length survivors.now.catalog.projections) projections.now }
     requires room { length sources.old.items ≡ length survivors.now.catalog.columns }
@@ -61,7 +62,8 @@ fn find_sources(survivors: &Survivors<'_>, projections: &[u16], sources: &mut Ve
     true
 }
 
-/// Whether the key is read in a projection before the first superprojection.
+/// Whether the key is read in a superprojection that precedes the projection the walk starts from. The walk from the
+/// row there comes earlier and finds that key too.
 fn is_found_before(survivors: &Survivors<'_>, projections: &[u16], key: Source) -> bool
     requires there { All (λ p. p < length survivors.now.catalog.projections) projections.now }
     requires key { IsSource survivors.now.catalog projections.now survivors.now.catalog.key key }
@@ -71,7 +73,7 @@ fn is_found_before(survivors: &Survivors<'_>, projections: &[u16], key: Source) 
     q < projections[0] && has_all_columns(survivors, q)
 }
 
-/// Whether rows found through these projections are left out: with `fresh_only`, those that an earlier walk finds too.
+/// Whether rows found through these projections are left out: with `fresh_only`, if an earlier walk finds them too.
 fn is_left_out(
     survivors: &Survivors<'_>,
     projections: &[u16],
@@ -85,7 +87,7 @@ fn is_left_out(
     fresh_only && is_found_before(survivors, projections, key)
 }
 
-/// Whether rows were reached in exactly these projections, in this order.
+/// Whether the rows were reached in exactly these projections, in this order.
 fn are_in(reached: &[(u16, (u16, u32))], projections: &[u16]) -> bool
     ensures { IsTrue result ↔ (numbers_of reached.now ≡ projections.now) }
 {
@@ -115,7 +117,7 @@ fn list_projections(
 }
 
 impl Reading {
-    /// Room for `projections` projections and `columns` columns, with no projection yet.
+    /// Room for `projections` projections and `columns` columns. No projection is listed yet.
     pub(crate) fn new(alloc: Global, projections: usize, columns: usize) -> Result<Self, AllocError>
         requires { 0 < columns }
         ensures { IfOk result (λ reading. (fresh_only : Bool) (C : CatalogData) → length C.columns ≡ columns → IsReading fresh_only C reading) }
@@ -134,7 +136,8 @@ impl Reading {
         })
     }
 
-    /// Prepares for the rows that were reached. Nothing is looked up if the last ones were in the same projections.
+    /// Prepares for the rows that were reached. Looks nothing up if the previous rows were reached in the same
+    /// projections.
     pub(crate) fn update(
         &mut self,
         survivors: &Survivors<'_>,

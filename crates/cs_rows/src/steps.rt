@@ -6,7 +6,7 @@ ghost use Rattle.cs_rows.specs.Steps.{IsAt};
 
 use crate::survivors::Survivors;
 
-/// The row of `q` to which a row of `p` points.
+/// The row of `q` to which the join index leads from a row of `p`, if it leads to one.
 pub(crate) fn follow(
     survivors: &Survivors<'_>,
     p: usize,

@@ -1,12 +1,11 @@
 //! The surviving segments of a store that have been read.
-ghost use Rattle.std.specs.Prelude.{◌≡◌, ◌<◌, ◌+◌, ℕ, length, replicate, slice_index_or, IfOk, IfSome, None, Some, List, [], slice_set, MatchOption, map};
+ghost use Rattle.std.specs.Prelude.{◌≡◌, ◌<◌, length, replicate, slice_index_or, IfOk, IfSome, None, Some, List, [], slice_set, MatchOption};
 ghost use Rattle.cs_delta.specs.KindedImage.{KindedImage};
 ghost use Rattle.cs_jix.specs.JoinIndex.{Place};
 ghost use Rattle.cs_schema.specs.CatalogData.{segments};
 ghost use Rattle.cs_segment.specs.SegmentData.{kinds_at};
-ghost use Rattle.cs_rows.specs.Survivors.{images_of, joins_of, image_at, join_at, no_survivors, no_images, no_joins, with_image, with_join, AreSurvivors, HasRoom};
+ghost use Rattle.cs_rows.specs.Survivors.{images_of, image_at, join_at, no_survivors, with_image, with_join, AreSurvivors, HasRoom};
 
-use crate::numbers::{projection_count, segments};
 use cs_delta::image::Image;
 use cs_jix::JoinIndex;
 use cs_schema::Catalog;
@@ -58,7 +57,7 @@ impl Model for ProjectionJoins {
     ghost view = { λ p. p.segments.items };
 }
 
-/// The images and join indexes of the surviving segments of a catalog's store, if they are present.
+/// The images and join indexes of a store's surviving segments, each of them if it has been read.
 #[derive(Drop)]
 pub struct Survivors<'a> {
     catalog: &'a Catalog,
@@ -154,17 +153,17 @@ impl ProjectionJoins {
 }
 
 impl<'a> Survivors<'a> {
-    /// Empty slots for each segment of a catalog.
+    /// No images and no join indexes yet. There is a slot for each that the catalog may have.
     pub fn new(alloc: Global, catalog: &'a Catalog) -> Result<Self, AllocError>
         ensures { IfOk result (λ s. s ≡ no_survivors catalog.now) }
     {
-        let count = projection_count(catalog);
+        let count = catalog.projection_count();
         let mut images: Vec<ProjectionImages> = Vec::new(alloc);
         let mut joins: Vec<ProjectionJoins> = Vec::new(alloc);
         for p in 0..count {
-            let segments = segments(catalog, p);
+            let segments = catalog.segments(p) as usize;
             images.push(ProjectionImages::new(alloc, segments)?)?;
-            joins.push(ProjectionJoins::new(alloc, segments, count)?)?;
+            joins.push(ProjectionJoins::new(alloc, segments, count as usize)?)?;
         }
         Ok(Survivors {
             catalog,
@@ -181,7 +180,7 @@ impl<'a> Survivors<'a> {
         self.catalog
     }
 
-    /// Sets the image of a segment, replacing an earlier one.
+    /// Sets the image of a segment, and replaces an earlier one.
     pub fn put_image(&mut self, p: usize, s: usize, image: Image)
         requires projection { p < length self.old.catalog.projections }
         requires segment { s < segments self.old.catalog p }
@@ -192,7 +191,7 @@ impl<'a> Survivors<'a> {
         self.images[p].put(s, image);
     }
 
-    /// Sets a join index of a segment, replacing an earlier one.
+    /// Sets a join index of a segment, and replaces an earlier one.
     pub fn put_join(&mut self, p: usize, s: usize, q: usize, join: JoinIndex)
         requires projection { p < length self.old.catalog.projections }
         requires segment { s < segments self.old.catalog p }
@@ -203,7 +202,7 @@ impl<'a> Survivors<'a> {
         self.joins[p].put(s, q, join);
     }
 
-    /// The images of a projection's segments.
+    /// The images of a projection's segments, by segment; `None` if absent.
     pub fn images(&self, p: usize) -> &[Option<Image>]
         requires { p < length self.now.catalog.projections }
         ensures images { result.now ≡ images_of self.now p }

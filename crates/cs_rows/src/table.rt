@@ -1,4 +1,4 @@
-//! The rows of the whole table, in columns that are owned or borrowed from images.
+//! The rows of the whole table, in columns that are owned, or borrowed from images.
 ghost use Rattle.std.specs.Prelude.{◌≡◌, ◌<◌, ℕ, length, map, slice_get, slice_index_or, None, Some, IfOk};
 ghost use Rattle.cs_schema.specs.Values.{values, kind_of};
 ghost use Rattle.cs_schema.specs.Rows.{cell};
@@ -19,7 +19,7 @@ pub struct Table<'a> {
     lent: Lent<'a>,
 }
 
-/// A column: the borrowed one, or the owned one.
+/// The borrowed column, if there is one; else the owned one.
 fn column_at<'a>(made: &'a [Cells], lent: &'a Lent<'a>, c: usize) -> &'a Cells
     requires { c < length made.now }
     ensures { result.now ≡ slice_index_or (over made.now lent.now) c result.now }
@@ -52,7 +52,7 @@ impl<'a> Table<'a> {
         }
     }
 
-    /// The rows of a walk, all of whose columns are borrowed.
+    /// The rows of a walk. All columns are borrowed from it.
     pub fn lent_by(alloc: Global, walked: &'a Walked) -> Result<Self, AllocError>
         ensures { IfOk result (λ table. table ≡ walked.entry.now) }
     {
@@ -66,7 +66,7 @@ impl<'a> Table<'a> {
         Ok(Table { made, lent })
     }
 
-    /// The rows of columns of one length, at least one: some owned, the others borrowed.
+    /// The rows of at least one column, all of the same length, some owned and the others borrowed.
     pub fn of_columns(made: Vec<Cells>, lent: Lent<'a>) -> Self
         requires { AreColumns (over made.items lent) }
         ensures { result ≡ walked_data (over made.items lent.entry) }
@@ -74,7 +74,7 @@ impl<'a> Table<'a> {
         Table { made, lent }
     }
 
-    /// The owned columns, and the borrowed ones that take the place of others.
+    /// The owned columns, and the borrowed ones that replace some of them.
     pub fn into_columns(self) -> (Vec<Cells>, Lent<'a>)
         ensures columns { AreColumns (over result.0.items result.1) }
         ensures same { walked_data (over result.0.items result.1) ≡ self.entry }

@@ -1,12 +1,10 @@
-//! The rows that a walk gives, column by column.
+//! The rows that a walk finds, column by column.
 ghost use Rattle.std.specs.Prelude.{◌≡◌, ◌<◌, ◌++◌, ℕ, length, map, slice_get, slice_index_or, Some, [], IfOk, OnOk, OnErr, take};
 ghost use Rattle.cs_schema.specs.Values.{values, kind_of};
 ghost use Rattle.cs_schema.specs.Rows.{cell};
-ghost use Rattle.cs_rows.specs.WalkByRows.{without_repeats};
 ghost use Rattle.cs_rows.specs.WalkedView.{walked_data, AreColumns, IsWide};
 
-use crate::once::first_rows;
-use crate::range::new_columns;
+use crate::columns::new_columns;
 use cs_schema::{Catalog, Cells, Value};
 use std::alloc::{AllocError, Global};
 use std::marker::Model;
@@ -14,28 +12,35 @@ use std::marker::Model;
 /// Keeps only the first `rows` cells of each column.
 fn truncate_columns(columns: &mut Vec<Cells>, rows: usize)
     ensures count { length columns.new.items ≡ length columns.old.items }
-    ensures kinds { (c : ℕ) (d : Cells) → c < length columns.old.items → kind_of (slice_index_or columns.new.items c d) ≡ kind_of (slice_index_or columns.old.items c d) }
-    ensures cells { (c : ℕ) (d : Cells) → c < length columns.old.items → values (slice_index_or columns.new.items c d) ≡ take rows (values (slice_index_or columns.old.items c d)) }
+    ensures kinds { (c : ℕ) (d : Cells) → c < length columns.old.items
+        → kind_of (slice_index_or columns.new.items c d) ≡ kind_of (slice_index_or columns.old.items c d) }
+    ensures cells { (c : ℕ) (d : Cells) → c < length columns.old.items
+        → values (slice_index_or columns.new.items c d)
+        ≡ take rows (values (slice_index_or columns.old.items c d)) }
 {
     for c in 0..columns.len() {
         columns[c].truncate(rows);
     }
 }
 
-/// Moves the cells of other columns to the ends of columns of `rows` cells. If memory is refused, the cells are
-/// unchanged.
+/// Moves the cells of other columns to the ends of columns of `rows` cells. If memory is refused, no cell changes.
 fn append_columns(
     columns: &mut Vec<Cells>,
     rows: usize,
     others: Vec<Cells>,
 ) -> Result<(), AllocError>
     requires count { length others.items ≡ length columns.old.items }
-    requires same_kinds { (c : ℕ) (d : Cells) → c < length columns.old.items → kind_of (slice_index_or columns.old.items c d) ≡ kind_of (slice_index_or others.items c d) }
+    requires same_kinds { (c : ℕ) (d : Cells) → c < length columns.old.items
+        → kind_of (slice_index_or columns.old.items c d) ≡ kind_of (slice_index_or others.items c d) }
     requires long { (c : ℕ) (d : Cells) → c < length columns.old.items → length (values (slice_index_or columns.old.items c d)) ≡ rows }
     ensures count { length columns.new.items ≡ length columns.old.items }
-    ensures kinds { (c : ℕ) (d : Cells) → c < length columns.old.items → kind_of (slice_index_or columns.new.items c d) ≡ kind_of (slice_index_or columns.old.items c d) }
-    ensures ok { OnOk result ((c : ℕ) (d : Cells) → c < length columns.old.items → values (slice_index_or columns.new.items c d) ≡ values (slice_index_or columns.old.items c d) ++ values (slice_index_or others.items c d)) }
-    ensures err { OnErr result ((c : ℕ) (d : Cells) → c < length columns.old.items → values (slice_index_or columns.new.items c d) ≡ values (slice_index_or columns.old.items c d)) }
+    ensures kinds { (c : ℕ) (d : Cells) → c < length columns.old.items
+        → kind_of (slice_index_or columns.new.items c d) ≡ kind_of (slice_index_or columns.old.items c d) }
+    ensures ok { OnOk result ((c : ℕ) (d : Cells) → c < length columns.old.items
+        → values (slice_index_or columns.new.items c d)
+        ≡ values (slice_index_or columns.old.items c d) ++ values (slice_index_or others.items c d)) }
+    ensures err { OnErr result ((c : ℕ) (d : Cells) → c < length columns.old.items
+        → values (slice_index_or columns.new.items c d) ≡ values (slice_index_or columns.old.items c d)) }
 {
     let mut others = others;
     while let Some(cells) = others.pop() {
@@ -51,7 +56,7 @@ fn append_columns(
     Ok(())
 }
 
-/// Rows of the whole table, in the order of the walk.
+/// Rows of the whole table, in the order of the walk, stored by columns.
 #[derive(Drop)]
 pub struct Walked {
     columns: Vec<Cells>,
@@ -68,7 +73,7 @@ impl Model for Walked {
 }
 
 impl Walked {
-    /// The rows of columns of one length, at least one.
+    /// The rows of at least one column, all of the same length.
     pub fn from_columns(columns: Vec<Cells>) -> Self
         requires { AreColumns columns.items }
         ensures { result ≡ walked_data columns.items }
@@ -76,7 +81,7 @@ impl Walked {
         Walked { columns }
     }
 
-    /// The columns, all of one length.
+    /// The columns, all of the same length.
     pub(crate) fn into_columns(self) -> Vec<Cells>
         ensures columns { AreColumns result.items }
         ensures rows { walked_data result.items ≡ self }
@@ -85,7 +90,7 @@ impl Walked {
         columns
     }
 
-    /// The columns, all of one length, borrowed.
+    /// The columns, all of the same length, borrowed.
     pub(crate) fn columns(&self) -> &[Cells]
         ensures columns { AreColumns result.now }
         ensures rows { walked_data result.now ≡ self.now }
@@ -93,7 +98,12 @@ impl Walked {
         &self.columns
     }
 
-    /// No rows, with the columns of a catalog.
+    /// The allocator of the columns.
+    pub(crate) fn allocator(&self) -> Global {
+        *self.columns.allocator()
+    }
+
+    /// No rows, with the kinds of a catalog's columns.
     pub fn none(alloc: Global, catalog: &Catalog) -> Result<Self, AllocError>
         ensures kinds { IfOk result (λ walked. walked.kinds ≡ map (λ c. c.kind) catalog.now.columns) }
         ensures rows { IfOk result (λ walked. walked.rows ≡ []) }
@@ -141,21 +151,6 @@ impl Walked {
             Ok(()) => {}
             Err(fault) => return Err(fault),
         }
-        Ok(())
-    }
-    /// Removes each row whose primary key occurs in an earlier row, in O(n log n) steps. If memory is refused, nothing
-    /// changes.
-    ///
-    /// Runs in this thread; `join_once` gives the same rows of several walks with threads.
-    pub fn once(&mut self, catalog: &Catalog) -> Result<(), AllocError>
-        requires { self.old.kinds ≡ map (λ c. c.kind) catalog.now.columns }
-        ensures kinds { self.new.kinds ≡ self.old.kinds }
-        ensures ok { OnOk result (self.new.rows ≡ without_repeats catalog.now self.old.rows) }
-        ensures err { OnErr result (self.new ≡ self.old) }
-    {
-        let alloc = *self.columns.allocator();
-        let left = first_rows(alloc, catalog, self)?;
-        *self = left;
         Ok(())
     }
 }

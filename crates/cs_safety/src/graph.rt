@@ -1,6 +1,6 @@
 //! The joins and columns of a catalog's projections as sets.
 ghost use Rattle.std.specs.Prelude.{◌≡◌, ℕ, ◌<◌, length};
-ghost use Rattle.cs_schema.specs.CatalogData.{projection, has_join};
+ghost use Rattle.cs_schema.specs.CatalogData.{has_join};
 ghost use Rattle.cs_schema.specs.CatalogRules.{IsCatalog};
 ghost use Rattle.cs_safety.specs.Paths.{holds_column};
 ghost use Rattle.cs_safety.specs.NumberSets.{is_in};
@@ -32,25 +32,7 @@ pub fn column_count(catalog: &Catalog) -> u8
     ensures count { result ≡ length catalog.now.columns }
     ensures rules { IsCatalog catalog.now }
 {
-    catalog.columns.len() as u8
-}
-
-/// The declared joins of a projection.
-fn joins_of(catalog: &Catalog, p: u8) -> &[u8]
-    requires { p < length catalog.now.projections }
-    ensures joins { result.now ≡ (projection catalog.now p).joins }
-    ensures rules { IsCatalog catalog.now }
-{
-    &catalog.projection(u16::from(p)).joins
-}
-
-/// The columns of a projection.
-fn columns_of(catalog: &Catalog, p: u8) -> &[u8]
-    requires { p < length catalog.now.projections }
-    ensures columns { result.now ≡ (projection catalog.now p).columns }
-    ensures rules { IsCatalog catalog.now }
-{
-    &catalog.projection(u16::from(p)).columns
+    catalog.column_count() as u8
 }
 
 /// The projections to which a projection declares a join.
@@ -58,7 +40,7 @@ fn targets(catalog: &Catalog, p: u8) -> Projections
     requires { p < length catalog.now.projections }
     ensures { (q : ℕ) → is_in result q ≡ has_join catalog.now p q }
 {
-    let joins = joins_of(catalog, p);
+    let joins = catalog.joins_of(u16::from(p));
     let mut found = 0;
     for q in joins {
         found = sets::with(found, *q);
@@ -71,7 +53,7 @@ fn held(catalog: &Catalog, p: u8) -> Columns
     requires { p < length catalog.now.projections }
     ensures { (c : ℕ) → is_in result c ≡ holds_column catalog.now p c }
 {
-    let columns = columns_of(catalog, p);
+    let columns = catalog.columns_of(u16::from(p));
     let mut found = 0;
     for c in columns {
         found = sets::with_column(found, *c);

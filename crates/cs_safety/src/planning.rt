@@ -64,7 +64,8 @@ fn sources(graph: &Graph, levels: &Levels) -> Option<ArrayVec<u8, 32>>
     requires levels { AreLevels graph.now levels.now }
     ensures none { IsNone result → ¬ Suits graph.now levels.now.allowed levels.now.start }
     ensures size { IfSome result (λ found. length found.items ≡ graph.now.width) }
-    ensures each { IfSome result (λ found. (c : ℕ) → c < graph.now.width → IsNearestHolder graph.now levels.now.allowed levels.now.start c (slice_index found.items c)) }
+    ensures each { IfSome result (λ found. (c : ℕ) → c < graph.now.width
+        → IsNearestHolder graph.now levels.now.allowed levels.now.start c (slice_index found.items c)) }
 {
     let mut found = ArrayVec::new();
     for column in 0..graph.width {

@@ -20,21 +20,12 @@ use cs_schema::{Catalog, Cells, Loss, Value};
 /// A family of sets of projections.
 type Family = [bool; 256];
 
-/// The sort columns of a projection.
-fn sort_of(catalog: &Catalog, p: u8) -> &[u8]
-    requires { p < length catalog.now.projections }
-    ensures sort { result.now ≡ (projection catalog.now p).sort }
-    ensures rules { IsCatalog catalog.now }
-{
-    &catalog.projection(u16::from(p)).sort
-}
-
 /// The column by which a projection is sorted first.
 fn first_sort_of(catalog: &Catalog, p: u8) -> u8
     requires { p < length catalog.now.projections }
     ensures { result ≡ first_sort catalog.now p }
 {
-    sort_of(catalog, p)[0]
+    catalog.sort_columns(u16::from(p))[0]
 }
 
 /// The cuts of a projection.

@@ -262,6 +262,16 @@ texts_at_more xs places i x h there =
     ∙ sym (flat_map_more (λ place. take 1 (drop place xs)) [] (take i places) (get_or places i 0))
     ∙ ap (λ r. texts_at xs (take i places) ++ r) (one_at xs (get_or places i 0) x there)
 
+-- one text more adds its bytes
+pub size_at_more : (xs : List (List ℕ)) (places : List ℕ) (i : ℕ) (t : List ℕ) → i < length places → slice_get xs (get_or places i 0) ≡ Some t
+    → length (concat (texts_at xs (take (i + 1) places))) ≡ length (concat (texts_at xs (take i places))) + length t
+size_at_more xs places i t h there =
+    let before = texts_at xs (take i places) in
+    ap (λ ts. length (concat ts)) (texts_at_more xs places i t h there)
+    ∙ ap length (concat-append before (t ∷ []))
+    ∙ length-append (concat before) (concat (t ∷ []))
+    ∙ ap (λ s. length (concat before) + length s) (append-nil t)
+
 pub texts_at_mapped : {X Y : Type 0} (f : X → Y) (xs : List X) (places : List ℕ) → map f (texts_at xs places) ≡ texts_at (map f xs) places
 texts_at_mapped f xs [] = refl
 texts_at_mapped f xs (place ∷ places) =

@@ -8,6 +8,7 @@ pub mod CellLemmas
 pub mod LossLemmas
 pub mod NameLemmas
 pub mod SiteLemmas
+pub mod SortColumns
 pub mod ColumnNames
 pub mod Covering
 pub mod Widths

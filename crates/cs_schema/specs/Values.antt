@@ -1,7 +1,8 @@
 -- Cells, their kinds and their order.
-use Rattle.std.specs.Prelude.{◌≡◌, ◌≤◌, Bool, true, List, map, length, FitsSigned}
+use Rattle.std.specs.Prelude.{◌≡◌, ℕ, ◌≤◌, Bool, true, List, map, length, FitsSigned}
 use Rattle.std.specs.Ordering.{is_eq, is_le, int_cmp, nat_cmp}
 use Rattle.std.specs.Cmp.Lexicographic.{slice_cmp}
+use Rattle.std.specs.List.{concat}
 use Rattle.std.specs.Str.{IsUtf8}
 use Rattle.std.specs.Int.{w64}
 use Rattle.std.specs.declared.cmp.Ordering.{Ordering}
@@ -46,3 +47,8 @@ values (Cells.Texts texts) = map Value.Text texts
 abbrev pub kind_of : Cells → Kind
 kind_of (Cells.Ints ints) = Kind.Int
 kind_of (Cells.Texts texts) = Kind.Text
+
+-- the bytes of all their texts
+abbrev pub text_size : Cells → ℕ
+text_size (Cells.Ints ints) = 0
+text_size (Cells.Texts texts) = length (concat texts)

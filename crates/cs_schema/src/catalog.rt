@@ -2,6 +2,7 @@
 ghost use Rattle.std.specs.Prelude.{◌≡◌, ◌++◌, ◌∷◌, map, OnOk};
 ghost use Rattle.cs_schema.specs.declared.file_name.FileName.{FileName};
 
+use crate::limits::{NAME_BYTES, SITES};
 use crate::{Cells, Code, FileName, Kind, Loss, Safety, Value};
 use arrayvec::ArrayString;
 use std::alloc::{AllocError, Global};
@@ -10,7 +11,7 @@ use std::marker::Model;
 /// A column of the table.
 #[derive(Drop)]
 pub struct Column {
-    pub name: ArrayString<32>,
+    pub name: ArrayString<{ NAME_BYTES }>,
     pub kind: Kind,
 }
 
@@ -27,7 +28,7 @@ impl Model for Column {
 /// Columns and sort columns are given by their numbers in the table, joins by the numbers of their target projections.
 #[derive(Drop)]
 pub struct Projection {
-    pub name: ArrayString<32>,
+    pub name: ArrayString<{ NAME_BYTES }>,
     pub columns: Vec<u8>,
     pub codes: Vec<Code>,
     pub sort: Vec<u8>,
@@ -56,7 +57,7 @@ impl Model for Projection {
 /// The catalog of a store.
 #[derive(Drop)]
 pub struct Catalog {
-    pub table: ArrayString<32>,
+    pub table: ArrayString<{ NAME_BYTES }>,
     pub key: u8,
     pub sites: u8,
     pub safety: Safety,
@@ -159,7 +160,7 @@ impl Catalog {
         if loss.count() == 0 {
             return true;
         }
-        for site in self.sites + 1..17 {
+        for site in self.sites + 1..SITES + 1 {
             if loss.has(site) {
                 return false;
             }
@@ -215,7 +216,7 @@ impl Catalog {
         requires segment { s < segments self.now p }
         ensures { result ≡ lost self.now loss p s }
     {
-        loss.has(self.projection(p).sites[s as usize])
+        loss.has(self.site(p, s))
     }
 
     /// The names of the files that survive a loss, ascending.

@@ -4,6 +4,7 @@
 //! segment that the layers above use, with their laws (`laws`).
 #![tactic(auto)]
 
+mod appending;
 mod catalog;
 mod cells;
 mod ends;
@@ -11,6 +12,8 @@ mod file_name;
 mod ints;
 mod kinds;
 pub mod laws;
+pub mod limits;
+mod lookups;
 mod loss;
 pub mod samples;
 mod texts;

@@ -1,4 +1,5 @@
 //! A loss of sites.
+use crate::limits::SITES;
 use std::fmt;
 use std::marker::Model;
 
@@ -100,7 +101,7 @@ impl Eq for Loss {
 impl fmt::Display for Loss {
     fn fmt<W: fmt::Write>(&self, f: &mut fmt::Formatter<W>) -> fmt::Result {
         let mut first = true;
-        for site in 1..17u8 {
+        for site in 1..SITES + 1 {
             if self.has(site) {
                 if !first {
                     f.write_str(",")?;

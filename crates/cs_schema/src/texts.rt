@@ -1,5 +1,6 @@
 //! A column of texts as one block of bytes and the offset at which each text ends (as in Arrow's string arrays).
-ghost use Rattle.std.specs.Prelude.{◌≡◌, ◌==◌, ◌-◌, ◌<◌, ◌≤◌, [], ◌∷◌, ◌++◌, ℕ, length, take, drop, slice_get, slice_index, Some, IsUtf8, OnOk, OnErr, IsTrue, ◌↔◌};
+ghost use Rattle.std.specs.Prelude.{◌≡◌, ◌==◌, ◌↔◌, ◌-◌, ◌<◌, ◌≤◌, [], ◌∷◌, ◌++◌, ℕ, length, take, drop};
+ghost use Rattle.std.specs.Prelude.{slice_get, slice_index, Some, IsUtf8, OnOk, OnErr, IsTrue};
 ghost use Rattle.std.specs.List.{concat};
 ghost use Rattle.std.specs.Option.{option_cmp};
 ghost use Rattle.std.specs.Ordering.{nat_cmp};
@@ -218,6 +219,7 @@ impl Texts {
     /// read waits for another.
     pub fn size_at(&self, places: &[u32]) -> usize
         requires { (k : ℕ) → k < length places.now → slice_index places.now k < length self.now }
+        ensures { result ≤ length (concat (texts_at self.now places.now)) }
     {
         let mut size: usize = 0;
         for place in places {

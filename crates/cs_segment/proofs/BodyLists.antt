@@ -1,4 +1,4 @@
--- The bodies of a segment's columns: no bytes have two lists of them, and they are the texts of its columns.
+-- The bodies of a segment's columns: bytes have at most one list of them, and each encodes its column.
 use Rattle.std.proofs.Common.{◌≡◌, ◌≢◌, ◌⊎◌, inl, inr, eqb, true, false, ℕ, zero, suc, ◌+◌, ◌-◌, ◌^◌, ◌<◌, ◌≤◌, List, [], ◌∷◌, ◌++◌, map, length, get_or, refl, sym, ap, subst, ◌∙◌, arith, append_assoc, add-zero}
 use Rattle.std.specs.List.{range_with_len}
 use Rattle.std.proofs.lemmas.Bool.Decides.{eqb_tells}
@@ -21,9 +21,9 @@ use Rattle.cs_segment.proofs.Numbers.{same_fronts, be32_begins}
 abbrev head : Code → Kind → List ℕ
 head code kind = code_number code ∷ kind_number kind ∷ []
 
--- ---- one body at the front of bytes
+-- ---- the first body
 
--- two bodies of one code and kind at the front of one text are one, and are followed by the same
+-- a code and a kind fix the first body in the bytes, and what follows it
 pub one_body : (code : Code) (kind : Kind) (a b x y : List ℕ) → length a < 2 ^ 32 → length b < 2 ^ 32 → body_part code kind a ++ x ≡ body_part code kind b ++ y → (a ≡ b) × (x ≡ y)
 one_body code kind a b x y la lb e =
     let behind : be32 (length a) ++ (a ++ x) ≡ be32 (length b) ++ (b ++ y) = append_cancel_left (head code kind) (be32 (length a) ++ (a ++ x)) (be32 (length b) ++ (b ++ y)) e in
@@ -32,7 +32,7 @@ one_body code kind a b x y la lb e =
 
 -- ---- all bodies
 
--- the bodies of others begin with these, and `rest` is what remains of them
+-- `rest` is the parts of `count` further columns, the first of which has number j
 record BodiesGoOn (C : CatalogData) (p j count : ℕ) (rest : List ℕ) : Type 0 where
   pub tail : List (List ℕ)
   pub text : rest ≡ bodies_text C p j tail
@@ -66,7 +66,7 @@ pub short_more : (done : List (List ℕ)) (body : List ℕ) → AreShort done �
 short_more [] body h l = (l, tt)
 short_more (b ∷ done) body h l = (h.0, short_more done body h.1 l)
 
--- some column's body stands next where there are more columns
+-- a column that is not the last is followed by the part of the next one
 pub body_refused : (C : CatalogData) (p j : ℕ) (bytes rest : List ℕ) (done bodies : List (List ℕ)) → bytes ≡ bodies_text C p 0 done ++ rest → length done ≡ j → AreShort done → AreBodies C p bytes bodies → j < length (projection C p).columns
     → ((body after : List ℕ) → BeginsWithBody (code_at C p j) (kind_at C p j) rest body after → ⊥) → ⊥
 body_refused C p j bytes rest done bodies e l hd h lt none =
@@ -98,7 +98,7 @@ one_list C p j (b ∷ bs) (c ∷ cs) l hb hc e =
 
 -- ---- the columns of bodies
 
--- the bodies of columns, from number j on
+-- the bodies of these columns, the first of which has number j
 abbrev texts_of : CatalogData → ℕ → ℕ → List (List Value) → List (List ℕ)
 texts_of C p j [] = []
 texts_of C p j (v ∷ vs) = column_text (code_at C p j) v ∷ texts_of C p (j + 1) vs
@@ -115,7 +115,7 @@ short_texts : (C : CatalogData) (p rows j : ℕ) (vs : List (List Value)) → Al
 short_texts C p rows j [] h = tt
 short_texts C p rows j (v ∷ vs) h = (column_texts_are_short (code_at C p j) (kind_at C p j) v h.0.fits, short_texts C p rows (j + 1) vs h.1)
 
--- the parts of columns are those of their texts
+-- the parts of columns are the parts of their bodies
 pub bodies_of_parts : (C : CatalogData) (p rows : ℕ) (bytes : List ℕ) (vs : List (List Value)) → AreParts C p bytes rows vs → AreBodies C p bytes (texts_of C p 0 vs)
 bodies_of_parts C p rows bytes vs h = record {
   text = h.text ∙ sym (texts_are C p 0 vs);
@@ -133,7 +133,7 @@ column_at C p rows a (v ∷ vs) h (suc k) l =
     let e : (a + 1) + k ≡ a + suc k = omega arith in
     subst Q e (column_at C p rows (a + 1) vs h.1 k (omega arith))
 
--- a body that is that of no column stands in the file of no segment
+-- no segment's file has a body that is that of no column
 pub column_refused : (C : CatalogData) (p rows : ℕ) (bytes : List ℕ) (bodies : List (List ℕ)) (vs : List (List Value)) → AreBodies C p bytes bodies → AreParts C p bytes rows vs → NoColumnIn C p rows bodies → ⊥
 column_refused C p rows bytes bodies vs h parts n =
     let there = bodies_of_parts C p rows bytes vs parts in
@@ -144,7 +144,7 @@ column_refused C p rows bytes bodies vs h parts n =
     let R : List (List ℕ) → Type 0 = λ bs. IsColumnOf (code_at C p n.j) (kind_at C p n.j) (get_or bs n.j []) rows (get_or vs n.j []) in
     n.none (get_or vs n.j []) (subst R (sym same) (subst Q place (column_at C p rows 0 vs parts.columns_are n.j few)))
 
--- the columns of bodies, from number a on
+-- the columns of these bodies, the first of which has number a
 record Columns (C : CatalogData) (p rows a : ℕ) (bodies : List (List ℕ)) (columns : List Cells) : Type 0 where
   pub text : bodies_text C p a bodies ≡ parts_text C p a (map values columns)
   pub columns_are : AllFrom (IsColumnAt C p rows) a (map values columns)
@@ -175,7 +175,7 @@ module _ (C : CatalogData) (p rows : ℕ) (bodies : List (List ℕ)) (columns : 
   all : Columns C p rows 0 bodies columns
   all = columns_from C p rows 0 bodies columns h.width (λ k d l. let Q : ℕ → Type 0 = λ n. IsColumnIn C p rows n (get_or bodies k []) (get_or columns k d) in let e : k ≡ 0 + k = omega arith in subst Q e (h.each k d l))
 
-  -- the columns of a file's bodies are those of its parts
+  -- the columns that the bodies encode have the bytes as their parts
   pub parts_of_bodies : (bytes : List ℕ) → AreBodies C p bytes bodies → AreParts C p bytes rows (map values columns)
   parts_of_bodies bytes b = record { text = b.text ∙ all.text; width = length-values ∙ h.width ∙ b.width; columns_are = all.columns_are }
     where
@@ -189,7 +189,7 @@ module _ (C : CatalogData) (p rows : ℕ) (bodies : List (List ℕ)) (columns : 
   pub kinds_of_bodies : (bytes : List ℕ) → AreBodies C p bytes bodies → map kind_of columns ≡ map (kind_at C p) (range_with_len 0 (length (projection C p).columns))
   kinds_of_bodies bytes b = all.kinds ∙ ap (λ n. map (kind_at C p) (range_with_len 0 n)) b.width
 
--- the columns that were read, with one more
+-- one more column has been read
 pub one_more_column : (C : CatalogData) (p rows : ℕ) (bodies : List (List ℕ)) (columns : List Cells) (cells : Cells) (j : ℕ) → length columns ≡ j → ((k : ℕ) (d : Cells) → k < j → IsColumnIn C p rows k (get_or bodies k []) (get_or columns k d)) → IsColumnIn C p rows j (get_or bodies j []) cells
     → (k : ℕ) (d : Cells) → k < j + 1 → IsColumnIn C p rows k (get_or bodies k []) (get_or (columns ++ cells ∷ []) k d)
 one_more_column C p rows bodies columns cells j count each new k d l = go (eqb_tells k j)

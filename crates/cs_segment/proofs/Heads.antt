@@ -1,4 +1,4 @@
--- The head of a segment's file.
+-- The header of a segment's file.
 use Rattle.std.proofs.Common.{◌≡◌, ℕ, ◌+◌, ◌^◌, ◌<◌, ◌≤◌, List, [], ◌++◌, map, length, refl, sym, ap, subst, ◌∙◌, arith}
 use Rattle.std.specs.Prelude.{codes}
 use Rattle.std.proofs.lemmas.List.{append_cancel_left}
@@ -31,7 +31,7 @@ numbers_are n m width rows counted sized after rest e few narrow d ln k lm =
     let columns = be16_begins m width after rest lm (omega arith) (sym k ∙ count.1) in
     (count.0, columns.0)
 
--- one head at the front of one text, followed by the same
+-- bytes have at most one header, and one remainder after it
 pub one_head : (p s width : ℕ) (bytes : List ℕ) (m n : ℕ) (x y : List ℕ) → width ≤ 32 → BeginsWithHead p s width bytes m x → BeginsWithHead p s width bytes n y → (m ≡ n) × (x ≡ y)
 one_head p s width bytes m n x y narrow h k =
     let front : List ℕ = codes "CSSEG001" ++ be16 p ++ be16 s in
@@ -41,7 +41,7 @@ one_head p s width bytes m n x y narrow h k =
     let count = be32_begins m n (be16 width ++ x) (be16 width ++ y) (omega arith) (omega arith) behind in
     (count.0, append_cancel_left (be16 width) x y count.1)
 
--- what a base's file begins with, and what follows
+-- a base's file begins with its header, and the parts of its columns follow
 pub head_of : (C : CatalogData) (p s : ℕ) (b : Base) → IsBase C p b → BeginsWithHead p s (length (projection C p).columns) (segment_body C p s b) b.rows (parts_text C p 0 b.columns)
 head_of C p s b h = record {
   text = ap (λ (a : List ℕ). head_text p s b.rows (length b.columns) ++ a) (parts_of C p b) ∙ ap (λ n. head_text p s b.rows n ++ parts_text C p 0 b.columns) h.width;
@@ -79,14 +79,14 @@ pub body_of_parts : (C : CatalogData) (p s : ℕ) (b : Base) (body parts : List 
 body_of_parts C p s b body parts h a =
     h.text ∙ ap (λ n. head_text p s b.rows n ++ parts) (sym a.width) ∙ ap (λ (t : List ℕ). head_text p s b.rows (length b.columns) ++ t) (a.text ∙ sym (parts_of C p b))
 
--- the head of the body that a base's file has
+-- the header of a base's file, without its digest
 pub file_head : (C : CatalogData) (p s width : ℕ) (bytes body : List ℕ) (b : Base) → bytes ≡ sealed body → width ≡ length (projection C p).columns → IsSegmentFile C p s bytes b → BeginsWithHead p s width body b.rows (parts_text C p 0 b.columns)
 file_head C p s width bytes body b e w file =
     let same : body ≡ segment_body C p s b = sealed_once body (segment_body C p s b) (sym e ∙ file.text) in
     let h = head_of C p s b file.base in
     record { text = same ∙ h.text ∙ ap (λ n. head_text p s b.rows n ++ parts_text C p 0 b.columns) (sym w); count = h.count }
 
--- the parts that were found are those of the base
+-- the bytes after the header are the parts of the base's columns
 pub file_parts : (C : CatalogData) (p s width : ℕ) (bytes body parts : List ℕ) (rows : ℕ) (b : Base) → width ≤ 32 → bytes ≡ sealed body → width ≡ length (projection C p).columns → BeginsWithHead p s width body rows parts → IsSegmentFile C p s bytes b → AreParts C p parts rows b.columns
 file_parts C p s width bytes body parts rows b narrow e w h file =
     let same = one_head p s width body b.rows rows (parts_text C p 0 b.columns) parts narrow (file_head C p s width bytes body b e w file) h in
@@ -100,10 +100,10 @@ file_found C p s width bytes body parts b e w h a = record {
   text = e ∙ ap sealed (body_of_parts C p s b body parts (record { text = h.text ∙ ap (λ n. head_text p s b.rows n ++ parts) w; count = h.count }) a);
 }
 
--- ---- what stands before the digest
+-- ---- a file without its digest
 
 module _ (C : CatalogData) (p s width : ℕ) (front : List ℕ) (narrow : width ≤ 32) (is : width ≡ length (projection C p).columns) where
-  -- one head, whoever reads it
+  -- two readings find the same header
   same_head : (m n : ℕ) (x y : List ℕ) → BeginsWithHead p s width front m x → BeginsWithHead p s (length (projection C p).columns) front n y → (m ≡ n) × (x ≡ y)
   same_head m n x y h k = one_head p s width front m n x y narrow h (let Q : ℕ → Type 0 = λ w. BeginsWithHead p s w front n y in subst Q (sym is) k)
 

@@ -1,10 +1,10 @@
--- Numbers at the front of bytes.
+-- Numbers at the start of bytes.
 use Rattle.std.proofs.Common.{◌≡◌, ℕ, ◌^◌, ◌<◌, List, [], ◌∷◌, ◌++◌, length, refl, sym, ap, ◌∙◌, arith}
 use Rattle.std.specs.Int.{w16, w32, from_be_bytes}
 use Rattle.std.proofs.lemmas.Nat.{from_be_bytes-to_be_bytes_2, from_be_bytes-to_be_bytes_4}
 use Rattle.cs_segment.specs.Bytes.{be16, be32}
 
--- two lists that begin with as much, and are one
+-- equal lists have equal prefixes of equal length, and equal remainders
 pub same_fronts : {X : Type 0} (a b x y : List X) → length a ≡ length b → a ++ x ≡ b ++ y → (a ≡ b) × (x ≡ y)
 same_fronts [] [] x y l e = (refl, e)
 same_fronts [] (d ∷ b) x y l e = absurd cc

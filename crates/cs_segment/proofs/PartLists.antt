@@ -45,7 +45,7 @@ parts_text-push C p j (w ∷ vs) v =
     ap (λ (a : List ℕ). part_text (code_at C p j) (kind_at C p j) w ++ a) (parts_text-push C p (j + 1) vs v ∙ ap (λ n. parts_text C p (j + 1) vs ++ part_text (code_at C p n) (kind_at C p n) v) e)
     ∙ sym (append_assoc (part_text (code_at C p j) (kind_at C p j) w) (parts_text C p (j + 1) vs) (part_text (code_at C p (j + length (w ∷ vs))) (kind_at C p (j + length (w ∷ vs))) v))
 
--- two parts of one code and kind at the front of one text have one text, and are followed by the same
+-- a code and a kind fix the body of the first part in the bytes, and what follows it
 pub one_part : (code : Code) (kind : Kind) (v w : List Value) (x y : List ℕ) → FitsColumn code kind v → FitsColumn code kind w → part_text code kind v ++ x ≡ part_text code kind w ++ y → (column_text code v ≡ column_text code w) × (x ≡ y)
 one_part code kind v w x y hv hw e = one_body code kind (column_text code v) (column_text code w) x y (column_texts_are_short code kind v hv) (column_texts_are_short code kind w hw) e
 

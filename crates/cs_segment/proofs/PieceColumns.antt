@@ -30,7 +30,7 @@ parts_more C p b j l =
     let place : 0 + length (take j b.columns) ≡ j = omega (arith, length-take j b.columns) in
     ap (parts_text C p 0) (take_more b.columns j [] l) ∙ parts_text-push C p 0 (take j b.columns) (base_column b j) ∙ ap (λ n. parts_text C p 0 (take j b.columns) ++ part_text (code_at C p n) (kind_at C p n) (base_column b j)) place
 
--- ---- the text of a base's file, as it grows
+-- ---- the bytes of a base's file while it is written
 
 pub text_begun : (C : CatalogData) (p s rows : ℕ) (b : Base) (out : List ℕ) → b.rows ≡ rows → out ≡ head_text p s rows (length (projection C p).columns) → out ≡ text_before C p s b 0
 text_begun C p s rows b out r e =
@@ -48,7 +48,7 @@ text_whole C p s b j out h l e =
     e ∙ ap (λ (cs : List (List Value)). head_text p s b.rows (length (projection C p).columns) ++ parts_text C p 0 cs) (take_all j b.columns l)
     ∙ sym (head_of C p s b h).text
 
--- what was sealed is the file of each base of whose text it is the body
+-- the sealed bytes are the file of each base whose pieces were written
 pub file_made : {V E : Type 0} (items : V → List ℕ) (C : CatalogData) (p s rows j : ℕ) (pieces : List Piece) (r : Result V E) (body : List ℕ) → IfOk r (λ out. items out ≡ sealed body) → length pieces ≤ j → ((b : Base) → ArePiecesOf C p rows pieces b → body ≡ text_before C p s b j)
     → IfOk r (λ out. (b : Base) → ArePiecesOf C p rows pieces b → items out ≡ segment_text C p s b)
 file_made items C p s rows j pieces (Ok out) body h l e = λ b a. let wide = a.width in h ∙ ap sealed (text_whole C p s b j body a.base (omega arith) (e b a))

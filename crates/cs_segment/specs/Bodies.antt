@@ -1,4 +1,4 @@
--- The bodies of a segment's columns, as they stand in its file.
+-- The bodies of a segment's columns in its file, and reading them.
 use Rattle.std.specs.Prelude.{◌≡◌, ℕ, ◌+◌, ◌-◌, ◌^◌, ◌<◌, ◌≤◌, List, [], ◌∷◌, ◌++◌, map, length, slice_index_or, take, Vec, Bool, false, IsTrue, Result, Err, IfOk}
 use Rattle.cs_schema.specs.declared.cells.Cells.{Cells}
 use Rattle.cs_schema.specs.declared.kinds.Kind.{Kind}
@@ -15,20 +15,20 @@ use Rattle.cs_segment.specs.SegmentFile.{code_number, kind_number, sealed}
 use Rattle.cs_segment.specs.SegmentData.{kinds_at}
 use Rattle.cs_segment.specs.Parts.{BeginsWithHead, AreParts}
 
--- what stands before a column's body: its code and kind, and how many bytes the body has
+-- a column's header: its code, its kind, and the number of bytes of its body
 abbrev pub part_front : Code → Kind → ℕ → List ℕ
 part_front code kind count = code_number code ∷ kind_number kind ∷ be32 count
 
--- a column's part: what stands before its body, and the body
+-- a column's part of the file: its header and its body
 abbrev pub body_part : Code → Kind → List ℕ → List ℕ
 body_part code kind body = part_front code kind (length body) ++ body
 
--- the bytes begin with the part of a column of this body
+-- the bytes are the part of a column with this body, then `rest`
 pub record BeginsWithBody (code : Code) (kind : Kind) (bytes body rest : List ℕ) : Type 0 where
   pub text : bytes ≡ body_part code kind body ++ rest
   pub short : length body < 2 ^ 32
 
--- the parts of columns of these bodies, from number j on
+-- the parts of columns with these bodies, the first of which has number j
 abbrev pub bodies_text : CatalogData → ℕ → ℕ → List (List ℕ) → List ℕ
 bodies_text C p j [] = []
 bodies_text C p j (b ∷ bs) = body_part (code_at C p j) (kind_at C p j) b ++ bodies_text C p (j + 1) bs
@@ -37,68 +37,68 @@ abbrev pub AreShort : List (List ℕ) → Type 0
 AreShort [] = Unit {0}
 AreShort (b ∷ bs) = (length b < 2 ^ 32) × AreShort bs
 
--- the bytes are the parts of a projection's columns, whose bodies these are
+-- the bytes are the parts of a projection's columns, which have these bodies
 pub record AreBodies (C : CatalogData) (p : ℕ) (bytes : List ℕ) (bodies : List (List ℕ)) : Type 0 where
   pub text : bytes ≡ bodies_text C p 0 bodies
   pub width : length bodies ≡ length (projection C p).columns
   pub short : AreShort bodies
 
--- the cells are the column of this number and body, of so many rows
+-- the cells are column j, which has this body and this many rows
 pub record IsColumnIn (C : CatalogData) (p rows j : ℕ) (body : List ℕ) (cells : Cells) : Type 0 where
   pub kind_is : kind_of cells ≡ kind_at C p j
   pub column_is : IsColumnOf (code_at C p j) (kind_at C p j) body rows (values cells)
 
--- the cells are the columns of these bodies
+-- the columns are those of these bodies
 pub record AreColumnsIn (C : CatalogData) (p rows : ℕ) (bodies : List (List ℕ)) (columns : List Cells) : Type 0 where
   pub width : length columns ≡ length bodies
   pub each : (j : ℕ) (d : Cells) → j < length bodies → IsColumnIn C p rows j (slice_index_or bodies j []) (slice_index_or columns j d)
 
--- what the reading of the body of this number gives
+-- what reading the j-th body gives
 pub record IsReadAt (C : CatalogData) (p rows : ℕ) (bodies : List (List ℕ)) (j : ℕ) (result : Result Cells FileFault) : Type 0 where
   pub found : IfOk result (IsColumnIn C p rows j (slice_index_or bodies j []))
   pub refused : result ≡ Err FileFault.Damaged → NoColumn (code_at C p j) (kind_at C p j) (slice_index_or bodies j []) rows
 
--- the cells are the columns of the first bodies, so many
+-- the columns are those of the first `count` bodies
 pub record AreFirstIn (C : CatalogData) (p rows : ℕ) (bodies : List (List ℕ)) (count : ℕ) (columns : List Cells) : Type 0 where
   pub count_is : length columns ≡ count
   pub each : (j : ℕ) (d : Cells) → j < count → IsColumnIn C p rows j (slice_index_or bodies j []) (slice_index_or columns j d)
 
--- one of the bodies is that of no column
+-- some body, the j-th, is that of no column
 pub record NoColumnIn (C : CatalogData) (p rows : ℕ) (bodies : List (List ℕ)) : Type 0 where
   pub j : ℕ
   pub within : j < length bodies
   pub none : NoColumn (code_at C p j) (kind_at C p j) (slice_index_or bodies j []) rows
 
--- what stands in a file before its digest is the head of so many rows, and the parts of columns of these bodies
+-- `front`, a file without its digest, is the header of this many rows and the parts of columns with these bodies
 pub record HoldsBodies (C : CatalogData) (p s : ℕ) (front : List ℕ) (rows : ℕ) (bodies : List (List ℕ)) : Type 0 where
   pub parts : List ℕ
   pub head : BeginsWithHead p s (length (projection C p).columns) front rows parts
   pub bodies_are : AreBodies C p parts bodies
   pub narrow : length (projection C p).columns ≤ 32
 
--- it is the head of so many rows, and the parts of these columns
+-- `front` is the header of this many rows and the parts of these columns
 pub record HoldsColumns (C : CatalogData) (p s : ℕ) (front : List ℕ) (rows : ℕ) (columns : List Cells) : Type 0 where
   pub parts : List ℕ
   pub head : BeginsWithHead p s (length (projection C p).columns) front rows parts
   pub parts_are : AreParts C p parts rows (map values columns)
   pub kinds : map kind_of columns ≡ kinds_at C p
 
--- it is that of no columns
+-- no columns give `front`: it is not a header followed by the parts of a projection's columns
 abbrev pub HoldsNone : CatalogData → ℕ → ℕ → List ℕ → Type 0
 HoldsNone C p s front = (rows : ℕ) (parts : List ℕ) (columns : List (List Value)) → BeginsWithHead p s (length (projection C p).columns) front rows parts → AreParts C p parts rows columns → ⊥
 
--- what the reading of the first bodies gives
+-- what reading the first `count` bodies gives
 pub record AreFirstRead (C : CatalogData) (p rows : ℕ) (bodies : List (List ℕ)) (count : ℕ) (result : Result (Vec Cells Global) FileFault) : Type 0 where
   pub found : IfOk result (λ columns. AreFirstIn C p rows bodies count columns.items)
   pub refused : result ≡ Err FileFault.Damaged → NoColumnIn C p rows bodies
 
--- what the reading of what stands before the digest gives
+-- what reading a file without its digest gives
 pub record AreReadOf (C : CatalogData) (p s : ℕ) (front : List ℕ) (result : Result (ℕ × Vec Cells Global) FileFault) : Type 0 where
   pub found : IfOk result (λ r. HoldsColumns C p s front r.0 r.1.items)
   pub refused : result ≡ Err FileFault.Damaged → HoldsNone C p s front
   pub rules : IsCatalog C
 
--- bytes are all but the digest, and their digest, or no sealed text
+-- whether the bytes end with the digest of the bytes before it
 pub record IsSealed (bytes : List ℕ) (result : Bool) : Type 0 where
   pub found : IsTrue result → bytes ≡ sealed (take (length bytes - 32) bytes)
   pub none : result ≡ false → (body : List ℕ) → bytes ≡ sealed body → ⊥

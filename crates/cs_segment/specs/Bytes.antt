@@ -1,4 +1,4 @@
--- Numbers in files: unsigned, the highest byte first.
+-- Numbers in files: unsigned and big-endian.
 use Rattle.std.specs.Prelude.{ℕ, List}
 use Rattle.std.specs.Int.{w16, w32, to_be_bytes}
 

@@ -1,4 +1,4 @@
--- What a segment is to its callers.
+-- A segment as plain data.
 use Rattle.std.specs.Prelude.{◌≡◌, ℕ, List, map, length}
 use Rattle.cs_schema.specs.declared.kinds.Kind.{Kind}
 use Rattle.cs_schema.specs.CatalogData.{CatalogData, projection}

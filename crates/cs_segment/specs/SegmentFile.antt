@@ -1,4 +1,4 @@
--- Sealed texts, and the files of segments.
+-- Sealed files, and the files of segments.
 use Rattle.std.specs.Prelude.{◌≡◌, ℕ, ◌<◌, ◌≤◌, List, [], ◌∷◌, ◌++◌, map, length, slice_index_or, codes}
 use Rattle.std.specs.List.{concat}
 use Rattle.sha2.specs.Sha256.{sha256}
@@ -12,11 +12,11 @@ use Rattle.cs_schema.specs.Order.{row_limit}
 use Rattle.cs_codec.specs.ColumnText.{column_text, FitsColumn}
 use Rattle.cs_segment.specs.Bytes.{be16, be32}
 
--- x and its SHA-256 digest (FIPS 180-4)
+-- x, followed by its SHA-256 digest (FIPS 180-4)
 abbrev pub sealed : List ℕ → List ℕ
 sealed x = x ++ sha256 x
 
--- The base of a segment: its number of rows, and its columns in the projection's order.
+-- the base of a segment: its number of rows, and its columns in the projection's order
 pub record Base : Type 0 where
   pub rows : ℕ
   pub columns : List (List Value)
@@ -38,7 +38,7 @@ abbrev pub kind_number : Kind → ℕ
 kind_number Kind.Int = 1
 kind_number Kind.Text = 2
 
--- the base has the projection's columns, each of its number of rows and fit for its code
+-- the base has the projection's columns, each with one cell a row and fit for its code
 pub record IsBase (C : CatalogData) (p : ℕ) (b : Base) : Type 0 where
   pub count : b.rows ≤ row_limit
   pub width : length b.columns ≡ length (projection C p).columns
@@ -50,18 +50,18 @@ column_part C p b j =
     let body : List ℕ = column_text (code_at C p j) (base_column b j) in
     code_number (code_at C p j) ∷ kind_number (kind_at C p j) ∷ be32 (length body) ++ body
 
--- what stands in a segment's file before the digest
+-- a segment's file without its digest
 abbrev pub segment_body : CatalogData → ℕ → ℕ → Base → List ℕ
 segment_body C p s b = codes "CSSEG001" ++ be16 p ++ be16 s ++ be32 b.rows ++ be16 (length b.columns) ++ concat (map (column_part C p b) (numbers_below (length b.columns)))
 
 abbrev pub segment_text : CatalogData → ℕ → ℕ → Base → List ℕ
 segment_text C p s b = sealed (segment_body C p s b)
 
--- the bytes are the segment file of this base
+-- the bytes are the file of this base
 pub record IsSegmentFile (C : CatalogData) (p s : ℕ) (bytes : List ℕ) (b : Base) : Type 0 where
   pub base : IsBase C p b
   pub text : bytes ≡ segment_text C p s b
 
--- the base of a list of projected rows
+-- the base that has these projected rows, in this order
 abbrev pub base_of : CatalogData → ℕ → List (List Value) → Base
 base_of C p xs = record { rows = length xs; columns = map (λ j. map (λ x. cell x j) xs) (numbers_below (length (projection C p).columns)) }

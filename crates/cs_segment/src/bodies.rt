@@ -1,4 +1,4 @@
-//! The bodies of a segment's columns: where each stands in a file, and its cells.
+//! Finding and decoding the columns of a segment's file.
 ghost use Rattle.std.specs.Prelude.{◌≡◌, ℕ, ◌<◌, ◌≤◌, List, map, length, IfOk, IfSome, IfNone};
 ghost use Rattle.cs_schema.specs.CatalogData.{projection, code_at, kind_at};
 ghost use Rattle.cs_piece.specs.Columns.{NoColumn};
@@ -6,13 +6,14 @@ ghost use Rattle.cs_segment.specs.Bodies.{BeginsWithBody, AreBodies, IsColumnIn}
 
 use crate::bytes::{after, number, parts};
 use crate::fault::FileFault;
-use crate::segment::{code_number, kind_number};
+use crate::format::{code_number, kind_number};
 use cs_codec::CodecFault;
 use cs_piece::read_column;
 use cs_schema::{Catalog, Cells, Code, Kind};
 use std::alloc::Global;
 
-/// The body of the column at the front of some bytes, and what follows.
+/// Splits the bytes into the body of a column and what follows it. `None` if they do not start with a column of this
+/// encoding and kind.
 fn body_of(code: Code, kind: Kind, bytes: &[u8]) -> Option<(&[u8], &[u8])>
     ensures found { IfSome result (λ r. BeginsWithBody code kind bytes.now r.0.now r.1.now) }
     ensures none { IfNone result ((body rest : List ℕ) → BeginsWithBody code kind bytes.now body rest → ⊥) }
@@ -27,7 +28,8 @@ fn body_of(code: Code, kind: Kind, bytes: &[u8]) -> Option<(&[u8], &[u8])>
     parts(text, len as usize)
 }
 
-/// The bodies of a projection's columns, of which the bytes are the parts.
+/// Finds the bodies of a projection's columns. The bytes have to be the columns one after the other, each with its
+/// header, and nothing else; `Damaged` if they are not.
 pub fn find_bodies<'a>(
     alloc: Global,
     catalog: &Catalog,
@@ -54,7 +56,8 @@ pub fn find_bodies<'a>(
     Ok(bodies)
 }
 
-/// The cells of a projection's column, of which this is the body.
+/// Decodes the body of the `j`-th column of projection `p` into `rows` cells. `Damaged` if no column of this kind and
+/// length has this body.
 pub fn read_body(
     alloc: Global,
     catalog: &Catalog,

@@ -1,8 +1,8 @@
-//! What stands at the front of some bytes.
+//! Reading from the start of a slice of bytes.
 ghost use Rattle.std.specs.Prelude.{◌≡◌, ℕ, ◌<◌, ◌^◌, ◌≤◌, List, ◌++◌, ◌∷◌, length, IfSome, IfNone};
 ghost use Rattle.cs_segment.specs.Bytes.{be16, be32};
 
-/// What follows a given front.
+/// The bytes after this prefix. `None` if they do not start with it.
 pub fn after<'a>(bytes: &'a [u8], front: &[u8]) -> Option<&'a [u8]>
     ensures found { IfSome result (λ rest. bytes.now ≡ front.now ++ rest.now) }
     ensures none { IfNone result ((rest : List ℕ) → bytes.now ≡ front.now ++ rest → ⊥) }
@@ -10,7 +10,7 @@ pub fn after<'a>(bytes: &'a [u8], front: &[u8]) -> Option<&'a [u8]>
     bytes.strip_prefix(front)
 }
 
-/// The number in the first four bytes, and what follows.
+/// The big-endian number in the first four bytes, and the bytes after it. `None` if there are fewer than four.
 pub fn number(bytes: &[u8]) -> Option<(u32, &[u8])>
     ensures found { IfSome result (λ r. (bytes.now ≡ be32 r.0 ++ r.1.now) × (r.0 < 2 ^ 32)) }
     ensures none { IfNone result (length bytes.now < 4) }
@@ -25,7 +25,7 @@ pub fn number(bytes: &[u8]) -> Option<(u32, &[u8])>
     ))
 }
 
-/// The first bytes, and what follows.
+/// The first `len` bytes, and the bytes after them. `None` if there are fewer.
 pub fn parts(bytes: &[u8], len: usize) -> Option<(&[u8], &[u8])>
     ensures found { IfSome result (λ r. (bytes.now ≡ r.0.now ++ r.1.now) × (length r.0.now ≡ len)) }
     ensures none { IfNone result (length bytes.now < len) }
@@ -36,7 +36,7 @@ pub fn parts(bytes: &[u8], len: usize) -> Option<(&[u8], &[u8])>
     Some(bytes.split_at(len))
 }
 
-/// The number in the first two bytes, and what follows.
+/// The big-endian number in the first two bytes, and the bytes after it. `None` if there are fewer than two.
 pub fn short(bytes: &[u8]) -> Option<(u16, &[u8])>
     ensures found { IfSome result (λ r. (bytes.now ≡ be16 r.0 ++ r.1.now) × (r.0 < 2 ^ 16)) }
     ensures none { IfNone result (length bytes.now < 2) }

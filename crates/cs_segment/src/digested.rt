@@ -1,4 +1,4 @@
-//! A text that grows, with its digest made beside: a digest is a chain, so it takes what comes while that is put.
+//! A buffer that is hashed while it is appended to.
 ghost use Rattle.std.specs.Prelude.{◌≡◌, ◌++◌, ℕ, List, IfOk, OnOk};
 ghost use Rattle.cs_segment.specs.SegmentFile.{sealed};
 ghost use Rattle.cs_digests.specs.Growing.{HasTaken, HasTakenAll};
@@ -9,10 +9,10 @@ use std::alloc::AllocError;
 use std::marker::Model;
 use std::thread::{Threads, join_mut};
 
-/// How many bytes are worth the start of a thread.
+/// The smallest number of appended bytes for which a thread is started.
 const WORTH_THREADS: usize = 65_536;
 
-/// What stands there so far.
+/// Bytes, and the unfinished digest of some of the first of them.
 #[derive(Drop)]
 pub struct DigestedText {
     text: Vec<u8>,
@@ -31,7 +31,8 @@ impl Model for DigestedText {
     ghost invariant = { IsDigested };
 }
 
-/// Puts bytes at the end of a text while its digest takes them, and what was left.
+/// Appends bytes and hashes them at the same time, after hashing what the buffer already has. If memory is refused, the
+/// digest may have taken bytes that the buffer lacks.
 fn extend_both<R: Threads>(
     rt: &R,
     text: &mut Vec<u8>,
@@ -57,7 +58,7 @@ fn extend_both<R: Threads>(
 }
 
 impl DigestedText {
-    /// A text of which the digest has taken nothing.
+    /// A buffer with these bytes, none of which is hashed yet.
     pub fn new(text: Vec<u8>) -> Self
         ensures { result ≡ text.items }
     {
@@ -67,21 +68,21 @@ impl DigestedText {
         }
     }
 
-    /// Makes room for so many more bytes, and a digest behind them: while they last, nothing that stands there is copied to grow.
+    /// Reserves room for `bytes` more bytes and the digest, so that appending them does not move the buffer.
     pub fn reserve(&mut self, bytes: usize) -> Result<(), AllocError>
         ensures { self.new ≡ self.old }
     {
         self.text.reserve(bytes.saturating_add(DIGEST))
     }
 
-    /// Puts bytes at the end.
+    /// Appends bytes, to be hashed later.
     pub fn extend(&mut self, bytes: &[u8]) -> Result<(), AllocError>
         ensures { OnOk result (self.new ≡ self.old ++ bytes.now) }
     {
         self.text.extend_from_slice(bytes)
     }
 
-    /// Appends bytes while the digest takes them.
+    /// Appends bytes. 64 KiB or more are hashed at the same time, by a second thread.
     pub fn extend_beside<R: Threads>(&mut self, rt: &R, bytes: &[u8]) -> Result<(), AllocError>
         ensures { OnOk result (self.new ≡ self.old ++ bytes.now) }
     {
@@ -90,20 +91,20 @@ impl DigestedText {
         }
         let put = extend_both(rt, &mut self.text, &mut self.digest, bytes);
         if put.is_err() {
-            // the digest took what does not stand there
+            // the digest may have taken bytes that the buffer lacks
             self.digest = GrowingDigest::new();
         }
         put
     }
 
-    /// Has the digest take all that stands there.
+    /// Hashes all bytes that are not hashed yet.
     pub fn digest_all(&mut self)
         ensures { self.new ≡ self.old }
     {
         self.digest.take_in(&self.text);
     }
 
-    /// The text, and its digest behind it.
+    /// The bytes, followed by their SHA-256 digest.
     pub fn sealed(self) -> Result<Vec<u8>, AllocError>
         ensures { IfOk result (λ out. out.items ≡ sealed self) }
     {

@@ -1,5 +1,5 @@
-//! A segment's file that grows. Columns that need no digest yet wait behind it, so that to put them takes no time.
-ghost use Rattle.std.specs.Prelude.{◌≡◌, ◌++◌, ◌<◌, ◌^◌, ℕ, List, length, IfOk, OnOk};
+//! Writing a segment's file column by column. A column can be queued, to be copied and hashed later.
+ghost use Rattle.std.specs.Prelude.{◌≡◌, ◌++◌, ◌<◌, ◌≤◌, ◌^◌, ℕ, List, length, IfOk, OnOk};
 ghost use Rattle.cs_schema.specs.CatalogData.{projection};
 ghost use Rattle.cs_segment.specs.SegmentFile.{sealed};
 ghost use Rattle.cs_segment.specs.Parts.{head_text};
@@ -7,23 +7,24 @@ ghost use Rattle.cs_segment.specs.Bodies.{body_part, part_front};
 ghost use Rattle.cs_segment.specs.Growing.{joined};
 
 use crate::digested::DigestedText;
-use crate::segment::{code_number, kind_number};
+use crate::format::{code_number, kind_number};
 use cs_schema::{Catalog, Code, Kind};
 use std::alloc::{AllocError, Global};
 use std::marker::Model;
 use std::mem::replace;
 use std::thread::Threads;
 
-/// How many bytes stand before the text of a column.
-const FRONT: usize = 6;
+/// The size of a column's header in bytes.
+const COLUMN_HEADER: usize = 6;
 
-/// What stands in a segment's file so far.
+/// A segment's file while it is written, without its digest. Contracts see its bytes so far, those of queued columns
+/// included.
 #[derive(Drop)]
 pub struct GrowingFile {
     alloc: Global,
-    /// What stands at the front, in one piece.
+    /// The first bytes of the file, in one buffer.
     front: DigestedText,
-    /// What follows it, in pieces.
+    /// The bytes after `front`: the headers and bodies of queued columns.
     waiting: Vec<Vec<u8>>,
 }
 
@@ -37,7 +38,7 @@ impl Model for GrowingFile {
     ghost view = { file_of };
 }
 
-/// The head of a segment's file.
+/// The header of a segment's file.
 fn head_of(
     alloc: Global,
     catalog: &Catalog,
@@ -58,7 +59,7 @@ fn head_of(
     Ok(out)
 }
 
-/// What stands before the text of a column: its code, its kind, and how many bytes the text has.
+/// The header of a column: its encoding, its kind, and the number of bytes of its body.
 fn front_of(alloc: Global, code: Code, kind: Kind, length: usize) -> Result<Vec<u8>, AllocError>
     requires { length < 2 ^ 32 }
     ensures { IfOk result (λ out. out.items ≡ part_front code kind length) }
@@ -70,7 +71,7 @@ fn front_of(alloc: Global, code: Code, kind: Kind, length: usize) -> Result<Vec<
     Ok(out)
 }
 
-/// How many bytes the pieces of a text have together.
+/// The total number of bytes of the pieces.
 fn length_of(text: &[Vec<u8>]) -> usize
     requires { length (joined text.now) < 2 ^ 32 }
     ensures { result ≡ length (joined text.now) }
@@ -82,8 +83,10 @@ fn length_of(text: &[Vec<u8>]) -> usize
     length
 }
 
-/// About how many bytes pieces have together.
-fn room_of(pieces: &[Vec<u8>]) -> usize {
+/// The total number of bytes of the pieces, or `usize::MAX` if there are more.
+fn room_of(pieces: &[Vec<u8>]) -> usize
+    ensures { result ≤ length (joined pieces.now) }
+{
     let mut room: usize = 0;
     for piece in pieces {
         room = room.saturating_add(piece.len());
@@ -91,7 +94,7 @@ fn room_of(pieces: &[Vec<u8>]) -> usize {
     room
 }
 
-/// Puts pieces at the end of a text, one after the other, and has its digest take each. Each is let go of once it is put.
+/// Appends the pieces in order and hashes them. Each is freed as soon as it is copied.
 fn put_pieces_of(text: &mut DigestedText, pieces: Vec<Vec<u8>>) -> Result<(), AllocError>
     ensures { OnOk result (text.new ≡ text.old ++ joined pieces.items) }
 {
@@ -103,7 +106,7 @@ fn put_pieces_of(text: &mut DigestedText, pieces: Vec<Vec<u8>>) -> Result<(), Al
     Ok(())
 }
 
-/// Puts pieces at the end of a text while its digest takes each. Each is let go of once it is put.
+/// Appends the pieces in order. A long one is hashed while it is copied. Each is freed as soon as it is copied.
 fn put_pieces_beside<R: Threads>(
     rt: &R,
     text: &mut DigestedText,
@@ -117,7 +120,7 @@ fn put_pieces_beside<R: Threads>(
     Ok(())
 }
 
-/// Puts what waits at the end of a text, and behind it what stands before the text of a column.
+/// Appends the queued pieces and then the header of a column, with room for its body of `length` bytes.
 fn open_part(
     text: &mut DigestedText,
     waiting: Vec<Vec<u8>>,
@@ -127,12 +130,12 @@ fn open_part(
     ensures { OnOk result (text.new ≡ text.old ++ joined waiting.items ++ front.now) }
 {
     put_pieces_of(text, waiting)?;
-    text.reserve(length.saturating_add(FRONT))?;
+    text.reserve(length.saturating_add(COLUMN_HEADER))?;
     text.extend(front)
 }
 
 impl GrowingFile {
-    /// The file of a segment of so many rows, up to its first column.
+    /// Starts the file of segment `s` of projection `p`, which has `rows` rows. It has the header and no column yet.
     pub fn begin(
         alloc: Global,
         catalog: &Catalog,
@@ -150,14 +153,15 @@ impl GrowingFile {
         })
     }
 
-    /// Makes room for so many more bytes: while they last, nothing that stands there is copied to grow.
+    /// Reserves room for `bytes` more bytes, so that appending them does not move the file.
     pub fn reserve(&mut self, bytes: usize) -> Result<(), AllocError>
         ensures { self.new ≡ self.old }
     {
         self.front.reserve(bytes)
     }
 
-    /// Puts the part of a column, of which this is the text, at the end. A refusal may leave the beginning of the part there.
+    /// Appends a column with this body. If memory is refused, the file is incomplete: a part of the column may have
+    /// been appended, and queued columns may be lost.
     pub fn push(&mut self, code: Code, kind: Kind, text: &[u8]) -> Result<(), AllocError>
         requires { length text.now < 2 ^ 32 }
         ensures { OnOk result (self.new ≡ self.old ++ body_part code kind text.now) }
@@ -169,8 +173,8 @@ impl GrowingFile {
         self.front.extend(text)
     }
 
-    /// Pushes a column whose text stands in pieces, one after the other, while the digest takes each. Each is let go of once
-    /// it is put.
+    /// Appends a column whose body is these pieces in order. A piece of 64 KiB or more is hashed while it is copied,
+    /// and each is freed as soon as it is copied. If memory is refused, the file is incomplete.
     pub fn push_pieces<R: Threads>(
         &mut self,
         rt: &R,
@@ -188,8 +192,8 @@ impl GrowingFile {
         put_pieces_beside(rt, &mut self.front, text)
     }
 
-    /// Pushes a column whose text stands in pieces, one after the other. They wait, and no byte of them is looked at until the
-    /// next push or the end.
+    /// Queues a column whose body is these pieces in order. The next push, or `finish`, copies and hashes them. If
+    /// memory is refused, the file is incomplete.
     pub fn put_pieces(
         &mut self,
         code: Code,
@@ -205,7 +209,7 @@ impl GrowingFile {
         self.waiting.append(&mut text)
     }
 
-    /// The whole file: what stands there, and its digest.
+    /// The whole file: the header and all columns, followed by the digest.
     pub fn finish(self) -> Result<Vec<u8>, AllocError>
         ensures { IfOk result (λ out. out.items ≡ sealed self) }
     {

@@ -1,13 +1,14 @@
-//! Files of segments, and the digest that ends each file of a store.
+//! Segment files, and the digest at the end of each file of a store.
 //!
-//! Bytes are the sealed text of one body, or of none. A segment's file is read exactly: bytes are the file of one base or
-//! `Damaged`, and what is written of the pieces of a base's columns is its file.
+//! Files are sealed: each ends with the SHA-256 digest of the bytes before it. Reading is exact: bytes are the file of
+//! exactly one base, or `Damaged`. Writing the columns of a base gives that file.
 #![tactic(auto)]
 
 pub mod bodies;
 pub mod bytes;
 mod digested;
 pub mod fault;
+pub mod format;
 pub mod growing;
 pub mod laws;
 pub mod parallel;

@@ -1,5 +1,4 @@
-//! Reading a segment's file in several threads: one takes the digest, and one each column. What stands before the digest is read
-//! by itself too, where the digest is taken apart from it.
+//! Reading a segment's file in several threads: one verifies the digest, the others decode a column each.
 ghost use Rattle.std.specs.Prelude.{◌≡◌, ◌<◌, ◌≤◌, List, map, length, IfOk};
 ghost use Rattle.cs_schema.specs.CatalogRules.{IsCatalog};
 ghost use Rattle.cs_segment.specs.SegmentFile.{Base, IsSegmentFile, sealed};
@@ -14,10 +13,10 @@ use cs_schema::{Catalog, Cells};
 use std::alloc::Global;
 use std::thread::{Threads, join, join_mut};
 
-/// How many bytes of a file are worth the start of threads.
+/// The smallest file, in bytes, for which threads are started.
 const WORTH_THREADS: usize = 65_536;
 
-/// The first columns, so many.
+/// The cells of the first `count` columns, each decoded in a thread.
 fn read_first<R: Threads>(
     rt: &R,
     reader: &SegmentReader<'_>,
@@ -35,16 +34,18 @@ fn read_first<R: Threads>(
         columns.push(reader.column(last)?)?;
         return Ok(columns);
     }
-    // of a closure over a struct of references `join` says nothing
+    // `join` ensures nothing about closures that move a struct of references, so these borrow it
     let (cells, before) = join_mut(
         rt,
         &mut || -> Result<Cells, FileFault>
             requires { last < length reader.now.bodies.now }
-            ensures { IsReadAt reader.entry.now.catalog.now reader.entry.now.p reader.entry.now.rows (map (λ body. body.now) reader.entry.now.bodies.now) last result }
+            ensures { IsReadAt reader.entry.now.catalog.now reader.entry.now.p reader.entry.now.rows
+                (map (λ body. body.now) reader.entry.now.bodies.now) last result }
         { reader.column(last) },
         &mut || -> Result<Vec<Cells>, FileFault>
             requires { last ≤ length reader.now.bodies.now }
-            ensures { AreFirstRead reader.entry.now.catalog.now reader.entry.now.p reader.entry.now.rows (map (λ body. body.now) reader.entry.now.bodies.now) last result }
+            ensures { AreFirstRead reader.entry.now.catalog.now reader.entry.now.p reader.entry.now.rows
+                (map (λ body. body.now) reader.entry.now.bodies.now) last result }
         { read_first(rt, reader, last) },
     );
     columns = before?;
@@ -52,7 +53,7 @@ fn read_first<R: Threads>(
     Ok(columns)
 }
 
-/// The number of rows, and the columns, of what stands in a segment's file before its digest.
+/// The number of rows and the columns of a segment's file without its digest, each column decoded in a thread.
 fn read_columns<R: Threads>(
     rt: &R,
     alloc: Global,
@@ -78,7 +79,8 @@ fn read_columns<R: Threads>(
     Ok((rows, columns))
 }
 
-/// The segment that the bytes are the file of, as `read_segment` gives it. A long file is read in several threads.
+/// Reads the file of segment `s` of projection `p`. One of 64 KiB or more is read in several threads. `Damaged` if the
+/// bytes are not a file of this segment.
 pub fn par_read_segment<R: Threads>(
     rt: &R,
     alloc: Global,
@@ -118,7 +120,7 @@ pub fn par_read_segment<R: Threads>(
     })
 }
 
-/// The number of rows, and the columns, of what stands in a segment's file before its digest. What is long is read in several
+/// The number of rows and the columns of a segment's file without its digest. A long file is decoded in several
 /// threads.
 fn read_front<R: Threads>(
     rt: &R,
@@ -139,7 +141,8 @@ fn read_front<R: Threads>(
     read_columns(rt, alloc, catalog, p, s, front)
 }
 
-/// The segment whose file is this text and its digest, as `read_text` gives it. A long text is read in several threads.
+/// Reads the file of segment `s` of projection `p` from its bytes without the digest, which the caller verifies. 64 KiB
+/// or more are read in several threads. `Damaged` if the bytes with their digest are not a file of this segment.
 pub fn par_read_text<R: Threads>(
     rt: &R,
     alloc: Global,

@@ -1,4 +1,4 @@
-//! The columns of a segment, read from their bodies.
+//! Decoding the columns of a segment.
 ghost use Rattle.std.specs.Prelude.{◌≡◌, ◌<◌, ◌≤◌, map, length, IfOk};
 ghost use Rattle.cs_schema.specs.CatalogData.{projection};
 ghost use Rattle.cs_segment.specs.Bodies.{IsReadAt, AreColumnsIn, NoColumnIn};
@@ -8,7 +8,8 @@ use crate::fault::FileFault;
 use cs_schema::{Catalog, Cells};
 use std::alloc::Global;
 
-/// What reads the columns of one segment: its projection says how each is written, its head how many cells each has.
+/// Decodes the columns of one segment. The projection gives the encoding and the kind of each column, the file's header
+/// the number of cells.
 #[derive(Clone, Copy)]
 pub(crate) struct SegmentReader<'a> {
     pub(crate) alloc: Global,
@@ -38,10 +39,12 @@ impl SegmentReader<'_> {
         )
     }
 
-    /// The cells of each column.
+    /// The cells of all columns.
     pub(crate) fn columns(&self) -> Result<Vec<Cells>, FileFault>
-        ensures found { IfOk result (λ columns. AreColumnsIn self.now.catalog.now self.now.p self.now.rows (map (λ body. body.now) self.now.bodies.now) columns.items) }
-        ensures refused { result ≡ Err FileFault.Damaged → NoColumnIn self.now.catalog.now self.now.p self.now.rows (map (λ body. body.now) self.now.bodies.now) }
+        ensures found { IfOk result (λ columns. AreColumnsIn self.now.catalog.now self.now.p self.now.rows
+            (map (λ body. body.now) self.now.bodies.now) columns.items) }
+        ensures refused { result ≡ Err FileFault.Damaged
+            → NoColumnIn self.now.catalog.now self.now.p self.now.rows (map (λ body. body.now) self.now.bodies.now) }
     {
         let mut columns = Vec::new(self.alloc);
         for j in 0..self.bodies.len() {

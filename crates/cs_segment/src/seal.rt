@@ -9,10 +9,10 @@ ghost use Rattle.cs_segment.specs.Bodies.{IsSealed};
 use cs_digests::{digest_of, digests_of};
 use std::alloc::{AllocError, Global};
 
-/// The length of a digest.
+/// The size of a digest in bytes.
 pub const DIGEST: usize = 32;
 
-/// Appends the digest of what stands there.
+/// Appends the SHA-256 digest of the bytes. If memory is refused, nothing changes.
 pub fn seal(bytes: &mut Vec<u8>) -> Result<(), AllocError>
     ensures ok { OnOk result (bytes.new.items ≡ sealed bytes.old.items) }
     ensures err { OnErr result (bytes.new.items ≡ bytes.old.items) }
@@ -21,7 +21,7 @@ pub fn seal(bytes: &mut Vec<u8>) -> Result<(), AllocError>
     bytes.extend_from_slice(&digest)
 }
 
-/// What the bytes are the sealed text of.
+/// The bytes without the digest at their end. `None` if they do not end with the digest of the bytes before it.
 pub fn unseal(bytes: &[u8]) -> Option<&[u8]>
     ensures found { IfSome result (λ body. bytes.now ≡ sealed body.now) }
     ensures none { IfNone result ((body : List ℕ) → bytes.now ≡ sealed body → ⊥) }
@@ -38,21 +38,21 @@ pub fn unseal(bytes: &[u8]) -> Option<&[u8]>
     }
 }
 
-/// Whether bytes are a sealed text.
+/// Whether the bytes end with the digest of the bytes before it.
 pub fn is_sealed(bytes: &[u8]) -> bool
     ensures { IsSealed bytes.now result }
 {
     unseal(bytes).is_some()
 }
 
-/// What stands before the last bytes of a file, which should be its digest.
+/// The bytes of a file before the last 32, which should be the digest. Of a shorter file, none.
 fn text_of(bytes: &[u8]) -> &[u8]
     ensures { result.now ≡ take (length bytes.now - 32) bytes.now }
 {
     &bytes[..bytes.len().saturating_sub(DIGEST)]
 }
 
-/// What stands before the last bytes of each file.
+/// The bytes of each file before the last 32.
 fn texts_of<'a>(alloc: Global, files: &[&'a [u8]]) -> Result<Vec<&'a [u8]>, AllocError>
     ensures { IfOk result (λ texts. map (λ t. t.now) texts.items ≡ map (λ f. take (length f.now - 32) f.now) files.now) }
 {
@@ -63,7 +63,7 @@ fn texts_of<'a>(alloc: Global, files: &[&'a [u8]]) -> Result<Vec<&'a [u8]>, Allo
     Ok(texts)
 }
 
-/// Whether a file ends in the digest of the text before it.
+/// Whether a file ends with this digest, which is that of the bytes before its last 32.
 fn ends_in(bytes: &[u8], digest: &[u8; 32]) -> bool
     requires { digest.now ≡ sha256 (take (length bytes.now - 32) bytes.now) }
     ensures { IsTrue result → IsSealed bytes.now true }
@@ -72,8 +72,8 @@ fn ends_in(bytes: &[u8], digest: &[u8; 32]) -> bool
     end == digest.as_slice()
 }
 
-/// Whether each of the files is a sealed text, told of four at a time (`cs_digests`): in the least time where the longest stand
-/// first. For want of memory it isn't told.
+/// Whether each file ends with the digest of the bytes before it. Files are hashed four at a time, fastest if the
+/// longest come first. If memory is refused, the answer is `false`.
 pub fn are_sealed(alloc: Global, files: &[&[u8]]) -> bool
     ensures { IsTrue result → (f : Bor (List ℕ)) → IsIn f files.now → IsSealed f.now true }
 {

@@ -1,8 +1,8 @@
-//! Files of segments.
+//! Reading a segment's file.
 ghost use Rattle.std.specs.Prelude.{◌≡◌, ℕ, ◌<◌, ◌≤◌, List, map, length, IfOk, IfSome, IfNone};
 ghost use Rattle.cs_schema.specs.declared.cells.Value.{Value};
 ghost use Rattle.cs_schema.specs.Values.{values, kind_of};
-ghost use Rattle.cs_segment.specs.SegmentFile.{Base, IsSegmentFile, code_number, kind_number, sealed};
+ghost use Rattle.cs_segment.specs.SegmentFile.{Base, IsSegmentFile, sealed};
 ghost use Rattle.cs_schema.specs.CatalogRules.{IsCatalog};
 ghost use Rattle.cs_segment.specs.Parts.{BeginsWithHead};
 ghost use Rattle.cs_segment.specs.Bodies.{HoldsBodies, HoldsColumns, HoldsNone};
@@ -13,14 +13,12 @@ use crate::bytes::{after, number, short};
 use crate::fault::FileFault;
 use crate::reader::SegmentReader;
 use crate::seal::unseal;
-use cs_schema::{Catalog, Cells, Code, Kind};
+use cs_schema::limits::SEGMENT_ROWS;
+use cs_schema::{Catalog, Cells};
 use std::alloc::Global;
 use std::marker::Model;
 
-/// The most rows of a segment.
-pub const ROW_LIMIT: u32 = 1_048_576;
-
-/// The base of a segment: its columns in the projection's order.
+/// The base rows of segment `s` of projection `p`: `rows` cells in each column, the columns in the projection's order.
 #[derive(Drop)]
 pub struct Segment {
     pub p: u16,
@@ -39,29 +37,8 @@ impl Model for Segment {
     ghost view = { segment_data };
 }
 
-/// The number of a code in a file.
-pub fn code_number(code: Code) -> u8
-    ensures { result ≡ code_number code }
-{
-    match code {
-        Code::Runs => 1,
-        Code::Bitmaps => 2,
-        Code::Differences => 3,
-        Code::Plain => 4,
-    }
-}
-
-/// The number of a kind in a file.
-pub fn kind_number(kind: Kind) -> u8
-    ensures { result ≡ kind_number kind }
-{
-    match kind {
-        Kind::Int => 1,
-        Kind::Text => 2,
-    }
-}
-
-/// The number of rows at the head of a segment's file, and what follows.
+/// The number of rows that the header of a segment's file gives, and the bytes after the header. `None` if the bytes do
+/// not start with a header of this segment with `width` columns.
 fn read_head(bytes: &[u8], p: u16, s: u16, width: usize) -> Option<(u32, &[u8])>
     requires { width ≤ 32 }
     ensures found { IfSome result (λ r. BeginsWithHead p s width bytes.now r.0 r.1.now) }
@@ -72,13 +49,13 @@ fn read_head(bytes: &[u8], p: u16, s: u16, width: usize) -> Option<(u32, &[u8])>
     let counted = after(placed, &s.to_be_bytes())?;
     let (rows, sized) = number(counted)?;
     let (columns, rest) = short(sized)?;
-    if rows > ROW_LIMIT || columns as usize != width {
+    if rows > SEGMENT_ROWS || columns as usize != width {
         return None;
     }
     Some((rows, rest))
 }
 
-/// The number of rows, and where the columns stand, of what stands in a segment's file before its digest.
+/// The number of rows and the bodies of the columns of a segment's file without its digest.
 pub(crate) fn find_columns<'a>(
     alloc: Global,
     catalog: &Catalog,
@@ -98,7 +75,7 @@ pub(crate) fn find_columns<'a>(
     Ok((rows, bodies))
 }
 
-/// The number of rows, and the columns, of what stands in a segment's file before its digest.
+/// The number of rows and the columns of a segment's file without its digest.
 pub(crate) fn read_columns(
     alloc: Global,
     catalog: &Catalog,
@@ -123,7 +100,8 @@ pub(crate) fn read_columns(
     Ok((rows, columns))
 }
 
-/// The segment whose file is this text and its digest.
+/// Reads the file of segment `s` of projection `p` from its bytes without the digest, which the caller verifies.
+/// `Damaged` if the bytes with their digest are not a file of this segment.
 pub fn read_text(
     alloc: Global,
     catalog: &Catalog,
@@ -145,7 +123,7 @@ pub fn read_text(
     })
 }
 
-/// The segment that the bytes are the file of.
+/// Reads the file of segment `s` of projection `p`. `Damaged` if the bytes are not a file of this segment.
 pub fn read_segment(
     alloc: Global,
     catalog: &Catalog,

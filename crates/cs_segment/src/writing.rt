@@ -1,4 +1,4 @@
-//! Files of segments, written.
+//! Writing a segment's file in one call.
 ghost use Rattle.std.specs.Prelude.{◌≡◌, ◌<◌, List, ◌++◌, length, IfOk, OnOk};
 ghost use Rattle.cs_schema.specs.declared.cells.Value.{Value};
 ghost use Rattle.cs_codec.specs.ColumnText.{FitsColumn};
@@ -12,7 +12,7 @@ use cs_piece::{Piece, write_piece};
 use cs_schema::{Catalog, Code, Kind};
 use std::alloc::{AllocError, Global};
 
-/// Puts the part of a column at the end of a file.
+/// Appends a column that is given as a piece.
 fn write_part(
     alloc: Global,
     file: &mut GrowingFile,
@@ -21,13 +21,15 @@ fn write_part(
     piece: &Piece,
 ) -> Result<(), AllocError>
     requires { (v : List Value) × IsPieceOf piece.now code kind v × FitsColumn code kind v }
-    ensures { OnOk result ((v : List Value) → IsPieceOf piece.now code kind v → FitsColumn code kind v → file.new ≡ file.old ++ part_text code kind v) }
+    ensures { OnOk result ((v : List Value) → IsPieceOf piece.now code kind v → FitsColumn code kind v
+        → file.new ≡ file.old ++ part_text code kind v) }
 {
     let text = write_piece(alloc, piece)?;
     file.push(code, kind, &text)
 }
 
-/// The file of the segment whose columns, of so many rows, the pieces are.
+/// The file of segment `s` of projection `p`, which has `rows` rows. The pieces are its columns in the projection's
+/// order.
 pub fn write_segment(
     alloc: Global,
     catalog: &Catalog,

@@ -4,7 +4,7 @@ use Rattle.std.proofs.lemmas.List.{flat_map_more, take_more}
 use Rattle.cs_codec.specs.Cells.{number}
 use Rattle.cs_codec.proofs.bitmap.write_bitmap.Goals as goal
 
--- one more number is written
+-- one more number has been written
 step : (before front out new ls : List ℕ) (i : ℕ) → i < length ls → out ≡ before ++ (front ++ flat_map number (take i ls)) → new ≡ out ++ number (get_or ls i 0) → new ≡ before ++ (front ++ flat_map number (take (i + 1) ls))
 step before front out new ls i h so_far added =
     added

@@ -8,7 +8,7 @@ pub overflow_add-index_mut : goal.overflow_add-index_mut
 overflow_add-index_mut g c =
     omega (arith, c.requires.short, last_count_fits g.C.PartialEq.eq (g.L.Column.cells c.args.values.now) c.args.counts.now.items (c.len-len.result - 1) c.index.result.now c.requires.runs (omega arith) c.index.ensures, first_count_fits g.C.PartialEq.eq (g.L.Column.cells c.args.others) c.args.other_counts.items c.index_mut.result.now c.requires.others (omega arith) c.index_mut.ensures.value)
 
--- what the runs have become
+-- the runs have been appended
 joined : (g : given.Over) (c : goal.After-drop-other_counts-2 g) → Joined g.C.PartialEq.eq (g.L.Column.cells c.args.values.now) (g.L.Column.cells c.args.others) c.args.counts.now.items c.args.other_counts.items (g.L.Column.cells c.append.new.self) c.append-2.new.self.items
 joined g c =
     let vs = g.L.Column.cells c.args.values.now in

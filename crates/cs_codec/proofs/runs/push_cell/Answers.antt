@@ -16,7 +16,7 @@ pub returns-then-eq-clause-runs : goal.returns-then-eq-clause-runs
 returns-then-eq-clause-runs g c =
     (pushed_same g.C.PartialEq.eq (record { itself = g.met.C.Eq.laws.refl; exact = g.met.C.Cell.exact }) (g.L.Column.cells c.args.values.now) c.args.counts.now.items (c.len-len.result - 1) c.args.cell.now c.index_mut.result.now c.requires.runs (omega arith) c.index_mut.ensures.value (c.cell.ensures ∙ ap Some (g.met.C.Cell.exact c.cell.result c.args.cell.now (sym c.if-eq.ensures)))).runs
 
--- what the runs have become
+-- the cell has been appended
 pushed : (g : given.Over) (c : goal.In_ok-push g) → Pushed g.C.PartialEq.eq (g.L.Column.cells c.args.values.now) c.args.counts.now.items c.args.cell.now (g.L.Column.cells c.repeat.new.self) c.push.new.self.items
 pushed g c = rw (c.in_ok-push.ensures.items, c.in_ok-repeat.ensures)
     (elim c.else-len-gt0.branch [

@@ -17,7 +17,7 @@ returns-then-same-clause-runs g c =
     let x = cell_at (g.L.Column.cells c.args.column.now) c.args.at c.requires.at in
     (pushed_same g.C.PartialEq.eq (record { itself = g.met.C.Eq.laws.refl; exact = g.met.C.Cell.exact }) (g.L.Column.cells c.args.values.now) c.args.counts.now.items (c.len-len.result - 1) x.cell c.index_mut.result.now c.requires.runs (omega arith) c.index_mut.ensures.value (c.same.ensures.0 c.if-same.true ∙ x.is)).runs
 
--- what the runs have become
+-- the cell has been appended
 pushed : (g : given.Over) (c : goal.In_ok-push g) (x : g.row.C.Denot) → slice_get (g.L.Column.cells c.args.column.now) c.args.at ≡ Some x → Pushed g.C.PartialEq.eq (g.L.Column.cells c.args.values.now) c.args.counts.now.items x (g.L.Column.cells c.push_cell.new.self) c.push.new.self.items
 pushed g c x h = rw (c.in_ok-push.ensures.items, c.in_ok-push_cell.ensures x h)
     (elim c.else-len-gt0.branch [

@@ -25,7 +25,7 @@ can x s y d e f h =
     let D : DeltaData → Type 0 = λ a. CanMerge x.base a in
     subst D (sym f) (subst S (sym e) h)
 
--- a delta has a layer
+-- a delta has at least one layer
 some_layers : (version layers : ℕ) → HasVersion version layers → 1 ≤ layers
 some_layers version layers (inl h) = let one = h.1 in omega arith
 some_layers version layers (inr h) = h.1
@@ -79,7 +79,7 @@ returns-clause-can c =
     let made = rw (c.deref-2.ensures.value, c.in_ok-keys.ensures, c.deref-3.ensures.value) at c.in_ok-made.ensures.made in
     can c.args.segment x c.args.delta.now y (sym c.segment.view_is) (sym c.delta.view_is) (can_merge x.base y c.in_ok-made.made.keys.items (map values c.in_ok-made.made.columns.items) req.lengths (omega arith) made)
 
--- where the layers have no items, the base's keys and columns stand
+-- if the layers have no items, the base's keys and columns stay
 module _ (c : goal.After-first) where
   req : MayMerge (segment_data c.segment.inside) (delta_data c.delta.inside)
   req = may (segment_data c.segment.inside) c.args.segment (delta_data c.delta.inside) c.args.delta.now c.segment.view_is c.delta.view_is (may_merge c.args.segment c.args.delta.now c.requires)

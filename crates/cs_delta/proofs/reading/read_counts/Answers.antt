@@ -14,8 +14,8 @@ returns-in_err-counted-clause-none c = rw c.from_residual-in_err-counted.ensures
     (placed_is c.args.p c.args.s c.args.bytes.now c.to_be_bytes.result c.in_ok-placed.placed.now rows top rest c.to_be_bytes.ensures c.in_ok-placed.ensures.found h
     ∙ ap (λ (a : List ℕ). a ++ counts_text rows top rest) (sym c.to_be_bytes-2.ensures)))
 
-pub returns-then-rows-gt-ROW_LIMIT-clause-none : goal.returns-then-rows-gt-ROW_LIMIT-clause-none
-returns-then-rows-gt-ROW_LIMIT-clause-none c = λ rows top rest h.
+pub returns-then-rows-gt-SEGMENT_ROWS-clause-none : goal.returns-then-rows-gt-SEGMENT_ROWS-clause-none
+returns-then-rows-gt-SEGMENT_ROWS-clause-none c = λ rows top rest h.
     let same = counts_are c.args.p c.args.s c.args.bytes.now c.to_be_bytes.result c.in_ok-placed.placed.now c.to_be_bytes-2.result c.in_ok-counted.counted.now c.in_ok-rows.topped.now c.in_ok-top.rest.now c.in_ok-rows.rows c.in_ok-top.top rows top rest
     c.to_be_bytes.ensures c.in_ok-placed.ensures.found c.to_be_bytes-2.ensures c.in_ok-counted.ensures.found c.in_ok-rows.ensures.found.0 c.in_ok-rows.ensures.found.1 c.in_ok-top.ensures.found.0 c.in_ok-top.ensures.found.1 h in
     let n = same.0 in

@@ -14,7 +14,7 @@ use Rattle.cs_diagnosis.specs.Forced.{IsBadSite, AreTold}
 use Rattle.cs_diagnosis.proofs.GoodFiles.{sound_beside, never_bad}
 use Rattle.cs_diagnosis.proofs.diagnosing.diagnose_bad.Goals as goal
 
--- the sites of the listed files, told of the list as a vector has it
+-- the sites of the listed files, for the list that a vector has
 told : (C : CatalogData) (F : FileContents) (bad listed : List (FileName × Badness)) → listed ≡ bad → (sites : Sites) → ((x : ℕ) → IsTrue (member sites x) ↔ IsBadSite C listed x)
     → (unreadable : List FileName) → AreAbsent F unreadable → AreBadFiles C F unreadable bad → AreTold C F unreadable bad sites
 told C F bad listed same sites are unreadable absent list = record {

@@ -4,7 +4,7 @@ use Rattle.cs_rows.specs.WalkedView.{count_of}
 use Rattle.cs_rows.proofs.WalkedLemmas.{length_rows}
 use Rattle.cs_diagnosis.proofs.disputing.disputes_of.Goals as goal
 
--- a sum that is some number is that number
+-- a checked sum that exists is the sum
 summed : (o : Option ℕ) (P : Type 0) (n : ℕ) → SomeIff o P n → is_some o ≡ true → P
 summed None P n told e = absurd (false≢true e)
 summed (Some m) P n told e = told.0

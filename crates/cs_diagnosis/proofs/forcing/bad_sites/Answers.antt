@@ -11,7 +11,6 @@ use Rattle.cs_schema.proofs.Ascending.{false≢true}
 use Rattle.cs_schema.proofs.Lists.{in_at, at_in}
 use Rattle.cs_recovery.specs.Conflicts.{site_of}
 use Rattle.cs_inspection.specs.declared.badness.Badness.{Badness}
-use Rattle.cs_diagnosis.proofs.Diagnosed.{site_in_range}
 use Rattle.cs_diagnosis.proofs.forcing.bad_sites.Goals as goal
 
 either_one : (a b : Bool) → (a || b) ≡ true → (a ≡ true) ⊎ (b ≡ true)
@@ -26,20 +25,12 @@ second : (a b : Bool) → b ≡ true → (a || b) ≡ true
 second true b e = refl
 second false b e = e
 
--- the file at a place has a name of the catalog
+-- the file at an index has a name of the catalog
 named : (C : CatalogData) (bad : List (FileName × Badness)) (i : ℕ) → i < length bad → ((b : FileName × Badness) → IsIn b bad → HasName C b.0) → HasName C (get_or bad i (FileName.Seg 0 0, Badness.Unreadable)).0
 named C bad i h names = names (get_or bad i (FileName.Seg 0 0, Badness.Unreadable)) (in_at bad i (get_or bad i (FileName.Seg 0 0, Badness.Unreadable)) (slice_get-get_or bad i (FileName.Seg 0 0, Badness.Unreadable) h))
 
 pub site_of-requires : goal.site_of-requires
 site_of-requires c = named c.args.catalog.now c.args.bad.now c.loop-file.file-index (omega (arith, c.loop-file-test.true)) c.requires
-
-pub with-sites-requires-clause-low : goal.with-sites-requires-clause-low
-with-sites-requires-clause-low c = subst (λ n. 1 ≤ n) (sym c.site_of.ensures.site) (site_in_range c.args.catalog.now c.site_of.ensures.rules _ (named c.args.catalog.now c.args.bad.now c.loop-file.file-index (omega (arith, c.loop-file-test.true)) c.requires)).0
-
-pub with-sites-requires-clause-high : goal.with-sites-requires-clause-high
-with-sites-requires-clause-high c =
-    let range = (site_in_range c.args.catalog.now c.site_of.ensures.rules _ (named c.args.catalog.now c.args.bad.now c.loop-file.file-index (omega (arith, c.loop-file-test.true)) c.requires)).1 in
-    omega (arith, c.site_of.ensures.site, range, c.site_of.ensures.rules.site_range.1)
 
 pub loop-file-preserved : goal.loop-file-preserved
 loop-file-preserved c =

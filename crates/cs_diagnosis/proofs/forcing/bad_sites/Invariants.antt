@@ -8,7 +8,7 @@ use Rattle.cs_inspection.specs.declared.badness.Badness.{Badness}
 use Rattle.cs_diagnosis.specs.Forced.{IsBadSite}
 use Rattle.cs_diagnosis.proofs.forcing.bad_sites.Given as goal
 
--- the sites so far are bad ones, and those of the files so far are there
+-- the sites so far have bad files, and they include those of the files so far
 abbrev pub invariant-loop-file : goal.invariant-loop-file
 invariant-loop-file l = record {
   bad : (x : ℕ) → IsTrue (member l.sites x) → IsBadSite l.catalog l.bad x;

@@ -81,5 +81,5 @@ returns-clause-conflict c =
     let at = c.place-place.ensures.there.1 in
     let there : HasSegment C e.q t = (e.target, c.place-place.ensures.exists) in
     let key_is : c.place-place.result.1 ≡ key_in C g.loss S rows e.p e.s e.q c.args.key c.args.entry i live r row t j at there (positive e) g.loss = ap (λ (x : Place). x.1) (c.place-place.ensures.place ∙ place_there C rows g.loss S e.q t j r at) in
-    subst (λ x. IsKeyConflict C g.loss S (table_of C rows) e.p e.s e.q c.args.key c.args.entry (Some x)) (sym c.site_of.ensures.site)
+    subst (λ x. IsKeyConflict C g.loss S (table_of C rows) e.p e.s e.q c.args.key c.args.entry (Some x)) (sym c.site.ensures.site)
     (other C g.loss S rows e.p e.s e.q c.args.key c.args.entry i live r row t j at there (positive e) c.if-entry-place.false (omega (arith, c.if-entry-eq0.false)) (λ same. c.if-entry-place-2.false (same ∙ sym key_is)))

@@ -6,7 +6,7 @@ use Rattle.cs_store.specs.FileSet.{contents_of}
 use Rattle.cs_inspection.specs.declared.badness.Badness.{Badness}
 use Rattle.cs_diagnosis.proofs.missing.missing_files.Given as goal
 
--- those of the names so far
+-- the missing files among the names so far
 abbrev pub invariant-loop-name : goal.invariant-loop-name
 invariant-loop-name l = record {
   each : (b : FileName × Badness) → IsIn b l.missing.items → HasName l.catalog b.0 × (contents_of l.files b.0 ≡ None);

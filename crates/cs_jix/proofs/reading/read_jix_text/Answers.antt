@@ -6,7 +6,7 @@ use Rattle.cs_jix.specs.JoinIndex.{Place, IsJoinIndexFile}
 use Rattle.cs_jix.specs.Entries.{join_head, is_allowed}
 use Rattle.cs_jix.proofs.JoinLemmas.{no_head, no_number, bad_count, bad_entries, read_file, zip_length, one_reading}
 use Rattle.cs_jix.proofs.reading.read_jix_text.Goals as goal
-use Rattle.cs_jix.proofs.reading.read_jix_text.Goals.{then-count-gt-LIMIT-via-then-count-gt-LIMIT, then-count-gt-LIMIT-via-else-count-gt-LIMIT+then-body-count}
+use Rattle.cs_jix.proofs.reading.read_jix_text.Goals.{then-count-gt-DELTA_KEYS-via-then-count-gt-DELTA_KEYS, then-count-gt-DELTA_KEYS-via-else-count-gt-DELTA_KEYS+then-body-count}
 
 pub returns-in_default-clause-refused : goal.returns-in_default-clause-refused
 returns-in_default-clause-refused c _ es f =
@@ -20,15 +20,15 @@ returns-in_default-number-clause-refused c _ es f =
     no_number c.args.p c.args.s c.args.q (sealed c.args.text.now) c.args.text.now refl
     c.in-Some.rest.now (c.in-Some.ensures.found ∙ ap (λ (x : List ℕ). x ++ c.in-Some.rest.now) front) c.in_default-number.ensures.none es f
 
-pub returns-then-count-gt-LIMIT-clause-refused : goal.returns-then-count-gt-LIMIT-clause-refused
-returns-then-count-gt-LIMIT-clause-refused c _ es f =
+pub returns-then-count-gt-DELTA_KEYS-clause-refused : goal.returns-then-count-gt-DELTA_KEYS-clause-refused
+returns-then-count-gt-DELTA_KEYS-clause-refused c _ es f =
     let front : c.as_slice.result.now ≡ join_head c.args.p c.args.s c.args.q = c.as_slice.ensures ∙ c.head-front.ensures in
     bad_count c.args.p c.args.s c.args.q (sealed c.args.text.now) c.args.text.now refl
     c.in-Some.rest.now c.in-Some-number.body.now c.in-Some-number.count (c.in-Some.ensures.found ∙ ap (λ (x : List ℕ). x ++ c.in-Some.rest.now) front)
     c.in-Some-number.ensures.found.0 c.in-Some-number.ensures.found.1
-    (λ l m. elim c.then-count-gt-LIMIT.branch [
-      | then-count-gt-LIMIT-via-then-count-gt-LIMIT w ↦ absurd (omega arith)
-      | then-count-gt-LIMIT-via-else-count-gt-LIMIT+then-body-count w ↦ absurd (omega arith)
+    (λ l m. elim c.then-count-gt-DELTA_KEYS.branch [
+      | then-count-gt-DELTA_KEYS-via-then-count-gt-DELTA_KEYS w ↦ absurd (omega arith)
+      | then-count-gt-DELTA_KEYS-via-else-count-gt-DELTA_KEYS+then-body-count w ↦ absurd (omega arith)
     ]) es f
 
 pub returns-then-not-all_allowed-clause-refused : goal.returns-then-not-all_allowed-clause-refused

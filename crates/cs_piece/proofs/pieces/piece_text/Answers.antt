@@ -16,7 +16,7 @@ use Rattle.cs_piece.proofs.Variants.{plain_ints, plain_texts, written_is}
 use Rattle.cs_piece.proofs.ShortTexts.{short_text}
 use Rattle.cs_piece.proofs.pieces.piece_text.Goals as goal
 
--- the kept bytes of plain cells are the text of their column
+-- the kept bytes of plain cells are the body of their column
 ints_kept : (piece : Piece) (part : PlainPart) (out : List ℕ) → piece ≡ pieces.PlainInts part → out ≡ kept_bytes part.lone part.bytes.items → IsTextOf piece out
 ints_kept piece part out is kept code kind v h =
     let p : IsPieceOf (pieces.PlainInts part) code kind v = subst (λ (p : Piece). IsPieceOf p code kind v) is h in

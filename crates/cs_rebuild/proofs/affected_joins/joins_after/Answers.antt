@@ -16,7 +16,7 @@ collect-requires-clause-ready g c κs within =
     rw (c.map.ensures.base, c.map.ensures.f, c.with_min_len.ensures.base, c.into_par_iter.ensures) (λ k d lt. ((each_affected c.args.store.now.catalog.now c.args.store.now.loss c.in_ok-joins.joins.items c.in_ok-joins.ensures k d lt, (c.requires, (search (sendable, crosses) depth 40, search (sendable, crosses) depth 40))), λ y p. tt))
 
 module _ (g : Over) (c : goal.In_ok-collect g) where
-  -- each file is made of what stands at its place
+  -- each file is made from the item at its index
   made : IfOk c.in_ok-collect.field-0 (λ made. AllZip (IsFile join_name (λ file. file.0) (λ file. file.1.items) c.args.store.now) c.in_ok-joins.joins.items made.items)
   made =
       let h = c.in_ok-collect.ensures in

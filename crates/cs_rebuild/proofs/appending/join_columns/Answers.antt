@@ -20,7 +20,7 @@ module _ (g : Over) (c : goal.In_ok-collect g) where
   abbrev rows : List Row
   rows = flat_map (λ (piece : WalkedData). piece.rows) c.args.all.now
 
-  -- each column is joined from all pieces
+  -- each column is concatenated from all pieces
   joined : IfOk c.in_ok-collect.field-0 (λ columns. AllZip (IsJoined c.args.catalog.now rows c.args.lent.now) (range_with_len 0 (length c.args.catalog.now.columns)) (map Ok columns.items))
   joined =
       let ends = c.into_par_iter.ensures in

@@ -9,7 +9,7 @@ use Rattle.cs_order.proofs.Filling.{lists_more}
 use Rattle.cs_rebuild.specs.Walking.{IsColumnOf}
 use Rattle.cs_rebuild.proofs.lending.lent_columns.Goals as goal
 
--- what is lent in place of one column more
+-- the borrowed column, if any, for one more column
 lent_there : (P Q : Cells → Type 0) (o : Option (Bor Cells)) → IfSome o (λ b. P b.now) → IfSome o (λ b. Q b.now) → IfSome (option_map (λ b. b.now) o) (λ cells. P cells × Q cells)
 lent_there P Q None p q = tt
 lent_there P Q (Some b) p q = (p, q)

@@ -5,7 +5,7 @@ use Rattle.cs_rows.specs.Walk.{projection_rows, walked_row}
 use Rattle.cs_rebuild.specs.Walking.{IsColumnOf}
 use Rattle.cs_rebuild.proofs.lending.lent_columns.Given as goal
 
--- what is lent so far has the cells of the anchor's rows
+-- the columns borrowed so far have the cells of the anchor's rows
 abbrev pub invariant-loop-c : goal.invariant-loop-c
 invariant-loop-c l = record {
   count : length l.lent ≡ l.c;

@@ -16,7 +16,7 @@ collect-requires-clause-ready g c κs within =
     rw (c.map.ensures.base, c.map.ensures.f, c.with_min_len.ensures.base, c.into_par_iter.ensures) (λ k d lt. ((c.in_ok-files.ensures.each k d lt, (search (sendable, crosses) depth 40, search (sendable, crosses) depth 40)), λ y p. tt))
 
 module _ (g : Over) (c : goal.In_ok-collect g) where
-  -- each file is made of what stands at its place
+  -- each file is made from the item at its index
   made : IfOk c.in_ok-collect.field-0 (λ made. AllZip (IsFile name_of (λ file. file.0) (λ file. file.1.items) c.args.store.now) c.in_ok-files.files.items made.items)
   made =
       let h = c.in_ok-collect.ensures in

@@ -28,7 +28,7 @@ module _ (C : CatalogData) (made : List Cells) (lent : List (Option Cells)) (are
   wide : length made ≡ length C.columns
   wide = sym (count made lent) ∙ sym (length-map (over made lent) kind_of) ∙ ap length kinds ∙ length-map C.columns (λ (c : ColumnData). c.kind)
 
-  -- what stands in a column: what is lent in its place, or what was made
+  -- the cells of a column: the borrowed ones, or else the owned ones
   module _ (n : ℕ) (own : Cells) (other : Option Cells) (h : n < length C.columns) (is : (d : Cells) → own ≡ get_or made n d) (lends : other ≡ get_or lent n None) where
     abbrev cells : Cells
     cells = unwrap_or other own

@@ -6,7 +6,7 @@ use Rattle.cs_rows.specs.Walk.{projection_rows}
 use Rattle.cs_rows.specs.declared.plan_walk.PlanWalk.{PlanWalk}
 use Rattle.cs_rebuild.proofs.walking.walk_plan.Goals as goal
 
--- what holds of a walk through survivors holds of these
+-- what holds of a walk's survivors and plan holds of those that it was made with
 there : (X : CatalogData → SurvivorsData → PlanData → Type 0) (w : PlanWalk) (C : CatalogData) (S : SurvivorsData) (P : PlanData) → S.catalog ≡ C → w.survivors.now ≡ S → w.plan.now ≡ P → X w.survivors.now.catalog w.survivors.now w.plan.now → X C S P
 there X w C S P same held planned h =
     subst (λ D. X D S P) (ap (λ (T : SurvivorsData). T.catalog) held ∙ same)

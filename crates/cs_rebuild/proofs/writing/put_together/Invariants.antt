@@ -5,7 +5,7 @@ use Rattle.cs_recovery.specs.Expected.{written}
 use Rattle.cs_rebuild.proofs.ListedFiles.{IsLeftOrWritten}
 use Rattle.cs_rebuild.proofs.writing.put_together.Given as goal
 
--- each name is that of a file that is left to put, or written
+-- under each name is a file that remains to be put, or the right one was put
 abbrev pub invariant-loop-name : goal.invariant-loop-name
 invariant-loop-name l = record {
   texts : All (λ file. written l.store.catalog.now l.store.loss (held_by l.store.survivors.now) (table_of l.store.catalog.now l.store.walked.rows) file.0 ≡ Some file.1.items) l.made.items;

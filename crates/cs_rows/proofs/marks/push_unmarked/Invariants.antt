@@ -3,7 +3,7 @@ use Rattle.cs_schema.specs.Values.{values, kind_of}
 use Rattle.cs_rows.specs.Repeats.{unmarked}
 use Rattle.cs_rows.proofs.marks.push_unmarked.Given as goal
 
--- with the cells that are still to be pushed, those of the rows so far are there
+-- the cells copied so far and those still to be copied are the unmarked cells of the rows so far
 abbrev pub invariant-loop-at : goal.invariant-loop-at
 invariant-loop-at l = record {
   order : l.from ≤ l.at;

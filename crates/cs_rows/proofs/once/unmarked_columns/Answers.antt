@@ -21,7 +21,7 @@ module _ (g : Over) (c : goal.In_ok-collect g) where
   abbrev left : List Row
   left = unmarked c.args.marks.now (piece_rows c.args.pieces.now)
 
-  -- each column is made of them
+  -- each column has the cells of these rows
   made : IfOk c.in_ok-collect.field-0 (λ columns. AllZip (IsMade c.args.catalog.now left) (range_with_len 0 (length c.args.catalog.now.columns)) (map Ok columns.items))
   made =
       let ends = c.into_par_iter.ensures in

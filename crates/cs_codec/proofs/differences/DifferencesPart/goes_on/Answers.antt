@@ -5,8 +5,8 @@ use Rattle.cs_codec.proofs.RiseLists.{joins_none_first, joins_none_last, joins_a
 use Rattle.cs_codec.proofs.differences.DifferencesPart.goes_on.Goals as goal
 use Rattle.cs_codec.proofs.differences.DifferencesPart.goes_on.Goals.{then-self-eq0-via-then-self-eq0, then-self-eq0-via-else-self-eq0+then-other-eq0}
 
-pub returns-then-self-other-gt1048576 : goal.returns-then-self-other-gt1048576
-returns-then-self-other-gt1048576 c =
+pub returns-then-self-other-gt-SEGMENT_ROWS : goal.returns-then-self-other-gt-SEGMENT_ROWS
+returns-then-self-other-gt-SEGMENT_ROWS c =
     (λ t. absurd cc, λ h. absurd (omega (arith, joined_size c.self.inside.count c.self.inside.first c.self.inside.gaps.items c.self.inside.last c.other.inside.count c.other.inside.first c.other.inside.gaps.items c.other.inside.last c.args.self.now c.args.other.now c.self.invariant c.other.invariant c.self.view_is c.other.view_is h)))
 
 pub returns-then-self-eq0 : goal.returns-then-self-eq0

@@ -7,13 +7,13 @@ use Rattle.cs_delta.proofs.FirstKeys.{first_position, no_first_position}
 use Rattle.cs_delta.proofs.keys.Keys.position_of.Goals as goal
 use Rattle.cs_delta.proofs.keys.Keys.position_of.Goals.{then-at-len, else-at-len, then-key-eq0-via-then-key-eq0, then-key-eq0-via-else-key-eq0+then-key-self}
 
--- where there are first keys, there are no others
+-- if there are first keys, there are no others
 only_first : (first : ℕ) (listed keys : List ℕ) → (first ≡ 0) ⊎ (listed ≡ []) → 0 < first → base_keys first ++ listed ≡ keys → base_keys first ≡ keys
 only_first first listed keys h some e =
     let none : listed ≡ [] = ⊎_elim (λ z. absurd (omega arith)) (λ n. n) h in
     sym (append-nil (base_keys first)) ∙ ap (λ (l : List ℕ). base_keys first ++ l) (sym none) ∙ e
 
--- where there are no first keys, the listed ones are all
+-- if there are no first keys, there are only listed ones
 only_listed : (first : ℕ) (listed keys : List ℕ) → first ≡ 0 → base_keys first ++ listed ≡ keys → listed ≡ keys
 only_listed first listed keys z e = ap (λ (n : ℕ). base_keys n ++ listed) (sym z) ∙ e
 

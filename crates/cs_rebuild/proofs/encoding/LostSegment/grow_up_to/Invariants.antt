@@ -3,7 +3,7 @@ use Rattle.cs_segment.specs.Growing.{joined}
 use Rattle.cs_rebuild.specs.Joining.{HoldsFirst, IsTextAt}
 use Rattle.cs_rebuild.proofs.encoding.LostSegment.grow_up_to.Given as goal
 
--- the text of the column before is still to be put
+-- the file has the columns before the last encoded one, which is still to be appended
 abbrev pub invariant-loop-next : goal.invariant-loop-next
 invariant-loop-next g l = record {
   text : IsTextAt l.self (l.next - 1) (joined l.text.items);

@@ -23,7 +23,7 @@ use Rattle.cs_rebuild.proofs.Keeping.{popped, one_less, place_in, no_rest}
 use Rattle.cs_rebuild.proofs.Numbers.{by_equal}
 use Rattle.cs_rebuild.proofs.reading.FilesWork.keep_all.Goals as goal
 
--- what is kept of a segment stays, unless its own files are kept anew
+-- what is stored of a segment stays, unless its own files are stored again
 stays : (C : CatalogData) (F : FileContents) (v w : SurvivorsData) (a b : ℕ × ℕ) → IsKept C F w b → AreOthersKept v b w → IsKept C F v a → IsKept C F w a
 stays C F v w a b new others old =
     by_equal a.0 b.0
@@ -36,7 +36,7 @@ stays C F v w a b new others old =
       joins = λ q i. let o = old.joins q i in (o.0, others.joins a.0 a.1 q differ ∙ o.1, o.2);
     }
 
--- where what the files of each surviving segment hold is kept, all is read
+-- if what the files of each surviving segment hold is stored, all was read
 all_read : (C : CatalogData) → IsCatalog C → (F : FileContents) (L : Sites) (segments : List (ℕ × ℕ)) → ((a : ℕ × ℕ) → IsIn a (surviving_segments C L) → IsIn a segments) → (v : SurvivorsData) → v.catalog ≡ C
     → ((k : ℕ) (a : ℕ × ℕ) → slice_get segments k ≡ Some a → IsKept C F v a) → AreRead C F L v
 all_read C cat F L segments are v catalog kept = record {
@@ -57,7 +57,7 @@ all_read C cat F L segments are v catalog kept = record {
         let below = ((cat.projections p h.0.0.0).joins q h.0.1).0 in
         filter_in (has_join C p) (numbers_below (length C.projections)) q (range_in 0 (length C.projections) q (omega arith) (omega (arith, below))) h.0.1
 
--- the files of the segment whose turn it is
+-- the files of the segment that is next
 module _ (C : CatalogData) (F : FileContents) (segments : List (ℕ × ℕ)) (n len : ℕ) (e : len ≡ n) (out : Rattle.cs_rebuild.specs.declared.files_of.SegmentFiles.SegmentFiles) (a : ℕ × ℕ) (at : slice_get segments n ≡ Some a) where
   there : get_or segments len (0, 0) ≡ a
   there = ap (λ m. get_or segments m (0, 0)) e ∙ get_or_from_slice_get segments n a (0, 0) at
@@ -76,7 +76,7 @@ keep-requires-clause-exists g c =
     subst (λ (D : CatalogData). HasSegment D (get_or segments c.len.result (0, 0)).0 (get_or segments c.len.result (0, 0)).1) (sym c.loop-held.invariant.catalog)
     (subst (λ (x : ℕ × ℕ). HasSegment w.catalog.now x.0 x.1) (sym same) (w.exist files.0 (in_at segments n files.0 files.1)))
 
--- what the files hold of the segment whose turn it is
+-- what the files of the segment that is next hold
 pub keep-requires-clause-kinds : goal.keep-requires-clause-kinds
 keep-requires-clause-kinds g c =
     let w = c.args.self.now in

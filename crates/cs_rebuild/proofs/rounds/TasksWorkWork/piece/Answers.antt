@@ -5,7 +5,7 @@ use Rattle.cs_store.specs.Fault.{MemoryOr}
 use Rattle.cs_rebuild.specs.Rounds.{is_memory, IsNoMemory}
 use Rattle.cs_rebuild.proofs.rounds.TasksWorkWork.piece.Goals as goal
 
--- want of memory as a test, or a task's own fault
+-- out of memory, by the test for it, or a task's own fault
 by_test : (f : Fault) (P : Type 0) → MemoryOr f P → (is_memory f ≡ true) ⊎ (P × IsNoMemory (Some f))
 by_test f P (inl m) = inl (ap is_memory m)
 by_test f P (inr p) = go (is_memory f) refl

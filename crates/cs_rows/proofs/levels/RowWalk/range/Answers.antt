@@ -15,7 +15,7 @@ use Rattle.cs_rows.specs.WalkedView.{WalkedData}
 use Rattle.cs_rows.proofs.FoundRows.{columns_of_rows, kinds_fit, found_rows_are, all_found, stray_fault}
 use Rattle.cs_rows.proofs.levels.RowWalk.range.Goals as goal
 
--- what is true of one catalog is true of the same one
+-- what is true of one catalog is true of an equal one
 own_rules : (C D : CatalogData) → C ≡ D → IsCatalog D → IsCatalog C
 own_rules C D same = subst IsCatalog (sym same)
 

@@ -3,7 +3,7 @@ use Rattle.std.specs.List.{find}
 use Rattle.cs_rows.specs.Walk.{At, is_astray}
 use Rattle.cs_rows.specs.Survivors.{contents_of}
 use Rattle.cs_rows.specs.Columns.{rows_from}
-use Rattle.cs_rows.specs.declared.range.WalkFault.{WalkFault}
+use Rattle.cs_rows.specs.declared.fault.WalkFault.{WalkFault}
 use Rattle.cs_rows.proofs.RangeLemmas.{rows_more, rows_around, found_none, fault_in}
 use Rattle.cs_rows.proofs.plan_walk.PlanWalk.follow_segment.Goals as goal
 

@@ -11,7 +11,7 @@ use Rattle.cs_rows.proofs.BlockLemmas.{cells_more}
 use Rattle.cs_rows.proofs.RowLemmas.{ReadThere, read_there_as}
 use Rattle.cs_rows.proofs.plan_walk.PlanWalk.push_column.Goals as goal
 
--- what is read of a row of the block
+-- what is read for a row of the block
 there : (w : PlanWalk) (block : List (List At)) (k n : ℕ) (read : ℕ × ℕ) → n < length w.survivors.now.catalog.columns → read ≡ get_or w.reads.items n read → k < length block
     → (m : KindedImage) → image_at w.survivors.now read.0 (get_or (get_or block k []) read.0 (0, 0)).0 ≡ Some m → m.kinds ≡ kinds_at w.survivors.now.catalog read.0
     → (s start : ℕ) → ArePlaces w.survivors.now.catalog (contents_of w.survivors.now) w.plan.now s start block → ReadThere w.survivors.now.catalog w.survivors.now w.plan.now (s, start + k) n (get_or (get_or block k []) read.0 (0, 0)) m read.1

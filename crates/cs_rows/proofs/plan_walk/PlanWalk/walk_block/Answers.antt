@@ -10,7 +10,7 @@ push_block-requires-clause-places c =
     let w = c.args.self.now in
     ((c.args.s, c.args.rows.0), subst (ArePlaces w.survivors.now.catalog (contents_of w.survivors.now) w.plan.now c.args.s c.args.rows.0) (sym c.as_slice.ensures.value) c.in-Ok.ensures.places)
 
--- the cells of the block's rows stand at the ends of the columns
+-- the cells of the block's rows have been appended to the columns
 pushed : (c : goal.In_ok-push_block) → Pushed c.args.self.now.survivors.now.catalog (contents_of c.args.self.now.survivors.now) c.args.self.now.plan.now (rows_from c.args.s c.args.rows.0 (c.args.rows.1 - c.args.rows.0)) c.args.columns.now.items c.push_block.new.columns.items (length c.args.self.now.survivors.now.catalog.columns)
 pushed c =
     let w = c.args.self.now in

@@ -3,7 +3,7 @@ use Rattle.std.specs.List.{find}
 use Rattle.cs_rows.specs.Walk.{At, is_astray}
 use Rattle.cs_schema.specs.CatalogData.{segments}
 use Rattle.cs_rows.specs.Survivors.{contents_of}
-use Rattle.cs_rows.specs.Columns.{rows_from, IsRowFault}
+use Rattle.cs_rows.specs.Columns.{rows_from, AreWalked, IsRowFault}
 use Rattle.cs_rows.proofs.RangeLemmas.{part, here, part_more, first_more, fault_of_part, found_none, walked_more}
 use Rattle.cs_rows.proofs.plan_walk.PlanWalk.walk_segments.Goals as goal
 
@@ -32,3 +32,11 @@ returns-in-Err-clause-fault c =
     let t = c.segments-s-end.ensures.count ∙ ap (segments c.args.self.now.survivors.now.catalog) a in
     fault_of_part c.args.self.now.survivors.now.catalog (contents_of c.args.self.now.survivors.now) c.args.self.now.plan.now c.args.from c.args.to c.loop-s.first c.loop-s.s (segments c.args.self.now.survivors.now.catalog c.args.self.now.plan.now.anchor) c.in-Err.fault (omega arith) c.loop-s.invariant.2 c.loop-s.invariant.3
     (subst (λ (l : List At). IsRowFault c.args.self.now.survivors.now.catalog (contents_of c.args.self.now.survivors.now) c.args.self.now.plan.now l c.in-Err.fault) rows c.in-Err.ensures.fault)
+
+pub returns-clause-cells : goal.returns-clause-cells
+returns-clause-cells c =
+    let C = c.args.self.now.survivors.now.catalog in
+    let S = contents_of c.args.self.now.survivors.now in
+    let P = c.args.self.now.plan.now in
+    let all : c.loop-s.s ≡ segments C P.anchor = omega (arith, c.loop-s-test.false, c.loop-s.auto.s-end, c.segments-s-end.ensures.count ∙ ap (segments C) c.anchor-anchor.ensures) in
+    subst (λ (n : ℕ). (ats : List At) → AreWalked C S P ats c.args.columns.now.items → AreWalked C S P (ats ++ part S P.anchor c.args.from c.args.to n) c.loop-s.columns.items) all c.loop-s.invariant.4

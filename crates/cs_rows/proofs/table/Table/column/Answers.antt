@@ -17,7 +17,7 @@ column_at-requires c =
     let same = ap (λ (w : WalkedData). length w.kinds) c.self.view_is in
     omega (arith, same, c.requires, length-map all kind_of, count c.self.inside.made.items c.self.inside.lent, ap length c.deref.ensures.value)
 
--- the column is one of all
+-- the column is one of the table's columns
 there : (c : goal.After-column_at) → c.column_at.result.now ≡ slice_index_or (all_columns c.self.inside) c.args.c c.column_at.result.now
 there c = c.column_at.ensures ∙ (λ i. slice_index_or (over (c.deref.ensures.value i) c.self.inside.lent) c.args.c c.column_at.result.now)
 

@@ -1,6 +1,4 @@
 use Rattle.std.proofs.Common.{Less, Greater}
-use Rattle.std.specs.Prelude.{slice_get}
-use Rattle.cs_schema.specs.Values.{values}
 use Rattle.cs_schema.proofs.CellLemmas.{int_before_text, text_after_int, texts_same, told_apart}
 use Rattle.cs_schema.proofs.cells.Cells.same.Goals as goal
 

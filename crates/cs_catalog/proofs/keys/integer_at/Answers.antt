@@ -1,0 +1,21 @@
+use Rattle.std.proofs.Common.{◌≡◌, Some, sym, refl, arith, to_z-of_z}
+use Rattle.toml.specs.Data.{as_integer}
+use Rattle.toml.specs.View.{view}
+use Rattle.toml.proofs.Views.{table_get}
+use Rattle.cs_catalog.proofs.keys.integer_at.Goals as goal
+
+pub returns-in-Some-as_integer-clause-read : goal.returns-in-Some-as_integer-clause-read
+returns-in-Some-as_integer-clause-read c =
+    let found = table_get c.get.result c.args.key.now c.args.table.now.entries c.get.ensures.value in
+    let here : Some c.in-Some-as_integer.number ≡ as_integer (view c.in-Some.value.now) = c.in-Some-as_integer.ensures in
+    rw (← rw c.in-Some.is at found) (grind (arith, to_z-of_z))
+
+pub returns-in-None-as_integer-clause-unread : goal.returns-in-None-as_integer-clause-unread
+returns-in-None-as_integer-clause-unread c =
+    let found = table_get c.get.result c.args.key.now c.args.table.now.entries c.get.ensures.value in
+    (refl, rw (← rw c.in-Some.is at found) (sym c.in-None-as_integer.ensures))
+
+pub returns-in-None-clause-unread : goal.returns-in-None-clause-unread
+returns-in-None-clause-unread c =
+    let found = table_get c.get.result c.args.key.now c.args.table.now.entries c.get.ensures.value in
+    (refl, rw (← rw c.in-None.is at found))
