@@ -1,7 +1,0 @@
-use Rattle.std.proofs.Common.{◌≡◌, ℕ, ◌<◌, true}
-use Rattle.cs_safety.specs.Paths.{holds_column}
-use Rattle.cs_rows.proofs.own_rows.has_all_columns.Given as goal
-
--- the columns so far are there
-abbrev pub invariant-loop-c : goal.invariant-loop-c
-invariant-loop-c l = (k : ℕ) → k < l.c → holds_column l.survivors.catalog l.p k ≡ true
