@@ -200,8 +200,7 @@ impl RowWalk<'_> {
         Ok(())
     }
 
-    /// The rows that the walks from the surviving rows `from..to` find; with `fresh_only`, those that no earlier walk
-    /// finds.
+    /// The rows found from the surviving rows `from..to`; with `fresh_only`, those that no earlier walk finds.
     fn range(
         &self,
         alloc: Global,
