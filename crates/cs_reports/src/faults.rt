@@ -139,33 +139,14 @@ pub fn with_site(loss: Loss, site: Option<u8>) -> Loss {
 pub struct Next<'a> {
     /// The folder of the store.
     pub store: &'a str,
-    /// The sites to restore, if files are bad.
-    pub sites: Loss,
     pub fault: &'a Fault,
 }
 
-/// What a command names.
-#[derive(Clone, Copy)]
-enum Word<'a> {
-    Path(ShellWord<'a>),
-    Sites(SiteWords),
-}
-
-impl fmt::Display for Word<'_> {
-    fn fmt<W: fmt::Write>(&self, f: &mut fmt::Formatter<W>) -> fmt::Result {
-        match self {
-            Word::Path(path) => write!(f, "{path}"),
-            Word::Sites(sites) => write!(f, "{sites}"),
-        }
-    }
-}
-
-/// What to do next after a fault, with the store in place of `{0}` and the sites in place of `{1}`.
+/// What to do next after a fault, with the store in place of `{0}`.
 fn next_text(fault: &Fault) -> &'static str {
     match fault {
         Fault::Memory => "run it with fewer workers, or with more memory",
         Fault::Site | Fault::Unsafe(_) | Fault::BadK => "pinepolo design {0}",
-        Fault::Missing(_) | Fault::Damaged(_) => "pinepolo restore {0}{1}",
         Fault::Read(_) => {
             "see that it is a regular file that may be read, and no longer than its catalog allows"
         }
@@ -176,8 +157,6 @@ fn next_text(fault: &Fault) -> &'static str {
 
 impl fmt::Display for Next<'_> {
     fn fmt<W: fmt::Write>(&self, f: &mut fmt::Formatter<W>) -> fmt::Result {
-        let path = Word::Path(ShellWord(self.store));
-        let sites = Word::Sites(SiteWords(self.sites));
-        fill(f, next_text(self.fault), &[path, sites])
+        fill(f, next_text(self.fault), &[ShellWord(self.store)])
     }
 }

@@ -47,7 +47,7 @@ pub fn restore_error(
 ) -> VerbError
     ensures { (status_of result ≡ fault_status fault.now) ⊎ (status_of result ≡ status_of VerbError.OutOfMemory) }
 {
-    let error = VerbError::of_store(alloc, store.catalog, store.path, store.lost, fault);
+    let error = VerbError::of_store(alloc, store.catalog, store.path, fault);
     if given.is_unfinished {
         error.with(Step::Resume(store.verb), Vec::new(alloc))
     } else {

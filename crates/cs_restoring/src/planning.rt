@@ -24,13 +24,7 @@ pub fn plan<R: Threads + Sync, G: Progress + Sync>(
 {
     match plan_restore(run, store.catalog, store.lost, read) {
         Ok(plan) => Ok(plan.steps),
-        Err(fault) => Err(VerbError::of_store(
-            run.alloc,
-            store.catalog,
-            store.path,
-            store.lost,
-            &fault,
-        )),
+        Err(fault) => Err(VerbError::of_store(run.alloc, store.catalog, store.path, &fault)),
     }
 }
 

@@ -52,7 +52,7 @@ pub fn drill<R: Threads + Sync, G: Progress + Sync, P: Places + Meter>(
     let none = Loss::none();
     let files = match load_side_by_side(run.rt, alloc, &catalog, none, &source) {
         Ok(files) => files,
-        Err(fault) => return Err(VerbError::of_store(alloc, &catalog, request.store, none, &fault)),
+        Err(fault) => return Err(VerbError::of_store(alloc, &catalog, request.store, &fault)),
     };
     let at_most = reach_of(&catalog, request.at_most);
     let meter: &P = places;
@@ -64,6 +64,6 @@ pub fn drill<R: Threads + Sync, G: Progress + Sync, P: Places + Meter>(
             trials,
             measures: watch.measures,
         }),
-        Err(fault) => Err(VerbError::of_store(alloc, &catalog, request.store, none, &fault)),
+        Err(fault) => Err(VerbError::of_store(alloc, &catalog, request.store, &fault)),
     }
 }

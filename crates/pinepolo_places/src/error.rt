@@ -4,8 +4,8 @@ ghost use Rattle.pinepolo_places.specs.Status.{status_of, fault_status};
 
 use crate::causes::{Failure, Refusal};
 use cs_catalog::CatalogFault;
-use cs_reports::{BadFile, FaultWords, fault_site, with_site};
-use cs_schema::{Catalog, Loss};
+use cs_reports::{BadFile, FaultWords, fault_site};
+use cs_schema::Catalog;
 use cs_shelf::WorkKind;
 use cs_store::{Fault, StoreFault};
 use std::alloc::Global;
@@ -44,8 +44,6 @@ pub struct StoreError {
     pub site: Option<u8>,
     /// The folder of the store, or the file of its catalog, and the fault in words.
     pub subject: Subject,
-    /// The sites that are lost, and that of the fault.
-    pub sites: Loss,
     /// All bad files, if the fault comes of them and they are known.
     pub bad: Vec<BadFile>,
     /// What to do next.
@@ -179,20 +177,18 @@ impl VerbError {
         }
     }
 
-    /// A fault of the store at a path, which has this catalog, and of which some sites are lost.
-    pub fn of_store(alloc: Global, catalog: &Catalog, path: &str, lost: Loss, fault: &Fault) -> Self
+    /// A fault of the store at a path, which has this catalog.
+    pub fn of_store(alloc: Global, catalog: &Catalog, path: &str, fault: &Fault) -> Self
         ensures { (status_of result ≡ fault_status fault.now) ⊎ (result ≡ VerbError.OutOfMemory) }
     {
         let words = FaultWords { catalog, fault };
         let Some(subject) = subject_of(alloc, path, &words) else {
             return VerbError::OutOfMemory;
         };
-        let site = fault_site(catalog, fault);
         VerbError::Store(StoreError {
             fault: *fault,
-            site,
+            site: fault_site(catalog, fault),
             subject,
-            sites: with_site(lost, site),
             bad: Vec::new(alloc),
             step: Step::ByFault,
         })
@@ -208,7 +204,6 @@ impl VerbError {
                     fault,
                     site,
                     subject,
-                    sites,
                     bad: _,
                     step: _,
                 },
@@ -216,7 +211,6 @@ impl VerbError {
                 fault,
                 site,
                 subject,
-                sites,
                 bad,
                 step,
             }),

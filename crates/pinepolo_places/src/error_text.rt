@@ -97,7 +97,6 @@ impl StoreError {
         };
         let next = Next {
             store: self.subject.path.as_str(),
-            sites: self.sites,
             fault: &self.fault,
         };
         write!(f, "{next}")

@@ -28,7 +28,7 @@ pub fn design<P: Places + Tables>(
     };
     if !catalog.has_sites(lost) {
         let fault = &Fault::Site;
-        return Err(VerbError::of_store(alloc, &catalog, request.catalog, lost, fault));
+        return Err(VerbError::of_store(alloc, &catalog, request.catalog, fault));
     }
     let Ok(design) = design_of(alloc, &catalog, lost) else {
         return Err(VerbError::OutOfMemory);

@@ -30,8 +30,7 @@ pub fn make_store<P: Tables>(
 
 /// The error for the catalog at a path that is unsafe without any loss.
 pub fn unsafe_already(alloc: Global, catalog: &Catalog, path: &str) -> VerbError {
-    let none = Loss::none();
-    VerbError::of_store(alloc, catalog, path, none, &Fault::Unsafe(none))
+    VerbError::of_store(alloc, catalog, path, &Fault::Unsafe(Loss::none()))
 }
 
 /// The error for a file of a new store that could not be written.

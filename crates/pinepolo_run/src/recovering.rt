@@ -60,12 +60,12 @@ fn rebuild_store<R: Threads + Sync, G: Progress + Sync, P: Places>(
     let files = match load_side_by_side(run.rt, alloc, &catalog, lost, &source) {
         Ok(files) => files,
         Err(fault) => {
-            return Err(VerbError::of_store(alloc, &catalog, request.store, lost, &fault));
+            return Err(VerbError::of_store(alloc, &catalog, request.store, &fault));
         }
     };
     match rebuild_owned(run, &catalog, lost, files) {
         Ok(rebuilt) => Ok((catalog, rebuilt)),
-        Err(fault) => Err(VerbError::of_store(alloc, &catalog, request.store, lost, &fault)),
+        Err(fault) => Err(VerbError::of_store(alloc, &catalog, request.store, &fault)),
     }
 }
 

@@ -176,7 +176,7 @@ fn show_file<P: Places>(
         Err(StoreFault::Device) => Fault::Read(name),
         Err(StoreFault::Memory) => Fault::Memory,
     };
-    Err(VerbError::of_store(alloc, &catalog, path, Loss::none(), &fault))
+    Err(VerbError::of_store(alloc, &catalog, path, &fault))
 }
 
 /// What a store holds, or what the bytes of one of its files say.

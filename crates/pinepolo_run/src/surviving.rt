@@ -70,7 +70,7 @@ pub fn refuse<R: Threads + Sync, G: Progress + Sync>(
     fault: &Fault,
 ) -> VerbError {
     let (alloc, catalog) = (run.alloc, store.catalog);
-    let error = VerbError::of_store(alloc, catalog, store.path, store.lost, fault);
+    let error = VerbError::of_store(alloc, catalog, store.path, fault);
     if let Fault::Memory | Fault::Site | Fault::Unsafe(_) = fault {
         return error;
     }

@@ -151,7 +151,6 @@ impl<'a> CheckedText<'a> {
         }
         let next = Next {
             store,
-            sites: Loss::none(),
             fault: &fault,
         };
         writeln!(f, "next: {next}")

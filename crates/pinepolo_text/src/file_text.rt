@@ -9,8 +9,8 @@ use crate::samples::{first_end, has_gap, last_begin};
 use cs_delta::{Delta, Layer};
 use cs_file_decode::{Content, Digests, Nonsense};
 use cs_jix::JoinIndex;
-use cs_reports::{ColumnNames, ShellWord, SiteWords, site_of, with_site};
-use cs_schema::{Catalog, FileName, Loss};
+use cs_reports::{ColumnNames, ShellWord, site_of};
+use cs_schema::{Catalog, FileName};
 use cs_segment::Segment;
 use std::fmt;
 
@@ -230,14 +230,12 @@ impl FileText<'_> {
         f: &mut fmt::Formatter<W>,
         nonsense: &Nonsense,
     ) -> fmt::Result {
-        let view = self.view;
-        let (at, length, wanted) = (nonsense.at, view.report.length, nonsense.wanted);
-        let site = site_of(&view.catalog, view.name.projection(), view.name.segment());
-        let sites = SiteWords(with_site(Loss::none(), site));
+        let length = self.view.report.length;
+        let (at, wanted) = (nonsense.at, nonsense.wanted);
         let store = ShellWord(self.store);
         writeln!(
             f,
-            "damaged: invalid at byte {at} of {length}; expected: {wanted}\nnext: pinepolo restore {store}{sites}"
+            "damaged: invalid at byte {at} of {length}; expected: {wanted}\nnext: pinepolo diagnose {store}"
         )
     }
 }
