@@ -4,10 +4,10 @@ ghost use Rattle.cs_manifest.specs.Digests.{digest};
 ghost use Rattle.cs_parallel_io.specs.Standing.{standing};
 ghost use Rattle.cs_verifying.specs.Promises.{DigestsStore};
 
-use crate::one_site::{has_site, others};
+use crate::one_site::{others, require_site};
 use cs_manifest::{Digested, digest_files, digest_of};
 use cs_schema::{Catalog, FileName};
-use pinepolo_places::{Places, Refusal, VerbError, find_store_text};
+use pinepolo_places::{Places, VerbError, find_store_text};
 use std::alloc::Global;
 
 /// The digests of a store.
@@ -36,9 +36,9 @@ pub fn digest_store<P: Places>(
         Ok(found) => found,
         Err(error) => return Err(error),
     };
-    if !has_site(&catalog, site) {
-        let refusal = Refusal::NoSuchSite(site.unwrap_or(0));
-        return Err(VerbError::refused(alloc, refusal, path));
+    match require_site(alloc, &catalog, site, path) {
+        Ok(()) => {}
+        Err(error) => return Err(error),
     }
     match digest_files(alloc, &catalog, others(site), &source) {
         Ok(files) => Ok(StoreDigests {

@@ -1,9 +1,12 @@
 //! The files of one site alone.
-ghost use Rattle.std.specs.Prelude.{◌≡◌, ◌≤◌, ◌==◌, ◌&&◌, ◌||◌, ℕ, not, IsTrue, IfSome};
+ghost use Rattle.std.specs.Prelude.{◌≡◌, ◌⊎◌, ◌↔◌, ◌<◌, ◌≤◌, ◌==◌, ◌&&◌, ◌||◌, ℕ, not, IsTrue, IfSome, IsSomeAnd, IfErr, OnOk, OnErr};
 ghost use Rattle.cs_schema.specs.Lists.{member};
+ghost use Rattle.pinepolo_places.specs.Status.{status_of};
 ghost use Rattle.cs_verifying.specs.Promises.{AreOthers};
 
 use cs_schema::{Catalog, Loss};
+use pinepolo_places::{REFUSED, Refusal, VerbError};
+use std::alloc::Global;
 
 /// A loss with one more site, unless it is the site that is kept.
 fn with_unless(lost: Loss, other: u8, kept: u8) -> Loss
@@ -40,11 +43,30 @@ pub fn others(site: Option<u8>) -> Loss
 }
 
 /// Whether a catalog has the site, if one is given.
-pub fn has_site(catalog: &Catalog, site: Option<u8>) -> bool
-    ensures { IsTrue result → IfSome site (λ n. n ≤ catalog.now.sites) }
+fn has_site(catalog: &Catalog, site: Option<u8>) -> bool
+    ensures { IsTrue result ↔ IfSome site (λ n. n ≤ catalog.now.sites) }
 {
     match site {
         Some(site) => site <= catalog.sites,
         None => true,
+    }
+}
+
+/// Refuses a site that is given and that the catalog of the store at this path lacks.
+pub fn require_site(
+    alloc: Global,
+    catalog: &Catalog,
+    site: Option<u8>,
+    path: &str,
+) -> Result<(), VerbError>
+    ensures ok { OnOk result (IfSome site (λ n. n ≤ catalog.now.sites)) }
+    ensures err { OnErr result (IsSomeAnd site (λ n. catalog.now.sites < n)) }
+    ensures status { IfErr result (λ error. (status_of error ≡ REFUSED) ⊎ (error ≡ VerbError.OutOfMemory)) }
+{
+    match site {
+        Some(number) if !has_site(catalog, site) => {
+            Err(VerbError::refused(alloc, Refusal::NoSuchSite(number), path))
+        }
+        _ => Ok(()),
     }
 }
