@@ -2,7 +2,7 @@
 use crate::columns::LostColumns;
 use crate::filled::fill;
 use crate::placed::site_of;
-use crate::shell_word::ShellWord;
+use crate::shell_word::StoreWords;
 use cs_schema::{Catalog, Loss, Safety};
 use cs_store::Fault;
 use std::fmt;
@@ -137,8 +137,7 @@ pub fn with_site(loss: Loss, site: Option<u8>) -> Loss {
 /// What to do next after a fault of a store. Its text is one line: a command that can be pasted, or advice.
 #[derive(Clone, Copy)]
 pub struct Next<'a> {
-    /// The folder of the store.
-    pub store: &'a str,
+    pub store: StoreWords<'a>,
     pub fault: &'a Fault,
 }
 
@@ -157,6 +156,6 @@ fn next_text(fault: &Fault) -> &'static str {
 
 impl fmt::Display for Next<'_> {
     fn fmt<W: fmt::Write>(&self, f: &mut fmt::Formatter<W>) -> fmt::Result {
-        fill(f, next_text(self.fault), &[ShellWord(self.store)])
+        fill(f, next_text(self.fault), &[self.store])
     }
 }

@@ -23,5 +23,5 @@ pub use fault_json::with_fault;
 pub use faults::{FaultWords, Next, SiteWords, fault_site, with_site};
 pub use filled::fill;
 pub use placed::{BadFile, FileProblem, file_object, file_objects, site_of};
-pub use shell_word::ShellWord;
+pub use shell_word::{ShellWord, StoreWords};
 pub use svg::{picture, store_picture};

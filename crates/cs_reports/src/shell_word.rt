@@ -1,4 +1,4 @@
-//! Paths as words of a command line.
+//! Paths and stores as words of a command line.
 use std::fmt;
 
 /// A path as a word that a shell reads as it is: between quotes if it has a blank or another special character.
@@ -24,5 +24,25 @@ impl fmt::Display for ShellWord<'_> {
             }
         }
         f.write_str("'")
+    }
+}
+
+/// A store as words of a command line: its path, behind the option for its SITES file if it has one.
+#[derive(Clone, Copy)]
+pub struct StoreWords<'a> {
+    /// The folder of the store.
+    pub store: &'a str,
+    /// The path of the SITES file, if its sites have folders of their own.
+    pub sites: Option<&'a str>,
+}
+
+impl fmt::Display for StoreWords<'_> {
+    fn fmt<W: fmt::Write>(&self, f: &mut fmt::Formatter<W>) -> fmt::Result {
+        if let Some(sites) = self.sites {
+            let file = ShellWord(sites);
+            write!(f, "--sites {file} ")?;
+        }
+        let store = ShellWord(self.store);
+        write!(f, "{store}")
     }
 }

@@ -40,13 +40,12 @@ fn main(rt: HostRuntime) -> ExitCode {
                     Err(error) => report_sites(&error, &mut err),
                 }
             }
-            Err(_) => report(&VerbError::OutOfMemory, &mut err),
+            Err(_) => report(&VerbError::OutOfMemory, None, &mut err),
         },
-        Err(e) if e.kind() == io::ErrorKind::OutOfMemory => report(
-            &VerbError::OutOfMemory,
-            &mut err,
-        ),
-        Err(_) => report(&VerbError::NotUtf8, &mut err),
+        Err(e) if e.kind() == io::ErrorKind::OutOfMemory => {
+            report(&VerbError::OutOfMemory, None, &mut err)
+        }
+        Err(_) => report(&VerbError::NotUtf8, None, &mut err),
     };
     ExitCode::from(status)
 }

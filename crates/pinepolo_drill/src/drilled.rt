@@ -6,7 +6,7 @@ ghost use Rattle.pinepolo_drill.specs.Statuses.{drilled_status, is_failed};
 use crate::meter::Measure;
 use crate::trial_words::{Lost, TrialLine};
 use cs_drill::{Outcome, Trial};
-use cs_reports::ShellWord;
+use cs_reports::StoreWords;
 use cs_schema::{Catalog, Loss};
 use cs_store::Fault;
 use pinepolo_places::{DONE, REFUSED};
@@ -99,12 +99,11 @@ impl Drilled {
     }
 }
 
-/// What a drill of the store at a path found, as lines.
+/// What a drill of a store found, as lines.
 #[derive(Clone, Copy)]
 pub struct DrilledText<'a> {
     pub drilled: &'a Drilled,
-    /// The folder of the store.
-    pub store: &'a str,
+    pub store: StoreWords<'a>,
 }
 
 impl DrilledText<'_> {
@@ -116,7 +115,7 @@ impl DrilledText<'_> {
         if failures == 0 {
             return writeln!(f, "ok losses={losses} at_most={sites}");
         }
-        let store = ShellWord(self.store);
+        let store = self.store;
         let verb = if drilled.fails_by_design() {
             "design"
         } else {

@@ -1,7 +1,7 @@
 //! What a verb can fail at, and for what it refuses what it was given, each with its texts.
 //!
 //! In a text `{0}` stands for the path, `{1}` for the path as a word of a command line, `{2}` for what is wrong there in words,
-//! `{3}` for a number or a verb, and `{4}` for a file.
+//! `{3}` for a number or a verb, `{4}` for a file, and `{5}` for the path as words of a command line with its SITES file.
 use arrayvec::ArrayString;
 use cs_schema::FileName;
 use cs_shelf::WorkKind;
@@ -135,8 +135,8 @@ pub fn refusal_texts(refusal: &Refusal) -> (&'static str, &'static str) {
             "{0}.partial is left from an unfinished run",
             "see that no other run writes it, then give --replace-partial",
         ),
-        Refusal::NoSuchFile => ("the catalog has no file \"{2}\"", "pinepolo show {1}"),
-        Refusal::NoSuchSite(_) => ("the catalog has no site {3}", "pinepolo design {1}"),
+        Refusal::NoSuchFile => ("the catalog has no file \"{2}\"", "pinepolo show {5}"),
+        Refusal::NoSuchSite(_) => ("the catalog has no site {3}", "pinepolo design {5}"),
         Refusal::CatalogChanged => (
             "{0}/catalog.toml has another digest than the manifest's",
             "give the manifest of this store, or bring its catalog back",

@@ -3,6 +3,7 @@ ghost use Rattle.std.specs.Prelude.{◌≡◌, ◌⊎◌, IsTrue};
 ghost use Rattle.pinepolo_places.specs.Status.{status_of, fault_status};
 
 use crate::causes::{Failure, Refusal};
+use crate::error_text::ErrorText;
 use cs_catalog::CatalogFault;
 use cs_reports::{BadFile, FaultWords, fault_site};
 use cs_schema::Catalog;
@@ -78,13 +79,14 @@ pub enum VerbError {
     Store(StoreError),
 }
 
-/// Says on `err` why a verb ended early, and gives its status.
+/// Says on `err` why a verb ended early on a store with this SITES file, and gives its status.
 ///
 /// The status is that of a device if `err` can't be written.
-pub fn report<E: Write>(error: &VerbError, err: &mut E) -> u8
+pub fn report<E: Write>(error: &VerbError, sites: Option<&str>, err: &mut E) -> u8
     ensures { (result ≡ status_of error.now) ⊎ (result ≡ DEVICE) }
 {
-    match write!(err, "{error}") {
+    let text = ErrorText { error, sites };
+    match write!(err, "{text}") {
         Ok(()) => error.status(),
         Err(_) => DEVICE,
     }

@@ -2,7 +2,7 @@
 use crate::causes::{Failure, Refusal, failure_texts, refusal_texts};
 use crate::error::{Step, StoreError, VerbError};
 use cs_catalog::CatalogFault;
-use cs_reports::{Next, ShellWord, fill};
+use cs_reports::{Next, ShellWord, StoreWords, fill};
 use cs_schema::FileName;
 use cs_shelf::WorkKind;
 use std::fmt;
@@ -38,6 +38,7 @@ enum Part<'a> {
     Text(&'a str),
     Path(ShellWord<'a>),
     Detail(Detail),
+    Store(StoreWords<'a>),
 }
 
 impl fmt::Display for Part<'_> {
@@ -46,6 +47,7 @@ impl fmt::Display for Part<'_> {
             Part::Text(text) => f.write_str(text),
             Part::Path(path) => write!(f, "{path}"),
             Part::Detail(detail) => write!(f, "{detail}"),
+            Part::Store(store) => write!(f, "{store}"),
         }
     }
 }
@@ -86,17 +88,21 @@ impl StoreError {
             Step::ByFault => (said, ""),
             Step::Resume(WorkKind::Restore) => (said, "pinepolo restore --resume {1}"),
             Step::Resume(WorkKind::Undo) => (said, "pinepolo undo --resume {1}"),
-            Step::Diagnose => (said, "pinepolo diagnose {1}"),
+            Step::Diagnose => (said, "pinepolo diagnose {5}"),
         }
     }
 
-    /// Writes what the fault asks for, if that is to be done next.
-    fn write_step<W: fmt::Write>(&self, f: &mut fmt::Formatter<W>) -> fmt::Result {
+    /// Writes what the fault of this store asks for, if that is to be done next.
+    fn write_step<W: fmt::Write>(
+        &self,
+        f: &mut fmt::Formatter<W>,
+        store: StoreWords<'_>,
+    ) -> fmt::Result {
         let Step::ByFault = self.step else {
             return Ok(());
         };
         let next = Next {
-            store: self.subject.path.as_str(),
+            store,
             fault: &self.fault,
         };
         write!(f, "{next}")
@@ -125,9 +131,9 @@ impl VerbError {
             ),
             VerbError::Catalog(_, subject) => {
                 if subject.words.is_empty() {
-                    ("{3}", "change it, then pinepolo design {1}")
+                    ("{3}", "change it, then pinepolo design {5}")
                 } else {
-                    ("{3}: {2}", "change it, then pinepolo design {1}")
+                    ("{3}: {2}", "change it, then pinepolo design {5}")
                 }
             }
             VerbError::Device(failure, _) => failure_texts(failure),
@@ -163,16 +169,22 @@ impl VerbError {
         }
     }
 
-    /// Writes a text of the error, with what it names.
-    fn write_text<W: fmt::Write>(&self, f: &mut fmt::Formatter<W>, text: &str) -> fmt::Result {
-        let (path, words) = self.subject();
+    /// Writes a text of the error, with what it names, on a store with this SITES file.
+    fn write_text<W: fmt::Write>(
+        &self,
+        f: &mut fmt::Formatter<W>,
+        text: &str,
+        sites: Option<&str>,
+    ) -> fmt::Result {
+        let (store, words) = self.subject();
         let (third, fourth) = self.details();
         let parts = [
-            Part::Text(path),
-            Part::Path(ShellWord(path)),
+            Part::Text(store),
+            Part::Path(ShellWord(store)),
             Part::Text(words),
             Part::Detail(third),
             Part::Detail(fourth),
+            Part::Store(StoreWords { store, sites }),
         ];
         fill(f, text, &parts)
     }
@@ -184,22 +196,31 @@ pub struct ErrorWords<'a>(pub &'a VerbError);
 
 impl fmt::Display for ErrorWords<'_> {
     fn fmt<W: fmt::Write>(&self, f: &mut fmt::Formatter<W>) -> fmt::Result {
-        self.0.write_text(f, self.0.texts().0)
+        self.0.write_text(f, self.0.texts().0, None)
     }
 }
 
 /// What is wrong, and what to do next, as lines.
-impl fmt::Display for VerbError {
+#[derive(Clone, Copy)]
+pub struct ErrorText<'a> {
+    pub error: &'a VerbError,
+    /// The path of the SITES file, if the sites of the store have folders of their own.
+    pub sites: Option<&'a str>,
+}
+
+impl fmt::Display for ErrorText<'_> {
     fn fmt<W: fmt::Write>(&self, f: &mut fmt::Formatter<W>) -> fmt::Result {
-        let words = ErrorWords(self);
+        let ErrorText { error, sites } = *self;
+        let words = ErrorWords(error);
         writeln!(f, "fault: {words}")?;
-        if let VerbError::Store(error) = self {
+        if let VerbError::Store(error) = error {
             error.write_files(f)?;
         }
         f.write_str("next: ")?;
-        self.write_text(f, self.texts().1)?;
-        if let VerbError::Store(error) = self {
-            error.write_step(f)?;
+        error.write_text(f, error.texts().1, sites)?;
+        if let VerbError::Store(error) = error {
+            let store = error.subject.path.as_str();
+            error.write_step(f, StoreWords { store, sites })?;
         }
         f.write_str("\n")
     }

@@ -96,7 +96,7 @@ fn say_exit<W: Write, E: Write>(exit: &ParseExit, out: &mut W, err: &mut E) -> u
     ensures { IsSaid (exit_status exit.now) result }
 {
     match exit {
-        ParseExit::OutOfMemory => report(&VerbError::OutOfMemory, err),
+        ParseExit::OutOfMemory => report(&VerbError::OutOfMemory, None, err),
         ParseExit::Help(text) => print_bytes(text.as_bytes(), DONE, out),
         ParseExit::Usage(text) => print_bytes(text.as_bytes(), USAGE, err),
     }
@@ -115,7 +115,7 @@ fn say_error<W: Write, E: Write>(
     if request.json && error.is_refusal() {
         say_refusal(alloc, request.verb.name(), error, out)
     } else {
-        report(error, err)
+        report(error, request.sites, err)
     }
 }
 

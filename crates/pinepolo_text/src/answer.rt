@@ -9,7 +9,7 @@ use crate::found_restore::{FoundRestore, FoundText};
 use crate::new_store::NewStore;
 use crate::recovered::Recovered;
 use crate::restoration::Restoration;
-use crate::sited::Sited;
+use crate::sited::{Sited, store_words};
 use crate::store_text::StoreText;
 use crate::undone::Undone;
 use crate::{FileView, StoreView};
@@ -77,9 +77,12 @@ impl fmt::Display for AnswerText<'_> {
                     }
                 )
             }
-            Answer::Drilled(drilled) => write!(f, "{}", DrilledText { drilled, store }),
+            Answer::Drilled(drilled) => {
+                let store = store_words(store, sites);
+                write!(f, "{}", DrilledText { drilled, store })
+            }
             Answer::Shown(view) => write!(f, "{}", StoreText { view, store, sites }),
-            Answer::ShownFile(view) => write!(f, "{}", FileText { view, store }),
+            Answer::ShownFile(view) => write!(f, "{}", FileText { view, store, sites }),
             Answer::Diagnosed(diagnosed) => {
                 write!(
                     f,

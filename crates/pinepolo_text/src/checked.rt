@@ -4,7 +4,7 @@ ghost use Rattle.pinepolo_text.specs.Statuses.{checked_status};
 
 use crate::Unfinished;
 use crate::bad_files::BadLines;
-use crate::sited::{AwayLines, Sited, StoreWords, away_sites};
+use crate::sited::{AwayLines, Sited, away_sites, store_words};
 use cs_inspection::Badness;
 use cs_reports::{FaultWords, Next, SiteWords, site_of, with_site};
 use cs_safety::safe;
@@ -101,19 +101,11 @@ pub struct CheckedText<'a> {
     pub sites: Option<Sited<'a>>,
 }
 
-impl<'a> CheckedText<'a> {
-    /// The store as words of a command line.
-    fn words(&self) -> StoreWords<'a> {
-        StoreWords {
-            store: self.store,
-            sites: self.sites,
-        }
-    }
-
+impl CheckedText<'_> {
     /// What to do next about bad files.
     fn write_recovery<W: fmt::Write>(&self, f: &mut fmt::Formatter<W>) -> fmt::Result {
         let loss = self.checked.bad_sites();
-        let (store, sites) = (self.words(), SiteWords(loss));
+        let (store, sites) = (store_words(self.store, self.sites), SiteWords(loss));
         if safe(&self.checked.catalog, loss) {
             if self.sites.is_some() {
                 // (no restore reaches the folders of sites)
@@ -130,8 +122,8 @@ impl<'a> CheckedText<'a> {
 
     /// What to do next.
     fn write_next<W: fmt::Write>(&self, f: &mut fmt::Formatter<W>) -> fmt::Result {
-        let store = self.store;
         if let Some(kind) = self.checked.unfinished {
+            let store = self.store;
             let unfinished = Unfinished { kind, store };
             return write!(f, "{unfinished}");
         }
@@ -141,16 +133,8 @@ impl<'a> CheckedText<'a> {
             Verdict::Fatal { loss, .. } => Fault::Unsafe(*loss),
             Verdict::Unsound(fault) => *fault,
         };
-        if self.sites.is_some() {
-            let verb = match fault {
-                Fault::Unsafe(_) => "design",
-                _ => "diagnose",
-            };
-            let store = self.words();
-            return writeln!(f, "next: pinepolo {verb} {store}");
-        }
         let next = Next {
-            store,
+            store: store_words(self.store, self.sites),
             fault: &fault,
         };
         writeln!(f, "next: {next}")

@@ -7,7 +7,7 @@ use crate::bad_files::BadLines;
 use crate::changed::{ChangedFile, reads_well};
 use crate::disputed::DisputeLines;
 use crate::explained::{ExplanationLines, VerdictLine};
-use crate::sited::{AwayLines, Sited, StoreWords, away_sites};
+use crate::sited::{AwayLines, Sited, away_sites, store_words};
 use crate::unrecoverable::BringBack;
 use cs_design::fatal_losses;
 use cs_diagnosis::{Diagnosis, TableDisputes, Verdict};
@@ -103,15 +103,7 @@ pub struct DiagnosedText<'a> {
     pub sites: Option<Sited<'a>>,
 }
 
-impl<'a> DiagnosedText<'a> {
-    /// The store as words of a command line.
-    fn words(&self) -> StoreWords<'a> {
-        StoreWords {
-            store: self.store,
-            sites: self.sites,
-        }
-    }
-
+impl DiagnosedText<'_> {
     /// That work was left unfinished, and how it is resumed.
     fn write_unfinished<W: fmt::Write>(&self, f: &mut fmt::Formatter<W>) -> fmt::Result {
         let Some(kind) = self.diagnosed.unfinished else {
@@ -136,7 +128,7 @@ impl<'a> DiagnosedText<'a> {
         let Some(first) = self.diagnosed.diagnosis.explanations.first() else {
             return Ok(());
         };
-        let (store, sites) = (self.words(), SiteWords(first.loss));
+        let (store, sites) = (store_words(self.store, self.sites), SiteWords(first.loss));
         // (a restore finds nothing wrong with what a manifest alone says is changed)
         let option = if reads_well(self.diagnosed.changed.as_slice()) {
             " --accept-loss"
@@ -170,7 +162,7 @@ impl<'a> DiagnosedText<'a> {
             };
             write!(f, "{lines}")?;
         }
-        let store = self.words();
+        let store = store_words(self.store, self.sites);
         writeln!(
             f,
             "the files alone cannot tell which table is right: compare them with a manifest (pinepolo diagnose --manifest FILE {store}) or a backup, or look at the files (pinepolo show {store} FILE)"

@@ -6,10 +6,11 @@ use crate::counted::Counted;
 use crate::file_view::FileView;
 use crate::row_words::{BaseRow, Hex, ItemWords};
 use crate::samples::{first_end, has_gap, last_begin};
+use crate::sited::{Sited, store_words};
 use cs_delta::{Delta, Layer};
 use cs_file_decode::{Content, Digests, Nonsense};
 use cs_jix::JoinIndex;
-use cs_reports::{ColumnNames, ShellWord, site_of};
+use cs_reports::{ColumnNames, site_of};
 use cs_schema::{Catalog, FileName};
 use cs_segment::Segment;
 use std::fmt;
@@ -221,6 +222,8 @@ pub struct FileText<'a> {
     pub view: &'a FileView,
     /// The folder of the store.
     pub store: &'a str,
+    /// Where its sites stand, if not there.
+    pub sites: Option<Sited<'a>>,
 }
 
 impl FileText<'_> {
@@ -232,7 +235,7 @@ impl FileText<'_> {
     ) -> fmt::Result {
         let length = self.view.report.length;
         let (at, wanted) = (nonsense.at, nonsense.wanted);
-        let store = ShellWord(self.store);
+        let store = store_words(self.store, self.sites);
         writeln!(
             f,
             "damaged: invalid at byte {at} of {length}; expected: {wanted}\nnext: pinepolo diagnose {store}"

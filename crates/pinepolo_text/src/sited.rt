@@ -1,5 +1,5 @@
 //! Stores whose sites stand in folders of their own.
-use cs_reports::{ShellWord, with_site};
+use cs_reports::{StoreWords, with_site};
 use cs_schema::Loss;
 use std::fmt;
 
@@ -54,21 +54,11 @@ impl fmt::Display for AwayLines<'_> {
     }
 }
 
-/// A store as words of a command line: its path, behind the option for its SITES file if it has one.
-#[derive(Clone, Copy)]
-pub struct StoreWords<'a> {
-    /// The folder of the store.
-    pub store: &'a str,
-    pub sites: Option<Sited<'a>>,
-}
-
-impl fmt::Display for StoreWords<'_> {
-    fn fmt<W: fmt::Write>(&self, f: &mut fmt::Formatter<W>) -> fmt::Result {
-        if let Some(sites) = self.sites {
-            let file = ShellWord(sites.file);
-            write!(f, "--sites {file} ")?;
-        }
-        let store = ShellWord(self.store);
-        write!(f, "{store}")
-    }
+/// The store at a path as words of a command line.
+pub fn store_words<'a>(store: &'a str, sites: Option<Sited<'a>>) -> StoreWords<'a> {
+    let sites = match sites {
+        Some(sites) => Some(sites.file),
+        None => None,
+    };
+    StoreWords { store, sites }
 }
