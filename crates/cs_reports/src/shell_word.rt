@@ -1,7 +1,8 @@
 //! Paths and stores as words of a command line.
 use std::fmt;
 
-/// A path as a word that a shell reads as it is: between quotes if it has a blank or another special character.
+/// A path as a word that a shell reads as it is: between quotes if it has a blank or another special character, and behind
+/// `./` if it would be read as an option.
 #[derive(Clone, Copy)]
 pub struct ShellWord<'a>(pub &'a str);
 
@@ -13,6 +14,9 @@ fn is_plain(c: char) -> bool {
 impl fmt::Display for ShellWord<'_> {
     fn fmt<W: fmt::Write>(&self, f: &mut fmt::Formatter<W>) -> fmt::Result {
         let path = self.0;
+        if path.starts_with('-') {
+            f.write_str("./")?;
+        }
         if !path.is_empty() && path.chars().all(is_plain) {
             return f.write_str(path);
         }

@@ -10,6 +10,7 @@ mod commands;
 mod help;
 mod options;
 mod parsing;
+mod paths;
 mod request;
 mod sites;
 mod verbs;

@@ -5,6 +5,7 @@ ghost use Rattle.pinepolo_args.specs.Exits.{AsksForHelp, IsHelp};
 
 use crate::commands;
 use crate::options::Options;
+use crate::paths::path_problem;
 use crate::request::Request;
 use crate::verbs::verb_of;
 use clap::error::ErrorKind;
@@ -72,6 +73,9 @@ fn request_of<'a>(
 /// The request of the matches, if they are those of a verb with its arguments.
 fn requested<'a>(matches: &ArgMatches<'a>, processors: u32) -> Option<Request<'a>> {
     let (name, found) = matches.subcommand()?;
+    if path_problem(found).is_some() {
+        return None;
+    }
     let Some(options) = Options::read(found, processors) else {
         return None;
     };
@@ -106,20 +110,25 @@ fn exit_of(alloc: Global, error: &Error) -> ParseExit
     }
 }
 
+/// What is wrong with words that clap accepts, but that are no verb with its arguments.
+fn problem_of(matches: &ArgMatches<'_>) -> &'static str {
+    let Some((_name, found)) = matches.subcommand() else {
+        return "error: no command given\n";
+    };
+    match path_problem(found) {
+        Some(problem) => problem,
+        None if found.get_flag("accept-loss") => {
+            "error: --accept-loss needs each SITE that is known to be gone\n"
+        }
+        None => "error: no command given\n",
+    }
+}
+
 /// The error for words that clap accepts, but that are no verb with its arguments.
 fn nothing_asked(alloc: Global, matches: &ArgMatches<'_>) -> ParseExit
     ensures { ¬ IsHelp result }
 {
-    let accepts_loss = match matches.subcommand() {
-        Some((_name, found)) => found.get_flag("accept-loss"),
-        None => false,
-    };
-    let text = if accepts_loss {
-        "error: --accept-loss needs each SITE that is known to be gone\n"
-    } else {
-        "error: no command given\n"
-    };
-    match String::from_str(alloc, text) {
+    match String::from_str(alloc, problem_of(matches)) {
         Ok(text) => ParseExit::Usage(text),
         Err(_) => ParseExit::OutOfMemory,
     }
