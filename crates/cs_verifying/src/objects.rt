@@ -19,6 +19,7 @@ pub fn listed_object(alloc: Global, listed: &Listed) -> Result<Value, AllocError
 pub fn verified_object(alloc: Global, verified: &Verified) -> Result<Value, AllocError> {
     Object::of_verb(alloc, "verify")
         .truth("ok", verified.status() == DONE)
+        .number("compared", verified.files as u64)
         .member("files", difference_objects(alloc, verified))
         .finish()
 }

@@ -2,8 +2,8 @@
 use crate::drilled::{Drilled, is_failed};
 use crate::meter::Measure;
 use cs_drill::{Outcome, Trial};
-use cs_reports::FaultWords;
 use cs_reports::object::{Object, sites};
+use cs_reports::{FaultWords, fault_site, with_fault};
 use cs_schema::{Catalog, FileName};
 use pinepolo_places::DONE;
 use serde_json::Value;
@@ -50,15 +50,16 @@ fn trial_object(
             .number("files", rebuilt.files)
             .member("other", name_or_null(alloc, rebuilt.first_other))
             .member("fault", Ok(Value::Null))
+            .member("kind", Ok(Value::Null))
             .finish(),
         Outcome::Refused(fault) => {
             let words = FaultWords { catalog, fault };
-            object
+            let object = object
                 .member("rows", Ok(Value::Null))
                 .member("files", Ok(Value::Null))
                 .member("other", Ok(Value::Null))
-                .member("fault", text_of(alloc, &words))
-                .finish()
+                .member("fault", text_of(alloc, &words));
+            with_fault(object, fault_site(catalog, fault), fault).finish()
         }
     }
 }

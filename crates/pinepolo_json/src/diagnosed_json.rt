@@ -2,27 +2,32 @@
 use crate::disputed_json::dispute_objects;
 use cs_diagnosis::{Diagnosis, Explanation};
 use cs_reports::file_objects;
-use cs_reports::object::{Object, number_or_null};
-use pinepolo_text::{Diagnosed, files_of, number_of, rows_of, verdict_word};
+use cs_reports::object::{Object, losses, number_or_null};
+use pinepolo_places::WorkKind;
+use pinepolo_text::{Diagnosed, files_of, number_of, rows_of, verdict_word, with_unfinished};
 use serde_json::Value;
 use std::alloc::{AllocError, Global};
 
-/// What a diagnosis found.
-pub fn diagnosed_object(alloc: Global, diagnosed: &Diagnosed) -> Result<Value, AllocError> {
+/// What a diagnosis found of a store on which this kind of work was left unfinished.
+pub fn diagnosed_object(
+    alloc: Global,
+    diagnosed: &Diagnosed,
+    unfinished: Option<WorkKind>,
+) -> Result<Value, AllocError> {
     let diagnosis = &diagnosed.diagnosis;
     let reach = &diagnosis.reach;
     let (bad, changed) = (diagnosis.bad.as_slice(), diagnosed.changed.as_slice());
     let bad = files_of(alloc, &diagnosed.catalog, bad, changed)?;
-    Object::of_verb(alloc, "diagnose")
+    let object = Object::of_verb(alloc, "diagnose")
         .number("at_most", u64::from(reach.at_most))
         .member("certain", Ok(number_or_null(reach.certain)))
         .member("files", file_objects(alloc, bad.as_slice()))
         .sites("forced", diagnosis.forced)
         .member("explanations", explanation_objects(alloc, diagnosis))
         .text("verdict", verdict_word(diagnosis.verdict))
-        .member("disputes", dispute_objects(alloc, diagnosed))
-        .truth("restoring", diagnosed.unfinished.is_some())
-        .finish()
+        .member("fatal", losses(alloc, diagnosed.fatal.as_slice()))
+        .member("disputes", dispute_objects(alloc, diagnosed));
+    with_unfinished(object, unfinished).finish()
 }
 
 /// The explanations.

@@ -10,7 +10,7 @@ use cs_verifying::{listed_object, verified_object};
 use pinepolo_drill::drilled_object;
 use pinepolo_text::{
     Answer, Checked, Recovered, Verdict, Wrong, file_object as shown_file_object, files_of,
-    store_object,
+    store_object, with_unfinished,
 };
 use serde_json::Value;
 use std::alloc::{AllocError, Global};
@@ -22,7 +22,7 @@ pub fn answer_object(alloc: Global, answer: &Answer) -> Result<Value, AllocError
         Answer::Drilled(drilled) => drilled_object(alloc, drilled),
         Answer::Shown(view) => store_object(alloc, view),
         Answer::ShownFile(view) => shown_file_object(alloc, view),
-        Answer::Diagnosed(diagnosed) => diagnosed_object(alloc, diagnosed),
+        Answer::Diagnosed(diagnosed) => diagnosed_object(alloc, diagnosed, diagnosed.unfinished),
         Answer::Recovered(recovered) => recovered_object(alloc, recovered),
         Answer::Restored(restoration) => restoration_object(alloc, restoration),
         Answer::RestoredFound(found) => found_object(alloc, found),
@@ -39,9 +39,9 @@ pub fn answer_object(alloc: Global, answer: &Answer) -> Result<Value, AllocError
 /// What a check came to.
 fn checked_object(alloc: Global, checked: &Checked) -> Result<Value, AllocError> {
     let bad = files_of(alloc, &checked.catalog, checked.bad.as_slice(), &[])?;
-    let object = Object::of_verb(alloc, "check")
-        .truth("restoring", checked.unfinished.is_some())
-        .member("files", file_objects(alloc, bad.as_slice()));
+    let files = file_objects(alloc, bad.as_slice());
+    let object = Object::of_verb(alloc, "check").member("files", files);
+    let object = with_unfinished(object, checked.unfinished);
     let object = match &checked.verdict {
         Verdict::Sound { rows, k } => object
             .truth("ok", true)

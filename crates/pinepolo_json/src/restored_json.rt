@@ -4,6 +4,7 @@ use crate::json::placed_object;
 use cs_diagnosis::Verdict as FoundVerdict;
 use cs_reports::object::{Object, count_or_null};
 use cs_schema::Loss;
+use pinepolo_places::WorkKind;
 use pinepolo_text::{
     Doubted, FoundRestore, Restoration, Restored, spare_sites, verdict_word, what_word,
 };
@@ -22,6 +23,11 @@ pub fn restoration_object(alloc: Global, restoration: &Restoration) -> Result<Va
 fn doubted_object(alloc: Global, doubted: &Doubted) -> Result<Value, AllocError> {
     let diagnosed = &doubted.diagnosed;
     let spare = spare_sites(&diagnosed.diagnosis, doubted.lost);
+    let unfinished = if doubted.resumes {
+        Some(WorkKind::Restore)
+    } else {
+        None
+    };
     Object::of_verb(alloc, "restore")
         .truth("ok", false)
         .text("kind", "doubtful")
@@ -29,7 +35,7 @@ fn doubted_object(alloc: Global, doubted: &Doubted) -> Result<Value, AllocError>
         .member("files", Ok(Value::Array(Vec::new(alloc))))
         .sites("lost", doubted.lost)
         .sites("spare", spare)
-        .member("diagnosis", diagnosed_object(alloc, diagnosed))
+        .member("diagnosis", diagnosed_object(alloc, diagnosed, unfinished))
         .finish()
 }
 
@@ -40,9 +46,9 @@ pub fn found_object(alloc: Global, found: &FoundRestore) -> Result<Value, AllocE
         Some(Restoration::Doubted(doubted)) => return doubted_object(alloc, doubted),
         None => unrestored_members(alloc, found),
     };
-    object
-        .member("diagnosis", diagnosed_object(alloc, &found.diagnosed))
-        .finish()
+    let diagnosed = &found.diagnosed;
+    let diagnosis = diagnosed_object(alloc, diagnosed, diagnosed.unfinished);
+    object.member("diagnosis", diagnosis).finish()
 }
 
 /// The members of a store that was diagnosed and not restored: it is sound, or not one table explains it.

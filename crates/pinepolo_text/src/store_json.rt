@@ -3,6 +3,7 @@ use crate::file_lines::FileLine;
 use crate::memory::recovery_memory;
 use crate::store_text::state_word;
 use crate::store_view::StoreView;
+use crate::unfinished::with_unfinished;
 use cs_reports::object::{Object, count_or_null, losses, number_or_null};
 use cs_reports::{file_object, site_of};
 use cs_schema::{Catalog, FileName};
@@ -13,16 +14,15 @@ use std::alloc::{AllocError, Global};
 pub fn store_object(alloc: Global, view: &StoreView) -> Result<Value, AllocError> {
     let catalog = &view.catalog;
     let memory = recovery_memory(catalog, view.lines.as_slice());
-    Object::of_verb(alloc, "show")
+    let object = Object::of_verb(alloc, "show")
         .text("table", catalog.table.as_str())
         .number("sites", u64::from(catalog.sites))
         .member("k", Ok(number_or_null(view.design.k)))
         .member("fatal", losses(alloc, view.design.fatal.as_slice()))
         .member("files", line_objects(alloc, view))
         .member("strays", texts(alloc, view.strays.as_slice()))
-        .truth("restoring", view.unfinished.is_some())
-        .number("memory", memory)
-        .finish()
+        .number("memory", memory);
+    with_unfinished(object, view.unfinished).finish()
 }
 
 /// Texts.

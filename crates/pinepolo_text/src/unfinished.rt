@@ -1,6 +1,8 @@
 //! That work on a store was left unfinished.
 use cs_reports::ShellWord;
+use cs_reports::object::Object;
 use pinepolo_places::{RESTORING, WorkKind};
+use serde_json::Value;
 use std::fmt;
 
 /// That work on a store was left unfinished, and what to do next, as lines.
@@ -18,5 +20,15 @@ impl fmt::Display for Unfinished<'_> {
             f,
             "unfinished {kind}: {RESTORING} is there\nnext: pinepolo {kind} --resume {store}"
         )
+    }
+}
+
+/// The object with whether work was left unfinished, and its kind.
+pub fn with_unfinished(object: Object, unfinished: Option<WorkKind>) -> Object {
+    let object = object.truth("restoring", unfinished.is_some());
+    match unfinished {
+        Some(WorkKind::Restore) => object.text("unfinished", "restore"),
+        Some(WorkKind::Undo) => object.text("unfinished", "undo"),
+        None => object.member("unfinished", Ok(Value::Null)),
     }
 }
