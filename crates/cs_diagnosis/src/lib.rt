@@ -12,7 +12,6 @@
 #![tactic(auto)]
 
 mod absent;
-mod around;
 mod candidate;
 mod candidates;
 mod comparing;
@@ -40,7 +39,6 @@ mod tables;
 mod walks;
 
 pub use absent::are_absent;
-pub use around::without;
 pub use candidate::Candidate;
 pub use candidates::{Remains, find_candidate};
 pub use conflicts::Conflicts;

@@ -13,7 +13,7 @@ mod verifying;
 
 pub use listed::Listed;
 pub use listing::list;
-pub use objects::{listed_object, verified_object};
+pub use objects::verified_object;
 pub use reading::manifest_at;
 pub use trusting::{Trusted, is_changed, manifest_if};
 pub use verified::Verified;

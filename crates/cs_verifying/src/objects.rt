@@ -1,5 +1,4 @@
-//! Answers on manifests as JSON.
-use crate::listed::Listed;
+//! How a store differs from a manifest, as JSON.
 use crate::verified::{Verified, problem_of};
 use cs_manifest::{CATALOG, Difference};
 use cs_reports::BadFile;
@@ -7,13 +6,6 @@ use cs_reports::object::Object;
 use pinepolo_places::DONE;
 use serde_json::Value;
 use std::alloc::{AllocError, Global};
-
-/// What a list of a store's files came to.
-pub fn listed_object(alloc: Global, listed: &Listed) -> Result<Value, AllocError> {
-    Object::of_verb(alloc, "manifest")
-        .truth("ok", listed.status() == DONE)
-        .finish()
-}
 
 /// How a store differs from a manifest.
 pub fn verified_object(alloc: Global, verified: &Verified) -> Result<Value, AllocError> {

@@ -1,12 +1,12 @@
 //! Answers as JSON.
 use crate::diagnosed_json::diagnosed_object;
+use crate::new_store_json::new_store_object;
 use crate::restored_json::{found_object, restoration_object};
-use crate::tables_json::{dumped_object, new_store_object};
 use crate::undone_json::undone_object;
 use cs_reports::object::{Object, number_or_null};
 use cs_reports::{design_object, fault_site, file_object, file_objects, site_of, with_fault};
 use cs_schema::{Catalog, FileName};
-use cs_verifying::{listed_object, verified_object};
+use cs_verifying::verified_object;
 use pinepolo_drill::drilled_object;
 use pinepolo_text::{
     Answer, Checked, Recovered, Verdict, Wrong, file_object as shown_file_object, files_of,
@@ -15,7 +15,7 @@ use pinepolo_text::{
 use serde_json::Value;
 use std::alloc::{AllocError, Global};
 
-/// An answer as one object.
+/// An answer as one object; null if it is a text itself, whose verb has no JSON.
 pub fn answer_object(alloc: Global, answer: &Answer) -> Result<Value, AllocError> {
     match answer {
         Answer::Checked(checked) => checked_object(alloc, checked),
@@ -26,13 +26,12 @@ pub fn answer_object(alloc: Global, answer: &Answer) -> Result<Value, AllocError
         Answer::Recovered(recovered) => recovered_object(alloc, recovered),
         Answer::Restored(restoration) => restoration_object(alloc, restoration),
         Answer::RestoredFound(found) => found_object(alloc, found),
-        Answer::Listed(listed) => listed_object(alloc, listed),
         Answer::Verified(verified) => verified_object(alloc, verified),
         Answer::Undone(undone) => undone_object(alloc, undone),
         Answer::Designed(designed) => design_object(alloc, &designed.design),
         Answer::Loaded(store) => new_store_object(alloc, "load", store),
-        Answer::Dumped(dumped) => dumped_object(alloc, dumped),
         Answer::Relaid(store) => new_store_object(alloc, "relayout", store),
+        Answer::Listed(_) | Answer::Dumped(_) => Ok(Value::Null),
     }
 }
 

@@ -5,9 +5,9 @@ mod away_json;
 mod diagnosed_json;
 mod disputed_json;
 mod json;
+mod new_store_json;
 mod printing;
 mod restored_json;
-mod tables_json;
 mod undone_json;
 
 pub use printing::{print_bytes, say, say_refusal};

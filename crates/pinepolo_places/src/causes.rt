@@ -187,18 +187,6 @@ pub fn refusal_texts(refusal: &Refusal) -> (&'static str, &'static str) {
     }
 }
 
-/// What a failure is called in JSON.
-pub fn failure_kind(failure: &Failure) -> &'static str {
-    match failure {
-        Failure::ReadCatalog
-        | Failure::ReadManifest
-        | Failure::ReadTable
-        | Failure::ReadStore
-        | Failure::ListStore => "unreadable",
-        _ => "not written",
-    }
-}
-
 /// What a refusal is called in JSON.
 pub fn refusal_kind(refusal: &Refusal) -> &'static str {
     match refusal {

@@ -1,5 +1,5 @@
-//! Errors as JSON.
-use crate::causes::{CsvPlace, Failure, Refusal, failure_kind, refusal_kind};
+//! Refusals as JSON.
+use crate::causes::{CsvPlace, Refusal, refusal_kind};
 use crate::error::{StoreError, Subject, VerbError};
 use crate::error_text::ErrorWords;
 use cs_reports::object::Object;
@@ -17,15 +17,6 @@ fn with_path(object: Object, subject: &Subject) -> Object {
 fn with_file(object: Object, name: FileName) -> Object {
     let path = name.path();
     object.text("file", path.as_str())
-}
-
-/// The object with the kind of a failure and what it is about.
-fn with_failure(object: Object, failure: &Failure) -> Object {
-    let object = object.text("kind", failure_kind(failure));
-    match failure {
-        Failure::WriteOutput(Some(name)) | Failure::WriteNew(name) => with_file(object, *name),
-        _ => object,
-    }
 }
 
 /// The object with the number of a record and the name of a column, if there are any.
@@ -66,7 +57,7 @@ fn with_store(alloc: Global, object: Object, error: &StoreError) -> Object {
         .member("bad", file_objects(alloc, error.bad.as_slice()))
 }
 
-/// Why a verb ended early, as one object.
+/// Why a verb ended early, as one object. Only a refusal has a kind and a path; all else is said as text.
 pub fn error_object(alloc: Global, verb: &str, error: &VerbError) -> Result<Value, AllocError> {
     let words = ErrorWords(error);
     let text = format!(in alloc; "{words}")?;
@@ -75,12 +66,9 @@ pub fn error_object(alloc: Global, verb: &str, error: &VerbError) -> Result<Valu
         .member("files", Ok(Value::Array(Vec::new(alloc))))
         .text("fault", text.as_str());
     let object = match error {
-        VerbError::NotUtf8 => object.text("kind", "not UTF-8"),
-        VerbError::OutOfMemory => object.text("kind", "out of memory"),
-        VerbError::Catalog(_, subject) => with_path(object.text("kind", "catalog"), subject),
-        VerbError::Device(failure, subject) => with_path(with_failure(object, failure), subject),
         VerbError::Refused(refusal, subject) => with_path(with_refusal(object, refusal), subject),
         VerbError::Store(error) => with_path(with_store(alloc, object, error), &error.subject),
+        _ => object,
     };
     object.finish()
 }

@@ -1,6 +1,6 @@
-//! What came of a whole table, as JSON.
+//! New stores as JSON.
 use cs_reports::object::Object;
-use pinepolo_text::{Dumped, NewStore};
+use pinepolo_text::NewStore;
 use serde_json::Value;
 use std::alloc::{AllocError, Global};
 
@@ -12,15 +12,6 @@ pub fn new_store_object(alloc: Global, verb: &str, store: &NewStore) -> Result<V
         .number("files", store.files.len() as u64)
         .number("k", u64::from(store.k))
         .sites("fatal", store.fatal)
-        .member("fault", Ok(Value::Null))
-        .finish()
-}
-
-/// A table that was written to a file.
-pub fn dumped_object(alloc: Global, dumped: &Dumped) -> Result<Value, AllocError> {
-    Object::of_verb(alloc, "dump")
-        .truth("ok", true)
-        .number("bytes", dumped.bytes as u64)
         .member("fault", Ok(Value::Null))
         .finish()
 }
