@@ -25,7 +25,7 @@ fn names_problem<'a>(list: &'static str, names: Vec<&'a str>) -> Option<Problem<
     for at in 1..names.len() {
         if names[at - 1] == names[at] {
             let parts = [Part::Text(list), Part::Text(names[at]), NONE, NONE];
-            return Some(Problem::new("{}{} stands twice", parts));
+            return Some(Problem::new("{}{} specified more than once", parts));
         }
     }
     None
@@ -50,12 +50,18 @@ fn size_problem(document: &Document) -> Problem<'static> {
     let (columns, projections) = (document.columns.len(), document.projections.len());
     if !is_from_to(1, SITES, document.sites) {
         let sites = Part::Number(document.sites);
-        Problem::of("sites is {}, 1 to 16 is wanted", sites)
+        Problem::of("sites must be between 1 and 16, not {}", sites)
     } else if columns < 1 || COLUMNS < columns {
-        Problem::of("{} columns, 1 to 32 are wanted", Part::Count(columns))
+        Problem::of(
+            "there must be between 1 and 32 columns, not {}",
+            Part::Count(columns),
+        )
     } else {
         let projections = Part::Count(projections);
-        Problem::of("{} projections, 1 to 8 are wanted", projections)
+        Problem::of(
+            "there must be between 1 and 8 projections, not {}",
+            projections,
+        )
     }
 }
 
@@ -103,7 +109,7 @@ fn document_problem<'a>(
         3 => name_problem(alloc, document),
         4 => Ok(Some(size_problem(document))),
         5 => Ok(kind_problem(document)),
-        6 => Ok(Some(Problem::said("key names no column"))),
+        6 => Ok(Some(Problem::said("key is not the name of a column"))),
         14 => Ok(stored_problem(document)),
         15 => Ok(Some(Problem::said("safety is neither whole nor rows"))),
         _ => of_projections(alloc, rule, document),

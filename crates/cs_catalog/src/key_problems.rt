@@ -61,11 +61,11 @@ fn is_wanted(wanted: Wanted, value: &Value) -> bool {
 
 fn other_type(wanted: Wanted) -> &'static str {
     match wanted {
-        Wanted::Text => "is no string",
-        Wanted::Integer => "is no integer",
-        Wanted::Texts => "is no array of strings",
-        Wanted::Integers => "is no array of integers",
-        Wanted::Array => "is no array",
+        Wanted::Text => "is not a string",
+        Wanted::Integer => "is not an integer",
+        Wanted::Texts => "is not an array of strings",
+        Wanted::Integers => "is not an array of integers",
+        Wanted::Array => "is not an array",
     }
 }
 
@@ -91,7 +91,7 @@ fn of_item(
 ) -> Option<Problem<'static>> {
     let Some(table) = value.as_table() else {
         let parts = [Part::Text(list), Part::Count(at), NONE, NONE];
-        return Some(Problem::new("{} {} is no table", parts));
+        return Some(Problem::new("{} {} is not a table", parts));
     };
     for (key, wanted) in keys {
         if let Some(what) = of_value(table, key, *wanted) {
@@ -156,9 +156,9 @@ fn version_problem(table: &Table) -> Problem<'static> {
     match value.as_integer() {
         Some(version) => {
             let version = Part::Number(version);
-            Problem::of("version is {}, 1 or 2 is wanted", version)
+            Problem::of("version must be 1 or 2, not {}", version)
         }
-        None => Problem::said("version is no integer"),
+        None => Problem::said("version is not an integer"),
     }
 }
 
@@ -172,6 +172,6 @@ pub fn version_words(alloc: Global, table: &Table) -> Result<String, AllocError>
 pub fn key_words(alloc: Global, table: &Table) -> Result<String, AllocError> {
     match first_problem(table) {
         Some(problem) => format!(in alloc; "{problem}"),
-        None => format!(in alloc; "a key is missing or has another type"),
+        None => format!(in alloc; "a key is missing or has the wrong type"),
     }
 }

@@ -46,19 +46,19 @@ fn columns_problem<'a>(
     }
     for (at, name) in projection.columns.iter().enumerate() {
         if !is_column(columns, name) {
-            return Some(Problem::of("columns[{}] is no column of the table", Part::Count(at)));
+            return Some(Problem::of("columns[{}] is not a column of the table", Part::Count(at)));
         }
     }
-    repeated("columns has {} twice", &projection.columns)
+    repeated("columns has {} more than once", &projection.columns)
 }
 
 fn codes_problem(projection: &ProjectionEntry) -> Option<Problem<'static>> {
     let (found, wanted) = (projection.code_numbers.len(), projection.columns.len());
     if found != wanted {
-        return Some(lengths("codes has {} numbers, {} are wanted", found, wanted));
+        return Some(lengths("codes has {} numbers, but must have {}", found, wanted));
     }
     out_of_range(
-        "codes[{}] is {}, 1 to {} is wanted",
+        "codes[{}] is {}, but must be between 1 and {}",
         &projection.code_numbers,
         4,
     )
@@ -67,14 +67,20 @@ fn codes_problem(projection: &ProjectionEntry) -> Option<Problem<'static>> {
 fn sort_problem<'a>(projection: &ProjectionEntry<'a>) -> Option<Problem<'a>> {
     let found = projection.sort.len();
     if found < 1 || SORT_COLUMNS < found {
-        return Some(Problem::of("sort has {} names, 1 to 4 are wanted", Part::Count(found)));
+        return Some(Problem::of(
+            "sort has {} names, but must have between 1 and 4",
+            Part::Count(found),
+        ));
     }
     for (at, name) in projection.sort.iter().enumerate() {
         if !is_among(name, &projection.columns) {
-            return Some(Problem::of("sort[{}] is no column of the projection", Part::Count(at)));
+            return Some(Problem::of(
+                "sort[{}] is not a column of the projection",
+                Part::Count(at),
+            ));
         }
     }
-    repeated("sort has {} twice", &projection.sort)
+    repeated("sort has {} more than once", &projection.sort)
 }
 
 fn differences_problem(
@@ -99,23 +105,23 @@ fn differences_problem(
 fn item_of_cuts(of_ints: bool, cuts: &[Value]) -> Problem<'static> {
     for (at, cut) in cuts.iter().enumerate() {
         if of_ints && integer_cut(cut).is_none() {
-            return Problem::of("cuts[{}] is no integer", Part::Count(at));
+            return Problem::of("cuts[{}] is not an integer", Part::Count(at));
         }
         if !of_ints && text_cut(cut).is_none() {
             return Problem::of(
-                "cuts[{}] is no string of at most 255 bytes",
+                "cuts[{}] is not a string of at most 255 bytes",
                 Part::Count(at),
             );
         }
     }
-    Problem::said("cuts do not ascend")
+    Problem::said("cuts are not in ascending order")
 }
 
 fn cuts_problem(columns: &[ColumnEntry], projection: &ProjectionEntry) -> Problem<'static> {
     let found = projection.cuts.len();
     if found > CUTS {
         return Problem::of(
-            "cuts has {} items, at most 15 are wanted",
+            "cuts has {} items, but must have at most 15",
             Part::Count(found),
         );
     }
@@ -125,11 +131,11 @@ fn cuts_problem(columns: &[ColumnEntry], projection: &ProjectionEntry) -> Proble
 fn sites_problem(sites: i64, projection: &ProjectionEntry) -> Option<Problem<'static>> {
     let (found, cuts) = (projection.site_numbers.len(), projection.cuts.len());
     if found != cuts + 1 {
-        return Some(lengths("sites has {} numbers, {} are wanted", found, cuts + 1));
+        return Some(lengths("sites has {} numbers, but must have {}", found, cuts + 1));
     }
     match u8::try_from(sites) {
         Ok(most) => out_of_range(
-            "sites[{}] is {}, 1 to {} is wanted",
+            "sites[{}] is {}, but must be between 1 and {}",
             &projection.site_numbers,
             most,
         ),
@@ -143,13 +149,13 @@ fn joins_problem<'a>(
 ) -> Option<Problem<'a>> {
     for (at, name) in projection.joins.iter().enumerate() {
         if !is_projection(projections, name) {
-            return Some(Problem::of("joins[{}] is no projection", Part::Count(at)));
+            return Some(Problem::of("joins[{}] is not the name of a projection", Part::Count(at)));
         }
     }
     if is_among(projection.name, &projection.joins) {
         return Some(Problem::said("joins names the projection itself"));
     }
-    repeated("joins has {} twice", &projection.joins)
+    repeated("joins has {} more than once", &projection.joins)
 }
 
 /// Which part of a projection breaks one of the rules 7 to 13, if any. The document keeps the rules before them.

@@ -25,8 +25,12 @@ impl CsvWords<'_> {
     fn write_header<W: fmt::Write>(&self, f: &mut fmt::Formatter<W>) -> fmt::Result {
         match self.fault {
             CsvFault::Missing { column } => write!(f, "{} is missing", self.name(*column)),
-            CsvFault::Unknown { name } => write!(f, "{name} is no column"),
-            CsvFault::Twice { column } => write!(f, "{} stands twice", self.name(*column)),
+            CsvFault::Unknown { name } => write!(f, "{name} is not a column"),
+            CsvFault::Twice { column } => write!(
+                f,
+                "{} specified more than once",
+                self.name(*column)
+            ),
             _ => Ok(()),
         }
     }
@@ -34,9 +38,9 @@ impl CsvWords<'_> {
     /// What is wrong with a cell of a column.
     fn write_cell<W: fmt::Write>(&self, f: &mut fmt::Formatter<W>) -> fmt::Result {
         match self.fault {
-            CsvFault::NotInt { cell, .. } => write!(f, " is no int: \"{cell}\""),
-            CsvFault::NotText { .. } => f.write_str(" is no UTF-8"),
-            CsvFault::TooLong { bytes, .. } => write!(f, " has {bytes} bytes"),
+            CsvFault::NotInt { cell, .. } => write!(f, " is not an integer: \"{cell}\""),
+            CsvFault::NotText { .. } => f.write_str(" is not valid UTF-8"),
+            CsvFault::TooLong { bytes, .. } => write!(f, " is too long: {bytes} bytes"),
             _ => Ok(()),
         }
     }
@@ -63,7 +67,10 @@ impl CsvWords<'_> {
         let record = record.saturating_add(1);
         let catalog = self.catalog;
         let wanted = catalog.columns.len();
-        write!(f, "record {record}: {cells} cells, {wanted} are wanted")
+        write!(
+            f,
+            "record {record}: {cells} cells, but the catalog has {wanted} columns"
+        )
     }
 }
 
@@ -71,9 +78,9 @@ impl fmt::Display for CsvWords<'_> {
     fn fmt<W: fmt::Write>(&self, f: &mut fmt::Formatter<W>) -> fmt::Result {
         match self.fault {
             CsvFault::Memory => f.write_str("want of memory"),
-            CsvFault::Device => f.write_str("the text can't be read"),
+            CsvFault::Device => f.write_str("could not read the text"),
             CsvFault::TooMany => f.write_str(
-                "record 16777217: no catalog has room for so many rows",
+                "record 16777217: more rows than any catalog has room for",
             ),
             CsvFault::Width { record, cells } => self.write_width(f, *record, *cells),
             CsvFault::NotInt { record, column, .. }

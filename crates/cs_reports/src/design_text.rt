@@ -27,7 +27,8 @@ impl DesignHead<'_> {
         match self.design.k {
             Some(0) => writeln!(f, "K=0 (no {further}site may fail)"),
             Some(k) => writeln!(f, "K={k} (any {k} of {left} {further}sites may fail)"),
-            None => writeln!(f, "unsafe already: {lost} lost"),
+            None if lost.count() == 0 => writeln!(f, "unsafe even if no site fails"),
+            None => writeln!(f, "unsafe after the loss of {lost}"),
         }
     }
 

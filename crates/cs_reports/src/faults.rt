@@ -48,7 +48,7 @@ fn unsafe_text(safety: Safety, takes_columns: bool) -> &'static str {
 /// What follows the words of a fault, if it is not that a loss is unsafe.
 fn fault_text(fault: &Fault) -> &'static str {
     match fault {
-        Fault::Site => ", which has {0}",
+        Fault::Site => ", which has sites 1 to {0}",
         Fault::Missing(_) | Fault::Damaged(_) | Fault::Read(_) => " ({0})",
         Fault::Twice => ": two rows have one key; the bad file may be on any site",
         Fault::Astray { .. } => {
@@ -106,7 +106,11 @@ impl fmt::Display for FaultWords<'_> {
     fn fmt<W: fmt::Write>(&self, f: &mut fmt::Formatter<W>) -> fmt::Result {
         let fault = self.fault;
         let (text, part) = self.end();
-        write!(f, "{fault}")?;
+        let failed = match fault {
+            Fault::Read(_) | Fault::Write(_) => "could not ",
+            _ => "",
+        };
+        write!(f, "{failed}{fault}")?;
         fill(f, text, &[part])
     }
 }
@@ -147,9 +151,9 @@ fn next_text(fault: &Fault) -> &'static str {
         Fault::Memory => "run it with fewer workers, or with more memory",
         Fault::Site | Fault::Unsafe(_) | Fault::BadK => "pinepolo design {0}",
         Fault::Read(_) => {
-            "see that it is a regular file that may be read, and no longer than its catalog allows"
+            "check that it is a regular file that may be read, and no longer than its catalog allows"
         }
-        Fault::Write(_) => "see that the disk has room and may be written to, and run it again",
+        Fault::Write(_) => "check that the disk has room and may be written to, and run it again",
         _ => "pinepolo diagnose {0}",
     }
 }

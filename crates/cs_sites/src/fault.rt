@@ -17,13 +17,13 @@ pub enum SitesFault {
     #[error("no [[site]] tables")]
     NoSites,
     /// The `number` of this table is missing, or is no integer from 1 to 16.
-    #[error("[[site]] {0}: number is missing, or is no integer from 1 to 16")]
+    #[error("[[site]] {0}: number is missing or not an integer between 1 and 16")]
     Number(usize),
     /// The `folder` of this table is missing, or is no string.
-    #[error("[[site]] {0}: folder is missing, or is no string")]
+    #[error("[[site]] {0}: folder is missing or not a string")]
     Folder(usize),
     /// Two tables have this number.
-    #[error("site {0} stands twice")]
+    #[error("site {0} specified more than once")]
     Twice(u8),
     /// A table has this number, which is that of no site of the catalog.
     #[error("the catalog has no site {0}")]

@@ -50,7 +50,10 @@ impl LoadWords<'_> {
         let first = repeat.first.saturating_add(1);
         let again = repeat.again.saturating_add(1);
         let name = self.key_name();
-        write!(f, "record {again}: {name} {key} again (record {first})")
+        write!(
+            f,
+            "record {again}: {name} {key} already exists (record {first})"
+        )
     }
 }
 

@@ -58,11 +58,11 @@ impl RelayoutWords<'_> {
         match difference {
             Difference::Missing { column } => {
                 let name = column_name(old, column);
-                write!(f, "column {name} is missing in the new catalog")
+                write!(f, "column {name} is missing from the new catalog")
             }
             Difference::Unknown { column } => {
                 let name = column_name(new, column);
-                write!(f, "column {name} is no column of the store")
+                write!(f, "column {name} is not a column of the store")
             }
             Difference::Kind { column } => self.write_kinds(f, column),
             Difference::Key => {

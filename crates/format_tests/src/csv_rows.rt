@@ -85,37 +85,37 @@ fn reads_rows_with_ample_memory(rt: HostRuntime) -> Result<(), Fail> {
 const REFUSED: [(&str, &str); 17] = [
     ("", "record 0: id is missing"),
     ("id,city\n", "record 0: v is missing"),
-    ("id,city,zz\n", "record 0: zz is no column"),
-    ("id,city,v,\"a\nb\"\n", "record 0: a\\nb is no column"),
-    ("id,v,city,v\n", "record 0: v stands twice"),
-    ("v,v,zz\n", "record 0: v stands twice"),
-    ("id,city,v\n1,a\n", "record 1: 2 cells, 3 are wanted"),
+    ("id,city,zz\n", "record 0: zz is not a column"),
+    ("id,city,v,\"a\nb\"\n", "record 0: a\\nb is not a column"),
+    ("id,v,city,v\n", "record 0: v specified more than once"),
+    ("v,v,zz\n", "record 0: v specified more than once"),
+    ("id,city,v\n1,a\n", "record 1: 2 cells, but the catalog has 3 columns"),
     (
         "id,city,v\n1,a,2\n1,a,2,3\n",
-        "record 2: 4 cells, 3 are wanted",
+        "record 2: 4 cells, but the catalog has 3 columns",
     ),
-    ("id,city,v\n1,\"a,2\n", "record 1: 2 cells, 3 are wanted"),
+    ("id,city,v\n1,\"a,2\n", "record 1: 2 cells, but the catalog has 3 columns"),
     (
         "id,city,v\n1,a,2\n1,a,x7\n",
-        "record 2: v is no int: \"x7\"",
+        "record 2: v is not an integer: \"x7\"",
     ),
-    ("id,city,v\n 1,a,2\n", "record 1: id is no int: \" 1\""),
-    ("id,city,v\n,a,2\n", "record 1: id is no int: \"\""),
+    ("id,city,v\n 1,a,2\n", "record 1: id is not an integer: \" 1\""),
+    ("id,city,v\n,a,2\n", "record 1: id is not an integer: \"\""),
     (
         "id,city,v\n\"\"\"\n\",a,2\n",
-        "record 1: id is no int: \"\\\"\\n\"",
+        "record 1: id is not an integer: \"\\\"\\n\"",
     ),
     (
         "id,city,v\n9223372036854775808,a,2\n",
-        "record 1: id is no int: \"9223372036854775808\"",
+        "record 1: id is not an integer: \"9223372036854775808\"",
     ),
     (
         "id,city,v\n0123456789012345678901234567890123456789a,a,2\n",
-        "record 1: id is no int: \"0123456789012345678901234567890123456789\"",
+        "record 1: id is not an integer: \"0123456789012345678901234567890123456789\"",
     ),
     // of two faulty cells, that of the table's first column, wherever it is in the record
-    ("v,city,id\nx,a,y\n", "record 1: id is no int: \"y\""),
-    ("id,city,v\nx,a,1\n1,a\n", "record 1: id is no int: \"x\""),
+    ("v,city,id\nx,a,y\n", "record 1: id is not an integer: \"y\""),
+    ("id,city,v\nx,a,1\n1,a\n", "record 1: id is not an integer: \"x\""),
 ];
 
 #[test]
@@ -125,11 +125,11 @@ fn refuses_by_the_first_fault(rt: HostRuntime) -> Result<(), Fail> {
     }
     assert_eq!(rt;
         read(&rt, b"id,city,v\n1,\xff,2\n")?.as_str(),
-        "record 1: city is no UTF-8"
+        "record 1: city is not valid UTF-8"
     );
     assert_eq!(rt;
         read(&rt, b"id,city,v\n\xff,a,2\n")?.as_str(),
-        "record 1: id is no int: \"\\xff\""
+        "record 1: id is not an integer: \"\\xff\""
     );
     Ok(())
 }
@@ -153,7 +153,7 @@ fn texts_end_at_255_bytes(rt: HostRuntime) -> Result<(), Fail> {
 fn texts_of_256_bytes_are_too_long(rt: HostRuntime) -> Result<(), Fail> {
     let longer = "a".repeat(rt.alloc(), 256)?;
     let read = read_city(&rt, longer.as_str())?;
-    assert_eq!(rt; read.as_str(), "record 1: city has 256 bytes");
+    assert_eq!(rt; read.as_str(), "record 1: city is too long: 256 bytes");
     Ok(())
 }
 

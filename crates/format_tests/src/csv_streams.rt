@@ -55,7 +55,7 @@ fn a_reader_that_fails_is_no_end(rt: HostRuntime) -> Result<(), Fail> {
         fault: &fault,
     };
     let text = format!(in alloc; "{words}")?;
-    assert_eq!(rt; text.as_str(), "the text can't be read");
+    assert_eq!(rt; text.as_str(), "could not read the text");
     Ok(())
 }
 

@@ -5,8 +5,8 @@ use std::alloc::Global;
 use std::rt::Files;
 use std::{fs, io};
 
-/// What is listed for a name that is no UTF-8.
-const NO_TEXT: &str = "a name that is no UTF-8";
+/// What is listed for a name that is not UTF-8.
+const NO_TEXT: &str = "a name that is not UTF-8";
 
 /// How a name came that was asked for next.
 fn fault_of(error: &io::Error) -> StoreFault {

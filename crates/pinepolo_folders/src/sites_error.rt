@@ -63,7 +63,7 @@ impl SitesError {
     fn advice(&self) -> &'static str {
         match self {
             SitesError::OutOfMemory => "run it with fewer workers, or with more memory",
-            SitesError::Unreadable(_) => "see that it is a file that may be read",
+            SitesError::Unreadable(_) => "check that it is a file that may be read",
             SitesError::Refused(..) => {
                 "give each site of the catalog one [[site]] table, with its number and its folder"
             }
@@ -80,7 +80,7 @@ impl fmt::Display for SitesError {
             SitesError::OutOfMemory => f.write_str("fault: out of memory\n")?,
             SitesError::Unreadable(file) => {
                 let file = file.as_str();
-                writeln!(f, "fault: read {file}")?;
+                writeln!(f, "fault: could not read {file}")?;
             }
             SitesError::Refused(file, fault) => {
                 let file = file.as_str();

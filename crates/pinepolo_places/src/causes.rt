@@ -83,42 +83,51 @@ pub enum Refusal {
 pub fn failure_texts(failure: &Failure) -> (&'static str, &'static str) {
     match failure {
         Failure::ReadCatalog => (
-            "read the catalog at {0}",
-            "see that {0} is a store, and that its catalog is a regular file of at most 1 MiB",
+            "could not read the catalog at {0}",
+            "check that {0} is a store, and that its catalog is a regular file of at most 1 MiB",
         ),
         Failure::ReadManifest => (
-            "read {0}",
-            "see that {0} is a file of less than 16 MiB that may be read",
+            "could not read {0}",
+            "check that {0} is a file of less than 16 MiB that may be read",
         ),
-        Failure::ReadTable => ("read {0}", "see that {0} is a file that may be read"),
-        Failure::ReadStore => ("read {0}", "see that {0} is a folder and may be read"),
-        Failure::ListStore => ("list {0}", "see that {0} is a folder and may be read"),
+        Failure::ReadTable => (
+            "could not read {0}",
+            "check that {0} is a file that may be read",
+        ),
+        Failure::ReadStore => (
+            "could not read {0}",
+            "check that {0} is a folder and may be read",
+        ),
+        Failure::ListStore => (
+            "could not list {0}",
+            "check that {0} is a folder and may be read",
+        ),
         Failure::MakeOutput => (
-            "write {0}",
-            "see that nothing is at {0} yet, and that its parent folder is there and may be written to",
+            "could not write {0}",
+            "check that nothing is at {0} yet, and that its parent folder is there and may be written to",
         ),
         Failure::WriteOutput(_) => (
-            "write {0}/{4}",
-            "see that the disk has room, remove {0}, and run it again",
+            "could not write {0}/{4}",
+            "check that the disk has room, remove {0}, and run it again",
         ),
         Failure::MakeNew => (
-            "write {0}",
-            "see that its parent folder is there and may be written to",
+            "could not write {0}",
+            "check that its parent folder is there and may be written to",
         ),
         Failure::WriteNew(_) => (
-            "write {0}.partial/{4}",
-            "see that the disk has room, and run it again with --replace-partial",
+            "could not write {0}.partial/{4}",
+            "check that the disk has room, and run it again with --replace-partial",
         ),
         Failure::WriteRecord => (
-            "read or write {0}/RESTORING or {0}/replaced",
-            "see that {0} is a folder, and that it, RESTORING and replaced in it may be read and written to",
+            "could not read or write {0}/RESTORING or {0}/replaced",
+            "check that {0} is a folder, and that it, RESTORING and replaced in it may be read and written to",
         ),
         Failure::RemoveRecord(_) => (
-            "write {0}/restores.jsonl or remove {0}/RESTORING",
+            "could not write {0}/restores.jsonl or remove {0}/RESTORING",
             "pinepolo {3} --resume {1}",
         ),
         Failure::SyncEnd => (
-            "sync {0}: all files are in place, but a crash may bring RESTORING back",
+            "could not sync {0}: all files are in place, but a crash may bring RESTORING back",
             "sync -f {1}",
         ),
     }
@@ -127,13 +136,10 @@ pub fn failure_texts(failure: &Failure) -> (&'static str, &'static str) {
 /// What is said of a refusal, and what to do next.
 pub fn refusal_texts(refusal: &Refusal) -> (&'static str, &'static str) {
     match refusal {
-        Refusal::Exists => (
-            "{0} is there already",
-            "name another path, or move away what is there",
-        ),
+        Refusal::Exists => ("{0} already exists", "choose another path, or move it away"),
         Refusal::Begun => (
             "{0}.partial is left from an unfinished run",
-            "see that no other run writes it, then give --replace-partial",
+            "check that no other run writes it, then give --replace-partial",
         ),
         Refusal::NoSuchFile => ("the catalog has no file \"{2}\"", "pinepolo show {5}"),
         Refusal::NoSuchSite(_) => ("the catalog has no site {3}", "pinepolo design {5}"),
@@ -164,11 +170,11 @@ pub fn refusal_texts(refusal: &Refusal) -> (&'static str, &'static str) {
             "pinepolo undo {1}",
         ),
         Refusal::Busy => (
-            "another restore or undo of {0} is at work",
-            "let it end, then pinepolo check {1}",
+            "another restore or undo of {0} is running",
+            "wait for it to end, then pinepolo check {1}",
         ),
         Refusal::DamagedRecord => (
-            "{0}/RESTORING is no record of a restore or an undo",
+            "{0}/RESTORING is not a record of a restore or an undo",
             "move it away, then pinepolo diagnose {1}",
         ),
         Refusal::NothingKept(None) => ("nothing to undo in {0}", "pinepolo check {1}"),
@@ -181,7 +187,7 @@ pub fn refusal_texts(refusal: &Refusal) -> (&'static str, &'static str) {
             "copy its files back by hand",
         ),
         Refusal::Incomplete(..) => (
-            "{0}/replaced/{3}/{4} is no regular file that can be read",
+            "{0}/replaced/{3}/{4} is not a regular file that can be read",
             "copy the others of {0}/replaced/{3} back by hand",
         ),
     }
