@@ -6,7 +6,7 @@ use Rattle.cs_rebuild.proofs.encoding.LostSegment.room.Goals as goal
 pub loop-j-preserved : goal.loop-j-preserved
 loop-j-preserved c =
     let more = mul-add (265 * length c.args.self.now.numbers.now) c.loop-j.j 1 in
-    omega (arith, c.loop-j.invariant, c.saturating_add.ensures, c.text_room-more.ensures, more)
+    omega (arith, c.loop-j.invariant, c.saturating_add-room.ensures, c.text_room-more.ensures, more)
 
 pub returns : goal.returns
 returns c =
