@@ -89,17 +89,26 @@ const REFUSED: [(&str, &str); 17] = [
     ("id,city,v,\"a\nb\"\n", "record 0: a\\nb is not a column"),
     ("id,v,city,v\n", "record 0: v specified more than once"),
     ("v,v,zz\n", "record 0: v specified more than once"),
-    ("id,city,v\n1,a\n", "record 1: 2 cells, but the catalog has 3 columns"),
+    (
+        "id,city,v\n1,a\n",
+        "record 1: 2 cells, but the catalog has 3 columns",
+    ),
     (
         "id,city,v\n1,a,2\n1,a,2,3\n",
         "record 2: 4 cells, but the catalog has 3 columns",
     ),
-    ("id,city,v\n1,\"a,2\n", "record 1: 2 cells, but the catalog has 3 columns"),
+    (
+        "id,city,v\n1,\"a,2\n",
+        "record 1: 2 cells, but the catalog has 3 columns",
+    ),
     (
         "id,city,v\n1,a,2\n1,a,x7\n",
         "record 2: v is not an integer: \"x7\"",
     ),
-    ("id,city,v\n 1,a,2\n", "record 1: id is not an integer: \" 1\""),
+    (
+        "id,city,v\n 1,a,2\n",
+        "record 1: id is not an integer: \" 1\"",
+    ),
     ("id,city,v\n,a,2\n", "record 1: id is not an integer: \"\""),
     (
         "id,city,v\n\"\"\"\n\",a,2\n",
@@ -114,8 +123,14 @@ const REFUSED: [(&str, &str); 17] = [
         "record 1: id is not an integer: \"0123456789012345678901234567890123456789\"",
     ),
     // of two faulty cells, that of the table's first column, wherever it is in the record
-    ("v,city,id\nx,a,y\n", "record 1: id is not an integer: \"y\""),
-    ("id,city,v\nx,a,1\n1,a\n", "record 1: id is not an integer: \"x\""),
+    (
+        "v,city,id\nx,a,y\n",
+        "record 1: id is not an integer: \"y\"",
+    ),
+    (
+        "id,city,v\nx,a,1\n1,a\n",
+        "record 1: id is not an integer: \"x\"",
+    ),
 ];
 
 #[test]

@@ -170,11 +170,11 @@ impl VerbError {
     }
 
     /// Writes a text of the error, with what it names, on a store with this SITES file.
-    fn write_text<W: fmt::Write>(
-        &self,
+    fn write_text<'a, W: fmt::Write>(
+        &'a self,
         f: &mut fmt::Formatter<W>,
         text: &str,
-        sites: Option<&str>,
+        sites: Option<&'a str>,
     ) -> fmt::Result {
         let (store, words) = self.subject();
         let (third, fourth) = self.details();
