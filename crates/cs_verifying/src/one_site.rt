@@ -1,5 +1,5 @@
 //! The files of one site alone.
-ghost use Rattle.std.specs.Prelude.{◌≡◌, ◌⊎◌, ◌↔◌, ◌<◌, ◌≤◌, ◌==◌, ◌&&◌, ◌||◌, ℕ, not, IsTrue, IfSome, IsSomeAnd, IfErr, OnOk, OnErr};
+ghost use Rattle.std.specs.Prelude.{◌≡◌, ◌⊎◌, ◌<◌, ◌≤◌, ◌==◌, ◌&&◌, ◌||◌, ℕ, not, IfSome, IsSomeAnd, IfErr, OnOk, OnErr};
 ghost use Rattle.cs_schema.specs.Lists.{member};
 ghost use Rattle.pinepolo_places.specs.Status.{status_of};
 ghost use Rattle.cs_verifying.specs.Promises.{AreOthers};
@@ -42,16 +42,6 @@ pub fn others(site: Option<u8>) -> Loss
     }
 }
 
-/// Whether a catalog has the site, if one is given.
-fn has_site(catalog: &Catalog, site: Option<u8>) -> bool
-    ensures { IsTrue result ↔ IfSome site (λ n. n ≤ catalog.now.sites) }
-{
-    match site {
-        Some(site) => site <= catalog.sites,
-        None => true,
-    }
-}
-
 /// Refuses a site that is given and that the catalog of the store at this path lacks.
 pub fn require_site(
     alloc: Global,
@@ -63,10 +53,11 @@ pub fn require_site(
     ensures err { OnErr result (IsSomeAnd site (λ n. catalog.now.sites < n)) }
     ensures status { IfErr result (λ error. (status_of error ≡ REFUSED) ⊎ (error ≡ VerbError.OutOfMemory)) }
 {
-    match site {
-        Some(number) if !has_site(catalog, site) => {
-            Err(VerbError::refused(alloc, Refusal::NoSuchSite(number), path))
-        }
-        _ => Ok(()),
+    let Some(number) = site else {
+        return Ok(());
+    };
+    if number <= catalog.sites {
+        return Ok(());
     }
+    Err(VerbError::refused(alloc, Refusal::NoSuchSite(number), path))
 }
