@@ -6,9 +6,18 @@ A synced file has its data and its mode, and a synced folder its names. A mode t
 - `ordered` leaves the changes of each folder in their order, whatever became of other folders and of files;
 - `weak` leaves any of the changes of names, and zeros may stand for data.
 A rename is one step in each of them. Data whose sync failed is gone, unless it was written again.
+
+How many states differ depends on what is pending, that is, not synced yet. The program syncs each file before it makes the
+next one (only recover writes some at the same time), so the data of one file is pending at most. In `journal` that sync
+brings all earlier names to the disk as well: pending are no more names than a rename and the next new file, or the second
+names that a restore gives to what it keeps. In `ordered` all names of a folder are pending until it is synced, but they stay
+in order, so most of what a crash may leave is what an earlier one leaves too. So both models have some six states for each
+file that a restore changes (kept, made, half written, written, with its mode, in place), three for each that a load makes,
+and twenty beside. Only more files make more of them. `weak` has a state for each set of the names that are pending.
 """
 import os
 from dataclasses import dataclass
+from functools import lru_cache
 
 MODELS = ("journal", "ordered", "weak")
 
@@ -27,6 +36,7 @@ def folders_of(op):
     return {folder for folder, _, _ in op.names}
 
 
+@lru_cache(4096)
 def pending_names(log, count, model):
     """The changes of names, of so many first changes, that a crash may undo."""
     pending, synced, is_synced = [], set(), False
@@ -40,6 +50,7 @@ def pending_names(log, count, model):
     return pending[::-1]
 
 
+@lru_cache(4096)
 def pending_writes(log, count):
     """By file, the writes to it that no sync followed, and all those that are gone since a sync of them failed."""
     pending, gone = {}, set()
@@ -54,6 +65,7 @@ def pending_writes(log, count):
     return pending, gone
 
 
+@lru_cache(4096)
 def modes_of(log, count):
     """The mode of each file that was synced since it was given."""
     given, modes = {}, {}
@@ -65,16 +77,17 @@ def modes_of(log, count):
     return modes
 
 
-def without_gaps(log, pending, kept):
-    """Of these changes those that are left if each folder keeps its own in their order."""
-    cut = set()
+def in_order(log, pending, random):
+    """Of these changes those that are left if each folder keeps its own up to some moment."""
+    folders = sorted({folder for at in pending for folder in folders_of(log.ops[at])})
+    until = {folder: random.choice([-1, *pending]) for folder in folders}
     left = set()
     for at in pending:
         folders = folders_of(log.ops[at])
-        if at in kept and not folders & cut:
+        if all(at <= until[folder] for folder in folders):
             left.add(at)
         else:
-            cut |= folders
+            until.update(dict.fromkeys(folders, -1))
     return frozenset(left)
 
 
@@ -90,9 +103,10 @@ def chosen(log, count, model, random):
     names, (writes, _) = pending_names(log, count, model), pending_writes(log, count)
     if model == "journal":
         kept = frozenset(names[:random.randint(0, len(names))])
+    elif model == "ordered":
+        kept = in_order(log, names, random)
     else:
         kept = frozenset(at for at in names if random.random() < 0.6)
-        kept = without_gaps(log, names, kept) if model == "ordered" else kept
     counts = {node: random.randint(0, len(ats)) for node, ats in writes.items()}
     some = [node for node in writes if counts[node] > 0]
     halves = frozenset(node for node in some if random.random() < 0.3)

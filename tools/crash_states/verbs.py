@@ -6,8 +6,17 @@ import re
 import shutil
 import stat
 import subprocess
+import tempfile
+import tomllib
+from functools import cache
 
 SITES = ("2", "3")
+# What comes to stand under the names of the lost sites, in turn.
+RUINS = ("half", "pipe", "nothing", "folder", "link", "empty", "sound")
+# The mode of each half of a file.
+HALF_MODE = 0o640
+# Where the copies of a larger store may be cut, by their sort columns: each at the first of these.
+CUTS = {"part": list(range(101, 116)), "name": list("bcdefghijklmnop"), "shelf": [f"{it}{at}" for it in "ABCDE" for at in (1, 2, 3)]}
 
 
 def thing(path):
@@ -44,11 +53,61 @@ def ended(words, status, said):
     return [] if status == 0 else [f"{' '.join(word for word in words if '/' not in word)}: status {status}, {line}"]
 
 
+def lost_names(store):
+    """The names of the files of the lost sites."""
+    with open(f"{store}/catalog.toml", "rb") as file:
+        projections = tomllib.load(file)["projection"]
+    sites = {f"p{at}.s{part}": str(site) for at, it in enumerate(projections) for part, site in enumerate(it["sites"])}
+    return [name for name in sorted(os.listdir(store)) if sites.get(".".join(name.split(".")[:2])) in SITES]
+
+
+def ruin(path, how):
+    """Puts something else in the place of a file."""
+    if how == "half":
+        os.truncate(path, os.path.getsize(path) // 2)
+        os.chmod(path, HALF_MODE)
+    elif how == "empty":
+        os.truncate(path, 0)
+    elif how != "sound":
+        os.remove(path)
+    if how == "pipe":
+        os.mkfifo(path)
+    elif how == "folder":
+        os.mkdir(path)
+        with open(f"{path}/inner", "w") as file:
+            file.write("inner")
+    elif how == "link":
+        os.symlink("nowhere", path)
+
+
+def larger_store(program, examples, parent, segments):
+    """Loads the table of examples/two-of-six into three copies of so many segments. Each is on a site and leads to the others."""
+    with open(f"{examples}/two-of-six/catalog.toml") as file:
+        head, *copies = file.read().replace("sites = 6", "sites = 3").split("[[projection]]")
+    for site, (copy, (column, cuts)) in enumerate(zip(copies, CUTS.items()), 1):
+        kept = copy.partition("cuts =")[0]
+        joins = [f"by_{it}" for it in CUTS if it != column]
+        head += f"[[projection]]{kept}cuts = {json.dumps(cuts[:segments - 1])}\nsites = {[site] * segments}\njoins = {json.dumps(joins)}\n"
+    with open(f"{parent}/catalog.toml", "w") as file:
+        file.write(head)
+    store = f"{parent}/larger"
+    subprocess.run([program, "load", f"{parent}/catalog.toml", f"{examples}/two-of-six/parts.csv", store], check=True, stdout=subprocess.DEVNULL)
+    return store
+
+
 class Verb:
     """A verb in a folder of its own, with the program that does it."""
 
     def __init__(self, name, program, example):
         self.name, self.program, self.example = name, program, example
+        self.does = name.removeprefix("resume-")
+
+    @cache
+    def begun(self, parent):
+        """A folder in which the verb may begin: copies of it are what it is tried on."""
+        room = tempfile.mkdtemp(dir=parent)
+        self.prepare(room)
+        return room
 
     def run(self, *words):
         """Runs the program, and says what is wrong with how it ended."""
@@ -60,16 +119,10 @@ class Verb:
         return "--resume" not in said or os.path.lexists(f"{room}/store/RESTORING")
 
     def break_store(self, store):
-        """A store of which two sites are lost: a pipe, half a file and a folder stand under lost names, and one is empty."""
+        """A store of which two sites are lost."""
         shutil.copytree(self.example, store)
-        for name in ("p0.s1.seg", "p1.s0.seg", "p1.s0.del"):
-            os.remove(f"{store}/{name}")
-        os.mkfifo(f"{store}/p0.s1.seg")
-        os.truncate(f"{store}/p0.s1.del", 20)
-        os.chmod(f"{store}/p0.s1.del", 0o640)
-        os.mkdir(f"{store}/p1.s0.seg")
-        with open(f"{store}/p1.s0.seg/inner", "w") as file:
-            file.write("inner")
+        for at, name in enumerate(lost_names(store)):
+            ruin(f"{store}/{name}", RUINS[at % len(RUINS)])
 
 
 class InPlace(Verb):
@@ -79,12 +132,12 @@ class InPlace(Verb):
         self.break_store(f"{room}/store")
         broken, whole = files_of(f"{room}/store"), files_of(self.example)
         self.changed = sorted(name for name in whole if whole[name] != broken.get(name))
-        self.before, self.after = (broken, whole) if self.name == "restore" else (whole, broken)
-        if self.name == "undo" and (failed := self.run("restore", "--quiet", f"{room}/store", *SITES)):
+        self.before, self.after = (broken, whole) if self.does == "restore" else (whole, broken)
+        if self.does == "undo" and (failed := self.run("restore", "--quiet", f"{room}/store", *SITES)):
             raise RuntimeError(failed[0])
 
     def words(self, room):
-        return ["restore", "--quiet", f"{room}/store", *SITES] if self.name == "restore" else ["undo", f"{room}/store", "1"]
+        return ["restore", "--quiet", f"{room}/store", *SITES] if self.does == "restore" else ["undo", f"{room}/store", "1"]
 
     def has_ended(self, room):
         return not os.path.lexists(f"{room}/store/RESTORING") and files_of(f"{room}/store") == self.after
@@ -93,7 +146,7 @@ class InPlace(Verb):
         """Goes on as the documents say."""
         store = f"{room}/store"
         if os.path.lexists(f"{store}/RESTORING"):
-            return run(self.name, "--resume", store)
+            return run(self.does, "--resume", store)
         if self.has_ended(room):
             return []
         if files_of(store) != self.before:
@@ -107,7 +160,8 @@ class InPlace(Verb):
             return [f"not right: {' '.join(name for name in self.changed if files_of(store).get(name) != self.after.get(name))}"]
         wrong = self.lost(store) + self.told(store)
         # What replaces a file has its mode.
-        wrong += [] if mode_of(f"{store}/p0.s1.del") == 0o640 else ["another mode"]
+        halves = lost_names(self.example)[::len(RUINS)]
+        wrong += [f"another mode: {name}" for name in halves if mode_of(f"{store}/{name}") != HALF_MODE]
         wrong += self.run("undo", store)
         if not wrong and files_of(store) != self.before:
             wrong.append("an undo gives back something else")
@@ -127,7 +181,7 @@ class InPlace(Verb):
                 found.append(json.loads(line))
             except ValueError:
                 continue
-        found = [line for line in found if line["what"] == self.name]
+        found = [line for line in found if line["what"] == self.does]
         if len(found) != 1:
             return [f"{len(found)} lines in the journal"]
         wanted = {name: [digest_of(self.before.get(name)), digest_of(self.after.get(name))] for name in self.changed}
@@ -139,6 +193,20 @@ class InPlace(Verb):
         return [] if told == wanted else ["a wrong line in the journal"]
 
 
+class Resumed(InPlace):
+    """`restore --resume` or `undo --resume`, after a kill among the renames."""
+
+    def prepare(self, room):
+        super().prepare(room)
+        kill = ["-e", "trace=rename", "-e", f"inject=rename:signal=KILL:when={len(self.changed)}"]
+        subprocess.run(["strace", "-f", *kill, self.program, *super().words(room)], stdin=subprocess.DEVNULL, capture_output=True)
+        if not os.path.lexists(f"{room}/store/RESTORING"):
+            raise RuntimeError("not killed")
+
+    def words(self, room):
+        return [self.does, "--resume", f"{room}/store"]
+
+
 class IntoNew(Verb):
     """A verb that makes something new at a path, and does nothing else."""
 
@@ -147,7 +215,7 @@ class IntoNew(Verb):
         shutil.copy(f"{self.example}/catalog.toml", f"{room}/catalog.toml")
         self.run("dump", self.example, f"{room}/table.csv")
         if self.name == "recover":
-            os.remove(f"{room}/store/p0.s1.seg")
+            os.remove(f"{room}/store/{lost_names(self.example)[0]}")
         self.beside = files_of(f"{room}/store")
         with_room = f"{room}/made"
         self.run(*self.words(with_room, room))
@@ -158,7 +226,7 @@ class IntoNew(Verb):
         given, new = given or room, f"{room}.new" if given else f"{room}/new"
         return {"load": ["load", "--replace-partial", f"{given}/catalog.toml", f"{given}/table.csv", new],
                 "relayout": ["relayout", "--replace-partial", f"{given}/store", f"{given}/catalog.toml", new],
-                "recover": ["recover", "--quiet", f"{given}/store", new, "2"],
+                "recover": ["recover", "--quiet", f"{given}/store", new, *SITES],
                 "dump": ["dump", f"{given}/store", new],
                 "design": ["design", "--svg", new, f"{given}/catalog.toml"]}[self.name]
 
@@ -182,7 +250,8 @@ class IntoNew(Verb):
 
 
 def verb_of(name, program, example):
-    return (InPlace if name in ("restore", "undo") else IntoNew)(name, program, example)
+    kind = Resumed if name.startswith("resume-") else InPlace if name in ("restore", "undo") else IntoNew
+    return kind(name, program, example)
 
 
-VERBS = ("restore", "undo", "load", "relayout", "recover", "dump", "design")
+VERBS = ("restore", "undo", "resume-restore", "resume-undo", "load", "relayout", "recover", "dump", "design")
