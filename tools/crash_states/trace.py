@@ -12,6 +12,7 @@ CHANGES = ("openat", "write", "pwrite64", "ftruncate", "link", "linkat", "rename
            "unlinkat", "rmdir", "mkdir", "mkdirat", "symlink", "symlinkat", "chmod", "fsync", "fdatasync", "close")
 LINE = re.compile(r"^(\d+) +(\w+)\((.*)\) += (-?\d+)(.*)$")
 UNFINISHED = re.compile(r"^(\d+) +(.*) <unfinished \.\.\.>$")
+CLOSING = re.compile(r"^(\d+ +close\(.*) <unfinished \.\.\.>$")
 RESUMED = re.compile(r"^(\d+) +<\.\.\. \w+ resumed>(.*)$")
 
 
@@ -189,13 +190,18 @@ def text_of(word):
 
 
 def joined(lines):
-    """The lines of a trace, each with a whole call: the two parts of one that another thread came between are joined."""
+    """The lines of a trace, each with a whole call: the two parts of one that another thread came between are joined.
+
+    A close stands where it began: another thread may get its number before it ends.
+    """
     begun = {}
     for line in lines:
-        if found := UNFINISHED.match(line):
+        if found := CLOSING.match(line):
+            yield f"{found[1]}) = 0"
+        elif found := UNFINISHED.match(line):
             begun[found[1]] = found[2]
-        elif found := RESUMED.match(line):
-            yield f"{found[1]} {begun.pop(found[1], '')}{found[2]}"
+        elif (found := RESUMED.match(line)) and found[1] in begun:
+            yield f"{found[1]} {begun.pop(found[1])}{found[2]}"
         else:
             yield line
 
