@@ -6,6 +6,8 @@ use Rattle.std.proofs.lemmas.List.{get_or-map}
 use Rattle.std.proofs.lemmas.List.FromFn.{get_or-map-range_with_len, length-map-range_with_len}
 use Rattle.std.proofs.lemmas.List.Filters.{length-filter_more}
 use Rattle.cs_schema.specs.CatalogData.{CatalogData, projection}
+use Rattle.cs_schema.specs.CatalogRules.{IsCatalog}
+use Rattle.cs_schema.proofs.Lists.{member_at}
 use Rattle.cs_schema.specs.Ranges.{range_of}
 use Rattle.cs_schema.specs.Rows.{Row, cell, segment_of_row}
 use Rattle.cs_schema.specs.Values.{values}
@@ -13,6 +15,13 @@ use Rattle.cs_schema.specs.declared.cells.Cells.{Cells}
 use Rattle.cs_schema.specs.declared.cells.Value.{Value}
 use Rattle.cs_rows.specs.WalkedView.{count_of, row_of}
 use Rattle.cs_recovery.specs.Columns.{rows_in}
+
+-- the first sort column of a projection is a column of the table
+pub first_inside : (C : CatalogData) → IsCatalog C → (p : ℕ) → p < length C.projections → (sort : List ℕ) (first : ℕ) → sort ≡ (projection C p).sort → first ≡ get_or sort 0 first → first < length C.columns
+first_inside C cat p h sort first e at =
+    let some : 0 < length (projection C p).sort = (cat.projections p h).some_sort in
+    let there : get_or (projection C p).sort 0 first < length C.columns = (cat.projections p h).columns _ ((cat.projections p h).sort _ (member_at (projection C p).sort 0 first some)) in
+    subst (λ (n : ℕ). n < length C.columns) (sym (at ∙ ap (λ (l : List ℕ). get_or l 0 first) e)) there
 
 pub rows-count : (rows : List Cells) → length (rows_in rows) ≡ count_of rows
 rows-count rows = length-map-range_with_len (row_of rows) 0 (count_of rows)

@@ -7,10 +7,9 @@ use Rattle.cs_schema.specs.CatalogData.{projection}
 use Rattle.cs_schema.specs.Rows.{Row, cell, segment_of_row}
 use Rattle.cs_schema.specs.Ranges.{range_of}
 use Rattle.cs_schema.specs.Values.{values}
-use Rattle.cs_order.proofs.SortColumns.{first_inside}
 use Rattle.cs_rows.specs.WalkedView.{count_of}
 use Rattle.cs_recovery.specs.Columns.{rows_in}
-use Rattle.cs_tables.proofs.CountLemmas.{count-more, rows-count}
+use Rattle.cs_tables.proofs.CountLemmas.{count-more, first_inside, rows-count}
 use Rattle.cs_tables.proofs.counting.rows_in_range.Goals as goal
 use Rattle.cs_tables.proofs.counting.rows_in_range.Goals.{then-segment_of_cell-s, else-segment_of_cell-s}
 
