@@ -78,12 +78,16 @@ fn requested<'a>(matches: &ArgMatches<'a>, processors: u32) -> Option<Request<'a
     let Some(verb) = verb_of(name, &options) else {
         return None;
     };
+    if options.sites.is_none() && options.to.has_any() {
+        return None;
+    }
     Some(Request {
         verb,
         workers: options.workers,
         json: options.json,
         quiet: options.quiet,
         sites: options.sites,
+        to: options.to,
     })
 }
 
@@ -110,14 +114,14 @@ fn exit_of(alloc: Global, error: &Error) -> ParseExit
 fn nothing_asked(alloc: Global, matches: &ArgMatches<'_>) -> ParseExit
     ensures { ¬ IsHelp result }
 {
-    let accepts_loss = match matches.subcommand() {
-        Some((_name, found)) => found.get_flag("accept-loss"),
-        None => false,
-    };
-    let text = if accepts_loss {
-        "error: --accept-loss needs each SITE that is known to be gone\n"
-    } else {
-        "error: no command given\n"
+    let text = match matches.subcommand() {
+        Some((_name, found)) if found.get_flag("accept-loss") && !found.contains_id("lost") => {
+            "error: --accept-loss needs each SITE that is known to be gone\n"
+        }
+        Some((_name, found)) if found.contains_id("to") => {
+            "error: --to needs --sites, and SITE=FOLDER with a site from 1 to 16, each once\n"
+        }
+        _ => "error: no command given\n",
     };
     match String::from_str(alloc, text) {
         Ok(text) => ParseExit::Usage(text),

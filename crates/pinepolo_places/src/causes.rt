@@ -1,7 +1,7 @@
 //! What a verb can fail at, and for what it refuses what it was given, each with its texts.
 //!
 //! In a text `{0}` stands for the path, `{1}` for the path as a word of a command line, `{2}` for what is wrong there in words,
-//! `{3}` for a number or a verb, and `{4}` for a file.
+//! `{3}` for a number or a verb, `{4}` for a file, and `{5}` for the store as words of a command line.
 use arrayvec::ArrayString;
 use cs_schema::FileName;
 use cs_shelf::WorkKind;
@@ -33,6 +33,8 @@ pub enum Failure {
     RemoveRecord(WorkKind),
     /// That the record of finished work is gone was brought to the disk.
     SyncEnd,
+    /// The folder of this site was looked for.
+    ReachSite(u8),
 }
 
 /// A place in a CSV.
@@ -77,6 +79,8 @@ pub enum Refusal {
     NoRecord(u32),
     /// This file of what is kept under this number is missing, or can't be read.
     Incomplete(u32, FileName),
+    /// The name of this file is a link that leads nowhere, or to a file of another name.
+    BrokenLink(FileName),
 }
 
 /// What is said of a failure, and what to do next.
@@ -115,11 +119,15 @@ pub fn failure_texts(failure: &Failure) -> (&'static str, &'static str) {
         ),
         Failure::RemoveRecord(_) => (
             "write {0}/restores.jsonl or remove {0}/RESTORING",
-            "pinepolo {3} --resume {1}",
+            "pinepolo {3} --resume {5}",
         ),
         Failure::SyncEnd => (
             "sync {0}: all files are in place, but a crash may bring RESTORING back",
             "sync -f {1}",
+        ),
+        Failure::ReachSite(_) => (
+            "the folder of site {3} is away, or is not the one in which the work on {0} was begun",
+            "bring it back; or to restore it onto a new disk, give an empty folder there: --to {3}=FOLDER",
         ),
     }
 }
@@ -135,8 +143,8 @@ pub fn refusal_texts(refusal: &Refusal) -> (&'static str, &'static str) {
             "{0}.partial is left from an unfinished run",
             "see that no other run writes it, then give --replace-partial",
         ),
-        Refusal::NoSuchFile => ("the catalog has no file \"{2}\"", "pinepolo show {1}"),
-        Refusal::NoSuchSite(_) => ("the catalog has no site {3}", "pinepolo design {1}"),
+        Refusal::NoSuchFile => ("the catalog has no file \"{2}\"", "pinepolo show {5}"),
+        Refusal::NoSuchSite(_) => ("the catalog has no site {3}", "pinepolo design {5}"),
         Refusal::CatalogChanged => (
             "{0}/catalog.toml has another digest than the manifest's",
             "give the manifest of this store, or bring its catalog back",
@@ -149,29 +157,29 @@ pub fn refusal_texts(refusal: &Refusal) -> (&'static str, &'static str) {
         Refusal::Layout => ("{2}", "change {0}, and lay the store out again"),
         Refusal::Unfinished(WorkKind::Restore) => (
             "a restore of {0} is not finished",
-            "pinepolo restore --resume {1}",
+            "pinepolo restore --resume {5}",
         ),
         Refusal::Unfinished(WorkKind::Undo) => (
             "an undo of {0} is not finished",
-            "pinepolo undo --resume {1}",
+            "pinepolo undo --resume {5}",
         ),
         Refusal::NothingToResume(WorkKind::Restore) => (
             "no restore of {0} is unfinished",
-            "pinepolo check {1}",
+            "pinepolo check {5}",
         ),
         Refusal::NothingToResume(WorkKind::Undo) => (
             "no undo of {0} is unfinished",
-            "pinepolo undo {1}",
+            "pinepolo undo {5}",
         ),
         Refusal::Busy => (
             "another restore or undo of {0} is at work",
-            "let it end, then pinepolo check {1}",
+            "let it end, then pinepolo check {5}",
         ),
         Refusal::DamagedRecord => (
             "{0}/RESTORING is no record of a restore or an undo",
-            "move it away, then pinepolo diagnose {1}",
+            "move it away, then pinepolo diagnose {5}",
         ),
-        Refusal::NothingKept(None) => ("nothing to undo in {0}", "pinepolo check {1}"),
+        Refusal::NothingKept(None) => ("nothing to undo in {0}", "pinepolo check {5}"),
         Refusal::NothingKept(Some(_)) => (
             "nothing is kept in {0}/replaced/{3}",
             "see which numbers are there: ls {1}/replaced",
@@ -184,6 +192,10 @@ pub fn refusal_texts(refusal: &Refusal) -> (&'static str, &'static str) {
             "{0}/replaced/{3}/{4} is no regular file that can be read",
             "copy the others of {0}/replaced/{3} back by hand",
         ),
+        Refusal::BrokenLink(_) => (
+            "{0}/{4} is a link that leads nowhere, or to a file of another name",
+            "bring its disk back, or name the folder of each site in a file: --sites FILE",
+        ),
     }
 }
 
@@ -194,7 +206,8 @@ pub fn failure_kind(failure: &Failure) -> &'static str {
         | Failure::ReadManifest
         | Failure::ReadTable
         | Failure::ReadStore
-        | Failure::ListStore => "unreadable",
+        | Failure::ListStore
+        | Failure::ReachSite(_) => "unreadable",
         _ => "not written",
     }
 }
@@ -217,5 +230,6 @@ pub fn refusal_kind(refusal: &Refusal) -> &'static str {
         Refusal::NothingKept(_) => "nothing kept",
         Refusal::NoRecord(_) => "no record",
         Refusal::Incomplete(..) => "incomplete",
+        Refusal::BrokenLink(_) => "broken link",
     }
 }

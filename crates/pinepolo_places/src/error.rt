@@ -3,6 +3,7 @@ ghost use Rattle.std.specs.Prelude.{◌≡◌, ◌⊎◌, IsTrue};
 ghost use Rattle.pinepolo_places.specs.Status.{status_of, fault_status};
 
 use crate::causes::{Failure, Refusal};
+use crate::error_text::ErrorText;
 use cs_catalog::CatalogFault;
 use cs_reports::{BadFile, FaultWords, fault_site, with_site};
 use cs_schema::{Catalog, Loss};
@@ -86,7 +87,15 @@ pub enum VerbError {
 pub fn report<E: Write>(error: &VerbError, err: &mut E) -> u8
     ensures { (result ≡ status_of error.now) ⊎ (result ≡ DEVICE) }
 {
-    match write!(err, "{error}") {
+    report_sited(error, None, err)
+}
+
+/// Says the same of a verb on a store whose sites stand where this SITES file says, if there is one.
+pub fn report_sited<E: Write>(error: &VerbError, sites: Option<&str>, err: &mut E) -> u8
+    ensures { (result ≡ status_of error.now) ⊎ (result ≡ DEVICE) }
+{
+    let text = ErrorText { error, sites };
+    match write!(err, "{text}") {
         Ok(()) => error.status(),
         Err(_) => DEVICE,
     }

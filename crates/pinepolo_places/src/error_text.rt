@@ -1,6 +1,7 @@
 //! Errors in words.
 use crate::causes::{Failure, Refusal, failure_texts, refusal_texts};
 use crate::error::{Step, StoreError, VerbError};
+use crate::store_words::StoreWords;
 use cs_catalog::CatalogFault;
 use cs_reports::{Next, ShellWord, fill};
 use cs_schema::FileName;
@@ -37,6 +38,7 @@ impl fmt::Display for Detail {
 enum Part<'a> {
     Text(&'a str),
     Path(ShellWord<'a>),
+    Store(StoreWords<'a>),
     Detail(Detail),
 }
 
@@ -45,6 +47,7 @@ impl fmt::Display for Part<'_> {
         match self {
             Part::Text(text) => f.write_str(text),
             Part::Path(path) => write!(f, "{path}"),
+            Part::Store(store) => write!(f, "{store}"),
             Part::Detail(detail) => write!(f, "{detail}"),
         }
     }
@@ -58,6 +61,7 @@ fn failure_details(failure: &Failure) -> (Detail, Detail) {
         }
         Failure::WriteOutput(None) => (Detail::Nothing, Detail::Mark),
         Failure::RemoveRecord(verb) => (Detail::Verb(*verb), Detail::Nothing),
+        Failure::ReachSite(site) => (Detail::Number(u32::from(*site)), Detail::Nothing),
         _ => (Detail::Nothing, Detail::Nothing),
     }
 }
@@ -70,6 +74,7 @@ fn refusal_details(refusal: &Refusal) -> (Detail, Detail) {
         }
         Refusal::NoSuchSite(site) => (Detail::Number(u32::from(*site)), Detail::Nothing),
         Refusal::Incomplete(number, name) => (Detail::Number(*number), Detail::File(*name)),
+        Refusal::BrokenLink(name) => (Detail::Nothing, Detail::File(*name)),
         _ => (Detail::Nothing, Detail::Nothing),
     }
 }
@@ -84,9 +89,9 @@ impl StoreError {
         };
         match self.step {
             Step::ByFault => (said, ""),
-            Step::Resume(WorkKind::Restore) => (said, "pinepolo restore --resume {1}"),
-            Step::Resume(WorkKind::Undo) => (said, "pinepolo undo --resume {1}"),
-            Step::Diagnose => (said, "pinepolo diagnose {1}"),
+            Step::Resume(WorkKind::Restore) => (said, "pinepolo restore --resume {5}"),
+            Step::Resume(WorkKind::Undo) => (said, "pinepolo undo --resume {5}"),
+            Step::Diagnose => (said, "pinepolo diagnose {5}"),
         }
     }
 
@@ -164,16 +169,23 @@ impl VerbError {
         }
     }
 
-    /// Writes a text of the error, with what it names.
-    fn write_text<W: fmt::Write>(&self, f: &mut fmt::Formatter<W>, text: &str) -> fmt::Result {
+    /// Writes a text of the error on a store whose sites stand where this SITES file says, if there is one, with what it names.
+    fn write_text<W: fmt::Write>(
+        &self,
+        f: &mut fmt::Formatter<W>,
+        text: &str,
+        sites: Option<&str>,
+    ) -> fmt::Result {
         let (path, words) = self.subject();
         let (third, fourth) = self.details();
+        let store = StoreWords { store: path, sites };
         let parts = [
             Part::Text(path),
             Part::Path(ShellWord(path)),
             Part::Text(words),
             Part::Detail(third),
             Part::Detail(fourth),
+            Part::Store(store),
         ];
         fill(f, text, &parts)
     }
@@ -185,23 +197,38 @@ pub struct ErrorWords<'a>(pub &'a VerbError);
 
 impl fmt::Display for ErrorWords<'_> {
     fn fmt<W: fmt::Write>(&self, f: &mut fmt::Formatter<W>) -> fmt::Result {
-        self.0.write_text(f, self.0.texts().0)
+        self.0.write_text(f, self.0.texts().0, None)
     }
 }
 
 /// What is wrong, and what to do next, as lines.
-impl fmt::Display for VerbError {
+#[derive(Clone, Copy)]
+pub struct ErrorText<'a> {
+    pub error: &'a VerbError,
+    /// The SITES file of the store, if its sites stand in folders of their own.
+    pub sites: Option<&'a str>,
+}
+
+impl fmt::Display for ErrorText<'_> {
     fn fmt<W: fmt::Write>(&self, f: &mut fmt::Formatter<W>) -> fmt::Result {
-        let words = ErrorWords(self);
+        let (error, words) = (self.error, ErrorWords(self.error));
         writeln!(f, "fault: {words}")?;
-        if let VerbError::Store(error) = self {
+        if let VerbError::Store(error) = error {
             error.write_files(f)?;
         }
         f.write_str("next: ")?;
-        self.write_text(f, self.texts().1)?;
-        if let VerbError::Store(error) = self {
+        error.write_text(f, error.texts().1, self.sites)?;
+        if let VerbError::Store(error) = error {
             error.write_step(f)?;
         }
         f.write_str("\n")
+    }
+}
+
+impl fmt::Display for VerbError {
+    fn fmt<W: fmt::Write>(&self, f: &mut fmt::Formatter<W>) -> fmt::Result {
+        let (error, sites) = (self, None);
+        let text = ErrorText { error, sites };
+        write!(f, "{text}")
     }
 }

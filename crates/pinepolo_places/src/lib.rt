@@ -12,6 +12,7 @@ mod finding;
 mod listings;
 mod places;
 mod shelves;
+mod store_words;
 mod tables;
 
 pub use causes::{CsvPlace, Failure, Refusal};
@@ -19,10 +20,12 @@ pub use cs_folders::Way;
 pub use cs_shelf::{JOURNAL, RESTORING, UndoOf, Undoable, Untaken, Work, WorkKind};
 pub use error::{
     DEVICE, DONE, MEMORY, REFUSED, Step, StoreError, Subject, USAGE, VerbError, report,
+    report_sited,
 };
 pub use error_json::error_object;
 pub use finding::{find_store, find_store_text, look_up, look_up_text};
 pub use listings::Listings;
 pub use places::Places;
 pub use shelves::{GivenBack, RestoreOf, Shelves};
+pub use store_words::StoreWords;
 pub use tables::Tables;

@@ -20,7 +20,7 @@ use cs_verifying::{list, verify};
 use pinepolo_args::{ParseExit, Request, Verb};
 use pinepolo_drill::drill;
 use pinepolo_json::{print_bytes, say, say_refusal};
-use pinepolo_places::{DONE, USAGE, VerbError, report};
+use pinepolo_places::{DONE, USAGE, VerbError, report, report_sited};
 use pinepolo_progress::Progress;
 use pinepolo_text::{Answer, AnswerText};
 use std::alloc::Global;
@@ -115,7 +115,7 @@ fn say_error<W: Write, E: Write>(
     if request.json && error.is_refusal() {
         say_refusal(alloc, request.verb.name(), error, out)
     } else {
-        report(error, err)
+        report_sited(error, request.sites, err)
     }
 }
 

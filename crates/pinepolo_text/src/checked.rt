@@ -4,13 +4,13 @@ ghost use Rattle.pinepolo_text.specs.Statuses.{checked_status};
 
 use crate::Unfinished;
 use crate::bad_files::BadLines;
-use crate::sited::{AwayLines, Sited, StoreWords, away_sites};
+use crate::sited::{AwayLines, Sited, ToWords, away_sites, store_words};
 use cs_inspection::Badness;
 use cs_reports::{FaultWords, Next, SiteWords, site_of, with_site};
 use cs_safety::safe;
 use cs_schema::{Catalog, FileName, Loss};
 use cs_store::Fault;
-use pinepolo_places::{DEVICE, DONE, REFUSED, WorkKind};
+use pinepolo_places::{DEVICE, DONE, REFUSED, StoreWords, WorkKind};
 use std::fmt;
 
 /// What a check came to.
@@ -104,10 +104,7 @@ pub struct CheckedText<'a> {
 impl<'a> CheckedText<'a> {
     /// The store as words of a command line.
     fn words(&self) -> StoreWords<'a> {
-        StoreWords {
-            store: self.store,
-            sites: self.sites,
-        }
+        store_words(self.store, self.sites)
     }
 
     /// What to do next about bad files.
@@ -115,11 +112,11 @@ impl<'a> CheckedText<'a> {
         let loss = self.checked.bad_sites();
         let (store, sites) = (self.words(), SiteWords(loss));
         if safe(&self.checked.catalog, loss) {
-            if self.sites.is_some() {
-                // (no restore reaches the folders of sites)
-                return writeln!(f, "next: pinepolo recover {store} OUT{sites}");
-            }
-            writeln!(f, "next: pinepolo restore {store}{sites}")
+            let to = ToWords {
+                sites: self.sites,
+                loss,
+            };
+            writeln!(f, "next: pinepolo restore {to}{store}{sites}")
         } else {
             writeln!(
                 f,
@@ -130,8 +127,8 @@ impl<'a> CheckedText<'a> {
 
     /// What to do next.
     fn write_next<W: fmt::Write>(&self, f: &mut fmt::Formatter<W>) -> fmt::Result {
-        let store = self.store;
         if let Some(kind) = self.checked.unfinished {
+            let store = self.words();
             let unfinished = Unfinished { kind, store };
             return write!(f, "{unfinished}");
         }
@@ -150,7 +147,7 @@ impl<'a> CheckedText<'a> {
             return writeln!(f, "next: pinepolo {verb} {store}");
         }
         let next = Next {
-            store,
+            store: self.store,
             sites: Loss::none(),
             fault: &fault,
         };

@@ -7,13 +7,13 @@ use crate::bad_files::BadLines;
 use crate::changed::{ChangedFile, reads_well};
 use crate::disputed::DisputeLines;
 use crate::explained::{ExplanationLines, VerdictLine};
-use crate::sited::{AwayLines, Sited, StoreWords, away_sites};
+use crate::sited::{AwayLines, Sited, ToWords, away_sites, store_words};
 use crate::unrecoverable::BringBack;
 use cs_design::fatal_losses;
 use cs_diagnosis::{Diagnosis, TableDisputes, Verdict};
 use cs_reports::SiteWords;
 use cs_schema::{Catalog, Loss};
-use pinepolo_places::{DONE, REFUSED, WorkKind};
+use pinepolo_places::{DONE, REFUSED, StoreWords, WorkKind};
 use std::alloc::{AllocError, Global};
 use std::fmt;
 
@@ -106,10 +106,7 @@ pub struct DiagnosedText<'a> {
 impl<'a> DiagnosedText<'a> {
     /// The store as words of a command line.
     fn words(&self) -> StoreWords<'a> {
-        StoreWords {
-            store: self.store,
-            sites: self.sites,
-        }
+        store_words(self.store, self.sites)
     }
 
     /// That work was left unfinished, and how it is resumed.
@@ -117,7 +114,7 @@ impl<'a> DiagnosedText<'a> {
         let Some(kind) = self.diagnosed.unfinished else {
             return Ok(());
         };
-        let store = self.store;
+        let store = self.words();
         let unfinished = Unfinished { kind, store };
         write!(f, "{unfinished}")
     }
@@ -143,12 +140,11 @@ impl<'a> DiagnosedText<'a> {
         } else {
             ""
         };
-        if self.sites.is_some() {
-            // (no restore reaches the folders of sites)
-            writeln!(f, "next: pinepolo recover {store} OUT{sites}")?;
-        } else {
-            writeln!(f, "next: pinepolo restore{option} {store}{sites}")?;
-        }
+        let to = ToWords {
+            sites: self.sites,
+            loss: first.loss,
+        };
+        writeln!(f, "next: pinepolo restore{option} {to}{store}{sites}")?;
         if self.diagnosed.fatal.is_empty() {
             return Ok(());
         }

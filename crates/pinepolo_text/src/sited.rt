@@ -1,6 +1,7 @@
 //! Stores whose sites stand in folders of their own.
-use cs_reports::{ShellWord, with_site};
+use cs_reports::with_site;
 use cs_schema::Loss;
+use pinepolo_places::StoreWords;
 use std::fmt;
 
 /// A site whose folder is away: it is not there, cannot be read, is no folder, or has no copy of the catalog.
@@ -54,21 +55,33 @@ impl fmt::Display for AwayLines<'_> {
     }
 }
 
-/// A store as words of a command line: its path, behind the option for its SITES file if it has one.
+/// The options by which lost sites that are away are restored into new folders, each with a space behind it.
 #[derive(Clone, Copy)]
-pub struct StoreWords<'a> {
-    /// The folder of the store.
-    pub store: &'a str,
+pub struct ToWords<'a> {
     pub sites: Option<Sited<'a>>,
+    pub loss: Loss,
 }
 
-impl fmt::Display for StoreWords<'_> {
+impl fmt::Display for ToWords<'_> {
     fn fmt<W: fmt::Write>(&self, f: &mut fmt::Formatter<W>) -> fmt::Result {
-        if let Some(sites) = self.sites {
-            let file = ShellWord(sites.file);
-            write!(f, "--sites {file} ")?;
+        let Some(sites) = self.sites else {
+            return Ok(());
+        };
+        for away in sites.away {
+            let site = away.site;
+            if (1..=16).contains(&site) && self.loss.has(site) {
+                write!(f, "--to {site}=FOLDER ")?;
+            }
         }
-        let store = ShellWord(self.store);
-        write!(f, "{store}")
+        Ok(())
     }
+}
+
+/// A store as words of a command line, with its SITES file if its sites stand in folders of their own.
+pub fn store_words<'a>(store: &'a str, sites: Option<Sited<'a>>) -> StoreWords<'a> {
+    let sites = match sites {
+        Some(sites) => Some(sites.file),
+        None => None,
+    };
+    StoreWords { store, sites }
 }

@@ -1,19 +1,17 @@
 //! That work on a store was left unfinished.
-use cs_reports::ShellWord;
-use pinepolo_places::{RESTORING, WorkKind};
+use pinepolo_places::{RESTORING, StoreWords, WorkKind};
 use std::fmt;
 
 /// That work on a store was left unfinished, and what to do next, as lines.
 #[derive(Clone, Copy)]
 pub struct Unfinished<'a> {
     pub kind: WorkKind,
-    /// The folder of the store.
-    pub store: &'a str,
+    pub store: StoreWords<'a>,
 }
 
 impl fmt::Display for Unfinished<'_> {
     fn fmt<W: fmt::Write>(&self, f: &mut fmt::Formatter<W>) -> fmt::Result {
-        let (kind, store) = (self.kind, ShellWord(self.store));
+        let (kind, store) = (self.kind, self.store);
         writeln!(
             f,
             "unfinished {kind}: {RESTORING} is there\nnext: pinepolo {kind} --resume {store}"
