@@ -148,7 +148,7 @@ fn new_record<R: Files + Alloc + Clone + Drop>(
     }
 }
 
-/// Takes the store in these folders for this work, unless other work is unfinished, and writes down whether the loss of a restore
+/// Takes the store in these folders for this work, unless other work is unfinished, and writes down whether a restore's loss
 /// is accepted. The record is there whole or not at all, and locked as long as it is taken.
 pub fn take<R: Files<File = File> + Alloc + Clone + Drop>(
     alloc: Global,
