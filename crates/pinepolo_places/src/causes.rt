@@ -127,7 +127,7 @@ pub fn failure_texts(failure: &Failure) -> (&'static str, &'static str) {
         ),
         Failure::ReachSite(_) => (
             "the folder of site {3} is away, or is not the one in which the work on {0} was begun",
-            "bring it back; or to restore it onto a new disk, give an empty folder there: --to {3}=FOLDER",
+            "bring it back; or give an empty folder on a new disk, or the one in which the work was begun: --to {3}=FOLDER",
         ),
     }
 }
