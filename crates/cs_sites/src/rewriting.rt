@@ -56,9 +56,9 @@ fn are_same(one: &[SiteFolder], other: &[SiteFolder]) -> bool
         return false;
     }
     for at in 0..one.len() {
-        if one[at].number != other[at].number
-            || one[at].folder.as_str() != other[at].folder.as_str()
-        {
+        let left = &one[at];
+        let right = &other[at];
+        if left.number != right.number || left.folder.as_str() != right.folder.as_str() {
             return false;
         }
     }
