@@ -1,5 +1,5 @@
 -- Names that were put back in part, and one more.
-use Rattle.std.proofs.Common.{◌≡◌, ◌⊎◌, inl, inr, ⊎_elim, ℕ, ◌+◌, ◌<◌, ◌≤◌, Bool, true, false, cond, List, Option, Some, None, length, refl, sym, ap, ◌∙◌, slice_get, arith}
+use Rattle.std.proofs.Common.{◌≡◌, ◌⊎◌, inl, inr, ⊎_elim, ℕ, ◌+◌, ◌<◌, ◌≤◌, Bool, true, false, cond, List, Some, None, length, refl, sym, ap, ◌∙◌, slice_get, arith}
 use Rattle.std.proofs.lemmas.Bool.{cases_lt}
 use Rattle.std.proofs.lemmas.Option.{slice_get_within}
 use Rattle.std.specs.FinMap.{get-insert}
@@ -8,7 +8,7 @@ use Rattle.cs_schema.specs.declared.file_name.FileName.{FileName}
 use Rattle.cs_schema.specs.FileNames.{name_cmp}
 use Rattle.cs_schema.specs.NameOrder.{name_cmp_total}
 use Rattle.cs_store.specs.FileSet.{Files, contents_of}
-use Rattle.cs_shelf.specs.Shelf.{Has, IsAmong, Lacks, MayHave, MayLack}
+use Rattle.cs_shelf.specs.Shelf.{Has, Lacks, MayHave, MayLack}
 use Rattle.cs_shelf.proofs.Names.{same_name, ties_itself}
 use Rattle.cs_restore.specs.Undoing.{IsBack, IsOneBack, IsPartBack, MayBeOneBack}
 

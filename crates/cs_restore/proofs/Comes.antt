@@ -1,5 +1,5 @@
 -- What an undo comes to.
-use Rattle.std.proofs.Common.{◌≡◌, ◌⊎◌, inl, inr, ⊎_elim, sym, ◌∙◌}
+use Rattle.std.proofs.Common.{⊎_elim, sym, ◌∙◌}
 use Rattle.cs_restore.specs.Undoing.{StoppedUndoGoesOn, UndoBringsBack}
 
 pub brings_back : UndoBringsBack

@@ -1,5 +1,5 @@
 -- Faults of a device that a restore ends with.
-use Rattle.std.proofs.Common.{◌≡◌, ◌≤◌, ◌⊎◌, ℕ, inl, inr, arith}
+use Rattle.std.proofs.Common.{◌≤◌, ℕ, inl, inr, arith}
 use Rattle.std.proofs.lemmas.Bool.{cases_lt}
 use Rattle.cs_store.specs.Fault.{CountsFault}
 use Rattle.cs_store.specs.declared.fault.Fault.{Fault}

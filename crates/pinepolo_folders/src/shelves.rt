@@ -7,14 +7,14 @@ use cs_folder_work::{FolderShelf, Taken, resume, take, take_undo};
 use cs_folders::FileLimits;
 use cs_schema::{Catalog, FileName, Loss};
 use cs_store::StoreFault;
-use pinepolo_places::{GivenBack, Places, RestoreOf, Shelves, UndoOf, Undoable, Untaken, Work};
+use pinepolo_places::{GivenBack, RestoreOf, Shelves, UndoOf, Undoable, Untaken, Work};
 use std::alloc::AllocError;
 use std::fs::File;
 use std::marker::Sync;
 use std::rt::Files;
 use std::time::Clock;
 
-impl<R: Files + Alloc + Copy + Drop + Sync> Folders<R> {
+impl<R: Files + Copy + Drop> Folders<R> {
     /// The store at this path, to be looked at alone, of which files of these sites may change.
     fn shelf(
         &self,
@@ -23,7 +23,7 @@ impl<R: Files + Alloc + Copy + Drop + Sync> Folders<R> {
         lost: Loss,
     ) -> Result<FolderShelf<R>, AllocError> {
         let folders = self.store_folders(path, catalog)?;
-        let source = self.files(path, catalog)?;
+        let source = self.source(path, catalog)?;
         let names = rebuilt_names(self.alloc, catalog, lost)?;
         Ok(FolderShelf::new(
             self.alloc,

@@ -61,18 +61,27 @@ pub struct ToWords<'a> {
     pub loss: Loss,
 }
 
+/// Writes an option for each of these sites that is lost.
+fn write_options<W: fmt::Write>(
+    f: &mut fmt::Formatter<W>,
+    sites: &[AwaySite],
+    loss: Loss,
+) -> fmt::Result {
+    for away in sites {
+        let site = away.site;
+        if (1..=16).contains(&site) && loss.has(site) {
+            write!(f, "--to {site}=FOLDER ")?;
+        }
+    }
+    Ok(())
+}
+
 impl fmt::Display for ToWords<'_> {
     fn fmt<W: fmt::Write>(&self, f: &mut fmt::Formatter<W>) -> fmt::Result {
-        let Some(sites) = self.sites else {
-            return Ok(());
-        };
-        for away in sites.away {
-            let site = away.site;
-            if (1..=16).contains(&site) && self.loss.has(site) {
-                write!(f, "--to {site}=FOLDER ")?;
-            }
+        match self.sites {
+            Some(sites) => write_options(f, sites.away, self.loss),
+            None => Ok(()),
         }
-        Ok(())
     }
 }
 
