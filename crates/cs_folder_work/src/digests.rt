@@ -44,6 +44,11 @@ impl Digests {
         }
     }
 
+    /// The names of which digests are noted, ascending.
+    pub fn names(&self) -> &[FileName] {
+        self.names.as_slice()
+    }
+
     /// Whether the file of this name may change.
     pub fn has(&self, name: FileName) -> bool {
         self.names.as_slice().binary_search(&name).is_ok()

@@ -2,6 +2,7 @@
 use crate::digests::Digests;
 use crate::journal::entry_of;
 use crate::replaced::kept_record;
+use crate::store_folders::StoreFolders;
 use crate::taking::Taken;
 use cs_file_system::{EndOfWork, FileSystem, SystemFiles, end_recorded, end_work, unmark};
 use cs_shelf::{JOURNAL, RESTORING};
@@ -14,14 +15,15 @@ use std::{fs, io};
 pub fn finish<R: Files + Clock>(
     alloc: Global,
     rt: &R,
-    store: &str,
+    folders: &StoreFolders,
     taken: &Taken,
     digests: &Digests,
 ) -> io::Result<bool> {
+    let store = folders.store();
     if taken.record.changes.is_none() {
         return remove_record(alloc, rt, store);
     }
-    end_changes(alloc, rt, store, taken, digests)?;
+    end_changes(alloc, rt, folders, taken, digests)?;
     Ok(SystemFiles(rt).sync_folder(store).is_ok())
 }
 
@@ -41,16 +43,16 @@ fn end_of(alloc: Global, store: &str, number: u32) -> io::Result<EndOfWork> {
 fn end_changes<R: Files + Clock>(
     alloc: Global,
     rt: &R,
-    store: &str,
+    folders: &StoreFolders,
     taken: &Taken,
     digests: &Digests,
 ) -> io::Result<()> {
-    let work = end_of(alloc, store, taken.record.kept)?;
+    let work = end_of(alloc, folders.store(), taken.record.kept)?;
     let files = &mut SystemFiles(rt);
     if fs::exists(rt, work.kept_mark.as_str())? {
         return end_recorded(files, &work);
     }
-    let entry = entry_of(alloc, rt, store, taken, digests)?;
+    let entry = entry_of(alloc, rt, folders, taken, digests)?;
     end_work(files, &work, &entry)
 }
 

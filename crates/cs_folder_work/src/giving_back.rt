@@ -1,4 +1,4 @@
-//! Giving a store's folder back.
+//! Giving a store back.
 use crate::finishing::{finish, remove_record};
 use crate::shelf::FolderShelf;
 use cs_store::StoreFault;
@@ -6,7 +6,7 @@ use std::io::ErrorKind;
 use std::rt::Files;
 use std::time::Clock;
 
-/// How a folder was given back.
+/// How a store was given back.
 #[derive(Clone, Copy)]
 pub struct Ended {
     /// The number under which old files are kept, if some are.
@@ -16,7 +16,7 @@ pub struct Ended {
 }
 
 impl<R: Files + Clock + Copy + Drop> FolderShelf<R> {
-    /// Gives the folder back: its work is finished, or ended early. Work that ended early after the store may have changed
+    /// Gives the store back: its work is finished, or ended early. Work that ended early after the store may have changed
     /// stays unfinished.
     pub fn give_back(self, is_finished: bool) -> Result<Ended, StoreFault> {
         let kept = if self.has_kept {
@@ -24,10 +24,12 @@ impl<R: Files + Clock + Copy + Drop> FolderShelf<R> {
         } else {
             None
         };
-        let store = self.path.as_str();
+        let folders = &self.folders;
         let ended = match &self.taken {
-            Some(taken) if is_finished => finish(self.alloc, &self.rt, store, taken, &self.digests),
-            Some(_) if !self.has_changed => remove_record(self.alloc, &self.rt, store),
+            Some(taken) if is_finished => {
+                finish(self.alloc, &self.rt, folders, taken, &self.digests)
+            }
+            Some(_) if !self.has_changed => remove_record(self.alloc, &self.rt, folders.store()),
             _ => Ok(true),
         };
         match ended {

@@ -3,6 +3,7 @@ use crate::digests::{Digests, FileDigest};
 use crate::files::{io_error, read_regular, regular_size};
 use crate::record::{Change, change_word};
 use crate::sealing::is_long_and_damaged;
+use crate::store_folders::StoreFolders;
 use crate::taking::Taken;
 use cs_file_system::Entry;
 use cs_folders::{FileLimits, read_bounded};
@@ -80,15 +81,15 @@ fn old_value<R: Files>(
 fn after_value<R: Files>(
     alloc: Global,
     rt: &R,
-    store: &str,
+    folder: &str,
     name: FileName,
     taken: &Taken,
     digests: &Digests,
 ) -> io::Result<Value> {
     if taken.moves.as_slice().contains(&name) {
-        return old_value(alloc, rt, store, name, None, digests.limits);
+        return old_value(alloc, rt, folder, name, None, digests.limits);
     }
-    let path = format!(in alloc; "{store}/{name}")?;
+    let path = format!(in alloc; "{folder}/{name}")?;
     let limit = digests.limits.limit_of(name);
     file_value(alloc, rt, path.as_str(), digests.now(name), limit)
 }
@@ -97,7 +98,7 @@ fn after_value<R: Files>(
 fn change_values<R: Files>(
     alloc: Global,
     rt: &R,
-    store: &str,
+    folders: &StoreFolders,
     taken: &Taken,
     digests: &Digests,
 ) -> io::Result<Value> {
@@ -105,16 +106,17 @@ fn change_values<R: Files>(
     let Some(changes) = &taken.record.changes else {
         return Ok(Value::Array(list));
     };
-    let kept = format!(in alloc; "{store}/replaced/{}", taken.record.kept)?;
     for (name, change) in changes {
+        let folder = folders.reach(rt, *name)?;
         let before = match change {
             Change::New => Value::Null,
             Change::Replaces => {
+                let kept = format!(in alloc; "{folder}/replaced/{}", taken.record.kept)?;
                 let known = digests.before(*name);
                 old_value(alloc, rt, kept.as_str(), *name, known, digests.limits)?
             }
         };
-        let after = after_value(alloc, rt, store, *name, taken, digests)?;
+        let after = after_value(alloc, rt, folder, *name, taken, digests)?;
         let path = name.path();
         let object = Object::new(alloc)
             .text("path", path.as_str())
@@ -143,7 +145,7 @@ fn now<R: Clock>(alloc: Global, rt: &R) -> io::Result<String> {
 fn line_of<R: Files + Clock>(
     alloc: Global,
     rt: &R,
-    store: &str,
+    folders: &StoreFolders,
     taken: &Taken,
     digests: &Digests,
 ) -> io::Result<String> {
@@ -157,7 +159,7 @@ fn line_of<R: Files + Clock>(
             .member("sites", sites(alloc, lost)),
         Work::Undo(number) => object.text("what", "undo").number("of", u64::from(number)),
     };
-    let files = change_values(alloc, rt, store, taken, digests)?;
+    let files = change_values(alloc, rt, folders, taken, digests)?;
     let value = object.member("files", Ok(files)).finish()?;
     Ok(format!(in alloc; "{value}\n")?)
 }
@@ -212,12 +214,12 @@ fn journal_size<R: Files>(rt: &R, path: &str) -> io::Result<u64> {
 pub fn entry_of<R: Files + Clock>(
     alloc: Global,
     rt: &R,
-    store: &str,
+    folders: &StoreFolders,
     taken: &Taken,
     digests: &Digests,
 ) -> io::Result<Entry> {
-    let line = line_of(alloc, rt, store, taken, digests)?;
-    let path = format!(in alloc; "{store}/{JOURNAL}")?;
+    let line = line_of(alloc, rt, folders, taken, digests)?;
+    let path = format!(in alloc; "{}/{JOURNAL}", folders.store())?;
     let size = journal_size(rt, path.as_str())?;
     if size == 0 {
         return Ok(Entry {

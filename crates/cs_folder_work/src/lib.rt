@@ -1,9 +1,9 @@
-//! Work on a store in one folder, so that a stop at any moment costs nothing, and no second one begins beside it.
+//! Work on a store in folders, so that a stop at any moment costs nothing, and no second one begins beside it.
 //!
-//! A record of the work stands in the folder until it is finished, and then beside what the work keeps in `replaced/N/`; a
-//! line of each finished work stands in a journal. A file is written beside its name and synced, then renamed; old files are
-//! kept in `replaced/N/` by hard links, all made and synced before the first is replaced. No contract is told what a folder
-//! holds: of what a disk keeps, nothing is proved.
+//! A record of the work stands in the store's folder until it is finished, and then beside what the work keeps in
+//! `replaced/N/`; a line of each finished work stands in a journal. A file is written beside its name and synced, then renamed;
+//! old files are kept by hard links, in `replaced/N/` of the folder in which they stand, all made and synced before the first
+//! is replaced. No contract is told what a folder holds: of what a disk keeps, nothing is proved.
 #![tactic(auto)]
 
 mod digests;
@@ -20,6 +20,7 @@ mod recording;
 mod replaced;
 mod sealing;
 mod shelf;
+mod store_folders;
 mod taking;
 mod undoing;
 
@@ -27,5 +28,6 @@ pub use giving_back::Ended;
 pub use keeping::keep_names;
 pub use record::Change;
 pub use shelf::FolderShelf;
+pub use store_folders::StoreFolders;
 pub use taking::{Taken, resume, take, unfinished_kind};
 pub use undoing::take_undo;

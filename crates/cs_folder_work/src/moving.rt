@@ -28,10 +28,11 @@ impl<R: Files + Copy + Drop> FolderShelf<R> {
         let Work::Undo(number) = taken.record.work else {
             return Ok(());
         };
-        let folder = format!(in self.alloc; "{}/replaced/{}", self.path, taken.record.kept)?;
+        let here = self.folders.reach(&self.rt, name)?;
+        let folder = format!(in self.alloc; "{here}/replaced/{}", taken.record.kept)?;
         let kept = file_in(self.alloc, folder.as_str(), name)?;
-        let from = format!(in self.alloc; "{}/replaced/{number}/{name}", self.path)?;
-        let to = self.file(name)?;
+        let from = format!(in self.alloc; "{here}/replaced/{number}/{name}")?;
+        let to = file_in(self.alloc, here, name)?;
         self.has_changed = true;
         move_back(
             &mut SystemFiles(&self.rt),

@@ -4,6 +4,7 @@ ghost use Rattle.std.specs.Prelude.{◌≡◌};
 use crate::keeping::{keep_names, make_kept_folder};
 use crate::record::Change;
 use crate::shelf::FolderShelf;
+use crate::store_folders::Part;
 use cs_file_system::SystemFiles;
 use cs_schema::FileName;
 use std::alloc::{AllocError, Global};
@@ -41,14 +42,33 @@ fn add_all(
 }
 
 impl<R: Files + Copy + Drop> FolderShelf<R> {
-    /// Keeps what stands under these names in `replaced/N`, which is made unless it is there: what becomes of each.
-    fn keep_fresh(&self, names: &[FileName]) -> io::Result<Vec<Change>> {
-        let store = self.path.as_str();
-        let all = format!(in self.alloc; "{store}/replaced")?;
-        let folder = format!(in self.alloc; "{all}/{}", self.number())?;
+    /// Keeps what stands under these names in a folder, in `replaced/N` there, which is made unless it is there: what
+    /// becomes of each.
+    fn keep_part(&self, part: &Part<'_>) -> io::Result<Vec<Change>> {
+        let all = format!(in self.alloc; "{}/replaced", part.folder)?;
+        let kept = format!(in self.alloc; "{all}/{}", self.number())?;
         let files = &mut SystemFiles(&self.rt);
-        make_kept_folder(files, store, all.as_str(), folder.as_str())?;
-        keep_names(files, self.alloc, store, folder.as_str(), names)
+        make_kept_folder(files, part.folder, all.as_str(), kept.as_str())?;
+        keep_names(
+            files,
+            self.alloc,
+            part.folder,
+            kept.as_str(),
+            part.names.as_slice(),
+        )
+    }
+
+    /// Keeps what stands under these names, each in its folder, and adds what becomes of them.
+    fn keep_fresh(
+        &self,
+        names: &[FileName],
+        changes: &mut BTreeMap<FileName, Change>,
+    ) -> io::Result<()> {
+        for part in self.folders.parts(self.alloc, &self.rt, names)? {
+            let kept = self.keep_part(&part)?;
+            add_all(changes, part.names.as_slice(), kept.as_slice())?;
+        }
+        Ok(())
     }
 
     /// What was written down of what becomes of each name.
@@ -75,8 +95,7 @@ impl<R: Files<File = File> + Copy + Drop> FolderShelf<R> {
         let mut changes = self.noted();
         let fresh = fresh_names(self.alloc, &changes, names)?;
         self.digests.keep(fresh.as_slice())?;
-        let kept = self.keep_fresh(fresh.as_slice())?;
-        add_all(&mut changes, fresh.as_slice(), kept.as_slice())?;
+        self.keep_fresh(fresh.as_slice(), &mut changes)?;
         self.note(changes)
     }
 
@@ -85,10 +104,10 @@ impl<R: Files<File = File> + Copy + Drop> FolderShelf<R> {
         ensures { self.new.faults ≡ self.old.faults }
     {
         let Some(taken) = &mut self.taken else {
-            // a folder that is only looked at
+            // a store that is only looked at
             return Err(io::Error::from(ErrorKind::PermissionDenied));
         };
-        let noted = taken.note(self.alloc, &self.rt, self.path.as_str(), changes);
+        let noted = taken.note(self.alloc, &self.rt, self.folders.store(), changes);
         self.has_kept = taken.record.keeps_any();
         noted
     }

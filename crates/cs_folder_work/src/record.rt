@@ -176,6 +176,18 @@ impl Record {
         }))
     }
 
+    /// The names that change.
+    pub fn names(&self, alloc: Global) -> Result<Vec<FileName>, AllocError> {
+        let mut names = Vec::new(alloc);
+        let Some(changes) = &self.changes else {
+            return Ok(names);
+        };
+        for (name, _) in changes {
+            names.push(*name)?;
+        }
+        Ok(names)
+    }
+
     /// Whether what stood under a name is kept.
     pub fn keeps_any(&self) -> bool {
         let Some(changes) = &self.changes else {

@@ -3,6 +3,7 @@ use crate::files::read_regular;
 use crate::record::{Change, Record};
 use crate::recording::{RECORD_LIMIT, record_of};
 use crate::sealing::is_long_and_damaged;
+use crate::store_folders::StoreFolders;
 use crate::taking::failed;
 use cs_folders::FileLimits;
 use cs_schema::FileName;
@@ -21,13 +22,13 @@ pub fn kept_record(alloc: Global, store: &str, number: u32) -> io::Result<String
     Ok(format!(in alloc; "{store}/replaced/{number}/{KEPT_RECORD}")?)
 }
 
-/// The greatest number of what was kept, or 0.
-pub fn last_number<R: Files + Alloc + Clone + Drop>(
+/// The greatest number of what was kept in a folder, or 0.
+fn last_number_in<R: Files + Alloc + Clone + Drop>(
     alloc: Global,
     rt: &R,
-    store: &str,
+    folder: &str,
 ) -> io::Result<u32> {
-    let path = format!(in alloc; "{store}/replaced")?;
+    let path = format!(in alloc; "{folder}/replaced")?;
     let folder = match fs::read_dir(rt, path.as_str()) {
         Ok(folder) => folder,
         Err(e) if e.kind() == ErrorKind::NotFound => return Ok(0),
@@ -48,13 +49,26 @@ pub fn last_number<R: Files + Alloc + Clone + Drop>(
     Ok(last)
 }
 
+/// The greatest number of what was kept in any folder of a store that is there, or 0.
+pub fn last_number<R: Files + Alloc + Clone + Drop>(
+    alloc: Global,
+    rt: &R,
+    folders: &StoreFolders,
+) -> io::Result<u32> {
+    let mut last = 0;
+    for folder in folders.all(alloc, rt)? {
+        last = last.max(last_number_in(alloc, rt, folder)?);
+    }
+    Ok(last)
+}
+
 /// The greatest number of finished work, if there is any.
 pub fn last_finished<R: Files + Alloc + Clone + Drop>(
     alloc: Global,
     rt: &R,
     store: &str,
 ) -> io::Result<Option<u32>> {
-    let last = last_number(alloc, rt, store)?;
+    let last = last_number_in(alloc, rt, store)?;
     for number in (1..=last).rev() {
         let path = kept_record(alloc, store, number)?;
         if fs::exists(rt, path.as_str())? {
@@ -138,12 +152,12 @@ impl Kept {
 pub fn read_replaced<R: Files>(
     alloc: Global,
     rt: &R,
-    store: &str,
+    folders: &StoreFolders,
     number: u32,
     limits: FileLimits,
     has_begun: bool,
 ) -> Result<Kept, Untaken> {
-    let record = read_kept_record(alloc, rt, store, number)?;
+    let record = read_kept_record(alloc, rt, folders.store(), number)?;
     let Ok(back) = FileSet::new(alloc) else {
         return Err(Untaken::Memory);
     };
@@ -162,10 +176,13 @@ pub fn read_replaced<R: Files>(
         if kept.undoable.names.push(*name).is_err() {
             return Err(Untaken::Memory);
         }
+        let Ok(folder) = folders.reach(rt, *name) else {
+            return Err(Untaken::Away(*name));
+        };
         if *change == Change::New {
             continue;
         }
-        let Ok(path) = format!(in alloc; "{store}/replaced/{number}/{name}") else {
+        let Ok(path) = format!(in alloc; "{folder}/replaced/{number}/{name}") else {
             return Err(Untaken::Memory);
         };
         match read_kept(alloc, rt, path.as_str(), limits.limit_of(*name)) {

@@ -1,30 +1,32 @@
-//! A shelf over a folder.
+//! A shelf over folders.
 ghost use Rattle.std.specs.Prelude.{◌≡◌, ◌≤◌, ⊤, IsErrOf};
 ghost use Rattle.cs_store.specs.Fault.{CountsFault};
 
 use crate::digests::Digests;
 use crate::sealing::is_long_and_damaged;
+use crate::store_folders::StoreFolders;
 use crate::taking::Taken;
 use cs_file_system::{FileSystem, SystemFiles, put_owned};
-use cs_folders::{FileLimits, StoreFolder};
+use cs_folders::{FileLimits, StoreFolder, file_in};
 use cs_schema::FileName;
 use cs_shelf::Shelf;
+use cs_sites::SitedSource;
 use cs_store::{Source, StoreFault};
-use std::alloc::{AllocError, Global};
+use std::alloc::Global;
 use std::fs::File;
 use std::io;
 use std::io::ErrorKind;
 use std::rt::Files;
 
-/// A store in one folder, and the folder `replaced/N` in it that keeps what is replaced.
+/// A store in folders, and the folder `replaced/N` in each that keeps what is replaced there.
 #[derive(Drop)]
 pub struct FolderShelf<R> {
     pub(crate) alloc: Global,
     pub(crate) rt: R,
-    pub(crate) path: String,
-    /// By what the folder is taken, unless it is only looked at.
+    pub(crate) folders: StoreFolders,
+    /// By what the store is taken, unless it is only looked at.
     pub(crate) taken: Option<Taken>,
-    source: StoreFolder<R>,
+    source: SitedSource<StoreFolder<R>>,
     /// Whether an old file is kept.
     pub(crate) has_kept: bool,
     /// Whether anything may have been kept, moved or given new bytes.
@@ -35,31 +37,46 @@ pub struct FolderShelf<R> {
 }
 
 impl<R: Files + Copy + Drop> FolderShelf<R> {
-    /// The store at this path, whose files have at most so many bytes, and of which those of some names, which ascend, may
-    /// change: of what is read of them the digests are kept for the journal. It is only looked at: nothing is read or made.
+    /// The store in these folders, from which `source` reads. Its files have at most so many bytes, and those of some names,
+    /// which ascend, may change: of what is read of them the digests are kept for the journal. It is only looked at: nothing
+    /// is read or made.
     pub fn new(
         alloc: Global,
         rt: R,
-        path: &str,
+        folders: StoreFolders,
+        source: SitedSource<StoreFolder<R>>,
         limits: FileLimits,
         names: Vec<FileName>,
-    ) -> Result<Self, StoreFault> {
-        let source = StoreFolder::new(alloc, rt, path, limits).map_err(no_memory)?;
-        let path = String::from_str(alloc, path).map_err(no_memory)?;
-        Ok(Self {
+    ) -> Self {
+        Self {
             alloc,
             rt,
-            path,
+            folders,
             taken: None,
             source,
             has_kept: false,
             has_changed: false,
             digests: Digests::new(alloc, names, limits),
             faults: 0,
-        })
+        }
     }
 
-    /// This store with its folder taken.
+    /// The folders of the store.
+    pub fn folders(&self) -> &StoreFolders {
+        &self.folders
+    }
+
+    /// The first of the names that may change whose folder is away.
+    pub fn first_away(&self) -> Option<FileName> {
+        for name in self.digests.names() {
+            if self.folders.reach(&self.rt, *name).is_err() {
+                return Some(*name);
+            }
+        }
+        None
+    }
+
+    /// This store, which is taken.
     pub fn taken_by(self, taken: Taken) -> Self {
         let has_kept = taken.record.keeps_any();
         let has_changed = taken.has_changed;
@@ -84,21 +101,23 @@ impl<R: Files + Copy + Drop> FolderShelf<R> {
         self.has_changed
     }
 
-    /// The path of a store's file.
-    pub(crate) fn file(&self, name: FileName) -> Result<String, AllocError> {
-        format!(in self.alloc; "{}/{name}", self.path)
+    /// The path of a store's file, whose folder is there.
+    fn file(&self, name: FileName) -> io::Result<String> {
+        let folder = self.folders.reach(&self.rt, name)?;
+        Ok(file_in(self.alloc, folder, name)?)
     }
 
     /// Puts the bytes under the name: what stood there stays until the rename, which is one step.
     fn replace_file(&mut self, name: FileName, bytes: &[u8]) -> io::Result<()>
         ensures { self.new.faults ≡ self.old.faults }
     {
-        let file = self.file(name)?;
-        let beside = format!(in self.alloc; "{}/{name}.restoring", self.path)?;
+        let folder = self.folders.reach(&self.rt, name)?;
+        let file = file_in(self.alloc, folder, name)?;
+        let beside = format!(in self.alloc; "{folder}/{name}.restoring")?;
         self.has_changed = true;
         put_owned(
             &mut SystemFiles(&self.rt),
-            self.path.as_str(),
+            folder,
             beside.as_str(),
             file.as_str(),
             bytes,
@@ -110,8 +129,9 @@ impl<R: Files + Copy + Drop> FolderShelf<R> {
         ensures { self.new.faults ≡ self.old.faults }
     {
         if self.digests.has(name) {
-            let Ok(file) = self.file(name) else {
-                return Err(StoreFault::Memory);
+            let file = match self.file(name) {
+                Ok(file) => file,
+                Err(e) => return Err(fault_of(&e)),
             };
             match is_long_and_damaged(&self.rt, file.as_str()) {
                 Ok(false) => {}
@@ -143,6 +163,21 @@ impl<R: Files + Copy + Drop> FolderShelf<R> {
                 Err(StoreFault::Device)
             }
         }
+    }
+
+    /// Brings the names in the folders of the files that change to the disk, and those in the store's.
+    fn sync_all(&self) -> io::Result<()> {
+        let changed = match &self.taken {
+            Some(taken) => taken.record.names(self.alloc)?,
+            None => Vec::new(self.alloc),
+        };
+        for part in self
+            .folders
+            .parts(self.alloc, &self.rt, changed.as_slice())?
+        {
+            SystemFiles(&self.rt).sync_folder(part.folder)?;
+        }
+        Ok(())
     }
 }
 
@@ -217,14 +252,16 @@ impl<R: Files<File = File> + Copy + Drop> Shelf for FolderShelf<R> {
     }
 
     fn sync(&mut self) -> Result<(), StoreFault> {
-        let synced = SystemFiles(&self.rt).sync_folder(self.path.as_str());
+        let synced = self.sync_all();
         self.told(synced)
     }
 }
 
-/// The fault of a refused allocation.
-fn no_memory(_refused: AllocError) -> StoreFault
-    ensures { result ≡ StoreFault.Memory }
-{
-    StoreFault::Memory
+/// The fault of a call that failed.
+fn fault_of(error: &io::Error) -> StoreFault {
+    if error.kind() == ErrorKind::OutOfMemory {
+        StoreFault::Memory
+    } else {
+        StoreFault::Device
+    }
 }

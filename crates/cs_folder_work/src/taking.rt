@@ -1,7 +1,8 @@
-//! Taking a store's folder for a restore or an undo, so that no second one begins beside it.
+//! Taking a store for a restore or an undo, so that no second one begins beside it.
 use crate::record::{Change, Record};
 use crate::recording::read_record;
 use crate::replaced::last_number;
+use crate::store_folders::StoreFolders;
 use cs_file_system::{SystemFiles, TryLock, begin_record, rewrite_record, sweep};
 use cs_schema::FileName;
 use cs_shelf::{RESTORING, Untaken, Work, WorkKind};
@@ -13,7 +14,7 @@ use std::os::unix::fs::MetadataExt;
 use std::rt::Files;
 use std::{fs, io};
 
-/// A folder that is taken: while this lives, nothing else can take it.
+/// A store that is taken: while this lives, nothing else can take it.
 #[derive(Drop)]
 pub struct Taken {
     pub record: Record,
@@ -26,7 +27,7 @@ pub struct Taken {
 }
 
 impl Taken {
-    /// This folder, with the names under which an undo moves back what is kept.
+    /// This store, with the names under which an undo moves back what is kept.
     pub fn with_moves(self, moves: Vec<FileName>) -> Self {
         Self { moves, ..self }
     }
@@ -132,11 +133,11 @@ fn unfinished<R: Files<File = File>>(alloc: Global, rt: &R, path: &str) -> Untak
 fn new_record<R: Files + Alloc + Clone + Drop>(
     alloc: Global,
     rt: &R,
-    store: &str,
+    folders: &StoreFolders,
     work: Work,
     accepts_loss: bool,
 ) -> io::Result<Record> {
-    match last_number(alloc, rt, store)?.checked_add(1) {
+    match last_number(alloc, rt, folders)?.checked_add(1) {
         Some(kept) => Ok(Record {
             work,
             accepts_loss,
@@ -147,15 +148,16 @@ fn new_record<R: Files + Alloc + Clone + Drop>(
     }
 }
 
-/// Takes the store in this folder for this work, unless other work is unfinished, and writes down whether the loss of a restore
+/// Takes the store in these folders for this work, unless other work is unfinished, and writes down whether a restore's loss
 /// is accepted. The record is there whole or not at all, and locked as long as it is taken.
 pub fn take<R: Files<File = File> + Alloc + Clone + Drop>(
     alloc: Global,
     rt: &R,
-    store: &str,
+    folders: &StoreFolders,
     work: Work,
     accepts_loss: bool,
 ) -> Result<Taken, Untaken> {
+    let store = folders.store();
     let path = match format!(in alloc; "{store}/{RESTORING}") {
         Ok(path) => path,
         Err(_) => return Err(Untaken::Memory),
@@ -163,7 +165,7 @@ pub fn take<R: Files<File = File> + Alloc + Clone + Drop>(
     if is_unfinished(alloc, rt, store).map_err(failed)? {
         return Err(unfinished(alloc, rt, path.as_str()));
     }
-    let record = new_record(alloc, rt, store, work, accepts_loss).map_err(failed)?;
+    let record = new_record(alloc, rt, folders, work, accepts_loss).map_err(failed)?;
     let lock = match write_new(alloc, rt, store, path.as_str(), &record) {
         Ok(Some(lock)) => lock,
         Ok(None) => return Err(unfinished(alloc, rt, path.as_str())),
@@ -194,8 +196,35 @@ fn write_new<R: Files<File = File>>(
     Ok(begun)
 }
 
-/// Takes the store in this folder to go on with its unfinished restore or undo.
-pub fn resume<R: Files<File = File>>(alloc: Global, rt: &R, store: &str) -> Result<Taken, Untaken> {
+/// The first name whose folder is not the one in which this work was begun, or is away: what the work replaces is not kept
+/// there.
+fn moved_name<R: Files>(
+    alloc: Global,
+    rt: &R,
+    folders: &StoreFolders,
+    record: &Record,
+) -> io::Result<Option<FileName>> {
+    for name in record.names(alloc)? {
+        if folders.is_in_store(name) {
+            continue;
+        }
+        let Ok(folder) = folders.reach(rt, name) else {
+            return Ok(Some(name));
+        };
+        if !has_kept_folder(alloc, rt, folder, record.kept)? {
+            return Ok(Some(name));
+        }
+    }
+    Ok(None)
+}
+
+/// Takes the store in these folders to go on with its unfinished restore or undo.
+pub fn resume<R: Files<File = File>>(
+    alloc: Global,
+    rt: &R,
+    folders: &StoreFolders,
+) -> Result<Taken, Untaken> {
+    let store = folders.store();
     let path = match format!(in alloc; "{store}/{RESTORING}") {
         Ok(path) => path,
         Err(_) => return Err(Untaken::Memory),
@@ -210,6 +239,9 @@ pub fn resume<R: Files<File = File>>(alloc: Global, rt: &R, store: &str) -> Resu
         return Err(Untaken::Finished);
     }
     let record = read_record(alloc, &mut file)?;
+    if let Some(name) = moved_name(alloc, rt, folders, &record).map_err(failed)? {
+        return Err(Untaken::Away(name));
+    }
     let has_changed = has_kept_folder(alloc, rt, store, record.kept).map_err(failed)?;
     let _swept = sweep(&mut SystemFiles(rt), alloc, path.as_str()).is_ok();
     Ok(Taken {

@@ -1,6 +1,7 @@
-//! Taking a store's folder for an undo.
+//! Taking a store for an undo.
 use crate::finishing::remove_record;
 use crate::replaced::{Kept, last_finished, read_replaced};
+use crate::store_folders::StoreFolders;
 use crate::taking::{Taken, failed, resume, take};
 use cs_folders::FileLimits;
 use cs_shelf::{UndoOf, Undoable, Untaken, Work};
@@ -21,64 +22,64 @@ fn last<R: Files + Alloc + Clone + Drop>(
     }
 }
 
-/// A folder that is taken for an undo, with what that puts back.
+/// A store that is taken for an undo, with what that puts back.
 fn taken_with(taken: Taken, kept: Kept) -> (Taken, Undoable) {
     let Kept { undoable, moves } = kept;
     (taken.with_moves(moves), undoable)
 }
 
-/// Takes the store in this folder to go on with its unfinished undo.
+/// Takes the store in these folders to go on with its unfinished undo.
 fn go_on<R: Files<File = File>>(
     alloc: Global,
     rt: &R,
-    store: &str,
+    folders: &StoreFolders,
     limits: FileLimits,
 ) -> Result<(Taken, Undoable), Untaken> {
-    let taken = resume(alloc, rt, store)?;
+    let taken = resume(alloc, rt, folders)?;
     let Work::Undo(number) = taken.record.work else {
         return Err(Untaken::Unfinished);
     };
     let has_begun = taken.record.changes.is_some();
-    match read_replaced(alloc, rt, store, number, limits, has_begun) {
+    match read_replaced(alloc, rt, folders, number, limits, has_begun) {
         Ok(kept) => Ok(taken_with(taken, kept)),
         Err(untaken) => Err(untaken),
     }
 }
 
-/// What an undo of the work of this number puts back, once the folder is taken. Other work may have ended just before.
+/// What an undo of the work of this number puts back, once the store is taken. Other work may have ended just before.
 fn kept_by<R: Files + Alloc + Clone + Drop>(
     alloc: Global,
     rt: &R,
-    store: &str,
+    folders: &StoreFolders,
     of: UndoOf,
     number: u32,
     limits: FileLimits,
 ) -> Result<Kept, Untaken> {
-    if of == UndoOf::Last && last(alloc, rt, store)? != number {
+    if of == UndoOf::Last && last(alloc, rt, folders.store())? != number {
         return Err(Untaken::Busy);
     }
-    read_replaced(alloc, rt, store, number, limits, false)
+    read_replaced(alloc, rt, folders, number, limits, false)
 }
 
-/// Takes the store in this folder for an undo, and reads what that puts back. What is refused then leaves the folder free,
+/// Takes the store in these folders for an undo, and reads what that puts back. What is refused then leaves the store free,
 /// unless the undo was unfinished.
 pub fn take_undo<R: Files<File = File> + Alloc + Clone + Drop>(
     alloc: Global,
     rt: &R,
-    store: &str,
+    folders: &StoreFolders,
     of: UndoOf,
     limits: FileLimits,
 ) -> Result<(Taken, Undoable), Untaken> {
     let number = match of {
-        UndoOf::Unfinished => return go_on(alloc, rt, store, limits),
+        UndoOf::Unfinished => return go_on(alloc, rt, folders, limits),
         UndoOf::Number(number) => number,
-        UndoOf::Last => last(alloc, rt, store)?,
+        UndoOf::Last => last(alloc, rt, folders.store())?,
     };
-    let taken = take(alloc, rt, store, Work::Undo(number), false)?;
-    match kept_by(alloc, rt, store, of, number, limits) {
+    let taken = take(alloc, rt, folders, Work::Undo(number), false)?;
+    match kept_by(alloc, rt, folders, of, number, limits) {
         Ok(kept) => Ok(taken_with(taken, kept)),
         Err(untaken) => {
-            remove_record(alloc, rt, store).map_err(failed)?;
+            remove_record(alloc, rt, folders.store()).map_err(failed)?;
             Err(untaken)
         }
     }

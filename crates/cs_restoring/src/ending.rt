@@ -2,6 +2,7 @@
 ghost use Rattle.std.specs.Prelude.{◌≡◌, ◌⊎◌};
 ghost use Rattle.pinepolo_places.specs.Status.{status_of, fault_status};
 
+use cs_reports::site_of;
 use cs_schema::{Catalog, Loss};
 use cs_store::{Fault, StoreFault};
 use pinepolo_places::{Failure, GivenBack, Refusal, Step, Untaken, VerbError, WorkKind};
@@ -20,7 +21,13 @@ pub struct LostStore<'a> {
 }
 
 /// The error for a store that could not be taken for a verb.
-pub fn lock_error(alloc: Global, untaken: &Untaken, path: &str, verb: WorkKind) -> VerbError {
+pub fn lock_error(
+    alloc: Global,
+    catalog: &Catalog,
+    untaken: &Untaken,
+    path: &str,
+    verb: WorkKind,
+) -> VerbError {
     let refusal = match untaken {
         Untaken::Memory => return VerbError::OutOfMemory,
         Untaken::Device => {
@@ -34,6 +41,12 @@ pub fn lock_error(alloc: Global, untaken: &Untaken, path: &str, verb: WorkKind) 
         Untaken::NoneKept(number) => Refusal::NothingKept(*number),
         Untaken::Unrecorded(number) => Refusal::NoRecord(*number),
         Untaken::Incomplete(number, name) => Refusal::Incomplete(*number, *name),
+        Untaken::Link(name) => Refusal::BrokenLink(*name),
+        Untaken::Away(name) => {
+            let site = site_of(catalog, name.projection(), name.segment()).unwrap_or(0);
+            let failure = Failure::ReachSite(site);
+            return VerbError::of_device(alloc, StoreFault::Device, failure, path);
+        }
     };
     VerbError::refused(alloc, refusal, path)
 }

@@ -60,7 +60,7 @@ fn take<P: Shelves>(
     };
     match taken {
         Ok(taken) => Ok(taken),
-        Err(untaken) => Err(lock_error(alloc, &untaken, path, WorkKind::Restore)),
+        Err(untaken) => Err(lock_error(alloc, catalog, &untaken, path, WorkKind::Restore)),
     }
 }
 

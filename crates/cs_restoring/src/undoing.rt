@@ -73,6 +73,6 @@ pub fn undo<P: Shelves>(
     };
     match places.take_undo(path, &catalog, undo_of(request)) {
         Ok(taken) => undo_taken(alloc, places, taken, catalog, path),
-        Err(untaken) => Err(lock_error(alloc, &untaken, path, WorkKind::Undo)),
+        Err(untaken) => Err(lock_error(alloc, &catalog, &untaken, path, WorkKind::Undo)),
     }
 }

@@ -98,4 +98,8 @@ pub enum Untaken {
     Unrecorded(u32),
     /// The file that is kept under this number and name is missing, or is not a readable regular file.
     Incomplete(u32, FileName),
+    /// The folder of this file is away, or is not the one in which the unfinished work was begun.
+    Away(FileName),
+    /// The name of this file is a link that leads nowhere, or to a file of another name.
+    Link(FileName),
 }

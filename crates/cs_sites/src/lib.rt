@@ -10,6 +10,7 @@ mod fault;
 pub mod laws;
 mod placing;
 mod reading;
+mod rewriting;
 mod routing;
 mod sited;
 
@@ -17,5 +18,6 @@ pub use entries::SiteFolder;
 pub use fault::SitesFault;
 pub use placing::{folder_beside, folders_of};
 pub use reading::{SITES_LIMIT, read_sites};
+pub use rewriting::with_folders;
 pub use routing::Routes;
 pub use sited::SitedSource;

@@ -7,6 +7,8 @@ use std::alloc::{AllocError, Global};
 pub enum Value {
     /// A text.
     Text,
+    /// A text, each time that the argument is given.
+    Texts,
     /// A number from the first to the second.
     Number(i64, i64),
     /// Sites from 1 to 16, with commas between them.
@@ -50,6 +52,7 @@ pub struct Argument {
 fn with_value<'a>(arg: Arg<'a>, value: Value) -> Arg<'a> {
     match value {
         Value::Text => arg,
+        Value::Texts => arg.action(ArgAction::Append),
         Value::Number(least, most) => arg.value_parser(value_parser!(u32).range(least..=most)),
         Value::Sites => arg
             .action(ArgAction::Append)

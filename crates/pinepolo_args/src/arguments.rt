@@ -94,10 +94,18 @@ pub const ARGUMENTS: &[Argument] = &[
         id: "sites",
         form: Form::Named("FILE", Value::Text),
         presence: Presence::Optional,
-        help: "Read each site from the folder that this file names for it",
+        help: "Each site stands in the folder that this file names for it",
         verbs: &[
-            "check", "show", "diagnose", "drill", "recover", "manifest", "verify", "design", "dump",
+            "check", "show", "diagnose", "drill", "recover", "restore", "undo", "manifest",
+            "verify", "design", "dump",
         ],
+    },
+    Argument {
+        id: "to",
+        form: Form::Named("SITE=FOLDER", Value::Texts),
+        presence: Presence::Optional,
+        help: "Restore this site into an empty folder, which then takes its place in the file of --sites",
+        verbs: &["restore"],
     },
     Argument {
         id: "workers",

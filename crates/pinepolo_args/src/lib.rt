@@ -8,6 +8,7 @@ mod argument;
 mod arguments;
 mod commands;
 mod help;
+mod new_folders;
 mod options;
 mod parsing;
 mod paths;
@@ -15,6 +16,7 @@ mod request;
 mod sites;
 mod verbs;
 
+pub use new_folders::NewFolders;
 pub use parsing::{ParseExit, parse};
 pub use request::{
     CheckArgs, DesignArgs, DiagnoseArgs, DrillArgs, DumpArgs, LoadArgs, ManifestArgs, RecoverArgs,

@@ -2,6 +2,7 @@
 ghost use Rattle.std.specs.Prelude.{◌≡◌, ◌≤◌, IfSome};
 ghost use Rattle.std.proofs.Props.{props};
 
+use crate::new_folders::{NewFolders, new_folders_of};
 use crate::sites::sites_of;
 use clap::ArgMatches;
 use cs_schema::Loss;
@@ -39,6 +40,7 @@ pub struct Options<'a> {
     pub store: Option<&'a str>,
     pub svg: Option<&'a str>,
     pub table: Option<&'a str>,
+    pub to: NewFolders<'a>,
     pub workers: u32,
     pub ghost sites_in_limits: { IfSome at_most (λ n. n ≤ 16) } by { Prim.hlevel props },
     pub ghost workers_in_limits: { (1 ≤ workers) × (workers ≤ 64) },
@@ -69,10 +71,11 @@ fn at_most_of(found: &ArgMatches<'_>) -> Option<u8>
 }
 
 impl<'a> Options<'a> {
-    /// Reads the arguments of a verb; none if a site is out of range. Without a number of workers there are as many as
+    /// Reads the arguments of a verb; none if a site is out of range, or a folder is given for it twice. Without a number of workers there are as many as
     /// processors, within the limit.
     pub fn read(found: &ArgMatches<'a>, processors: u32) -> Option<Options<'a>> {
         let lost = sites_of(found, "lost")?;
+        let to = new_folders_of(found)?;
         Some(Options {
             accepts_loss: found.get_flag("accept-loss"),
             at_most: at_most_of(found),
@@ -95,6 +98,7 @@ impl<'a> Options<'a> {
             store: found.get_str("store"),
             svg: found.get_str("svg"),
             table: found.get_str("table"),
+            to,
             workers: workers_of(found, processors),
         })
     }

@@ -82,12 +82,16 @@ fn requested<'a>(matches: &ArgMatches<'a>, processors: u32) -> Option<Request<'a
     let Some(verb) = verb_of(name, &options) else {
         return None;
     };
+    if options.sites.is_none() && options.to.has_any() {
+        return None;
+    }
     Some(Request {
         verb,
         workers: options.workers,
         json: options.json,
         quiet: options.quiet,
         sites: options.sites,
+        to: options.to,
     })
 }
 
@@ -117,8 +121,11 @@ fn problem_of(matches: &ArgMatches<'_>) -> &'static str {
     };
     match path_problem(found) {
         Some(problem) => problem,
-        None if found.get_flag("accept-loss") => {
+        None if found.get_flag("accept-loss") && !found.contains_id("lost") => {
             "error: --accept-loss needs each SITE that is known to be gone\n"
+        }
+        None if found.contains_id("to") => {
+            "error: --to needs --sites, and SITE=FOLDER with a site from 1 to 16, each once\n"
         }
         None => "error: no command given\n",
     }

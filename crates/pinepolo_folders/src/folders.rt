@@ -3,16 +3,13 @@ ghost use Rattle.std.specs.Prelude.{◌≡◌, ◌≤◌, ⊤, IsErrOf};
 ghost use Rattle.cs_store.specs.Fault.{CountsFault};
 
 use crate::listing::names_in_all;
-use crate::rebuilt::rebuilt_names;
 use crate::sites::SiteFolders;
-use cs_folder_work::{FolderShelf, Taken, resume, take, take_undo, unfinished_kind};
+use cs_folder_work::unfinished_kind;
 use cs_folders::{FileLimits, OutputFolder, StoreFolder, read_catalog_file, write_whole};
-use cs_schema::{Catalog, Loss};
+use cs_schema::Catalog;
 use cs_sites::SitedSource;
 use cs_store::StoreFault;
-use pinepolo_places::{
-    GivenBack, Listings, Places, RestoreOf, Shelves, UndoOf, Undoable, Untaken, Work, WorkKind,
-};
+use pinepolo_places::{Listings, Places, WorkKind};
 use pinepolo_run::World;
 use std::alloc::{AllocError, Global};
 use std::fs::File;
@@ -154,126 +151,6 @@ impl<R: Files<File = File> + Alloc + Copy + Drop + Sync> Listings for Folders<R>
 
     fn unfinished(&self, path: &str) -> Result<Option<WorkKind>, AllocError> {
         unfinished_kind(self.alloc, &self.rt, path)
-    }
-}
-
-impl<R: Files + Copy + Drop> Folders<R> {
-    /// The store at this path, to be looked at alone, of which files of these sites may change.
-    fn shelf(
-        &self,
-        path: &str,
-        catalog: &Catalog,
-        lost: Loss,
-    ) -> Result<FolderShelf<R>, StoreFault> {
-        match rebuilt_names(self.alloc, catalog, lost) {
-            Ok(names) => FolderShelf::new(
-                self.alloc,
-                self.rt,
-                path,
-                FileLimits::of(catalog),
-                names,
-            ),
-            Err(_) => Err(StoreFault::Memory),
-        }
-    }
-}
-
-/// What a store was taken to restore, if it was.
-fn restore_of(taken: &Taken) -> Option<RestoreOf> {
-    match taken.record.work {
-        Work::Restore(lost) => Some(RestoreOf {
-            lost,
-            accepts_loss: taken.record.accepts_loss,
-        }),
-        Work::Undo(_) => None,
-    }
-}
-
-impl<R: Files<File = File> + Alloc + Clock + Copy + Drop + Sync> Shelves for Folders<R> {
-    type Shelf = FolderShelf<R>;
-
-    ghost takes_store = { λ s path catalog of store t. ⊤ };
-
-    ghost takes_undo = { λ s path catalog asked back names store t. ⊤ };
-
-    ghost looks_at = { λ s path catalog store. ⊤ };
-
-    ghost gives_back = { λ s store finished t. ⊤ };
-
-    fn take(
-        &mut self,
-        path: &str,
-        catalog: &Catalog,
-        of: RestoreOf,
-    ) -> Result<FolderShelf<R>, Untaken> {
-        let shelf = match self.shelf(path, catalog, of.lost) {
-            Ok(shelf) => shelf,
-            Err(_) => return Err(Untaken::Memory),
-        };
-        let work = Work::Restore(of.lost);
-        match take(self.alloc, &self.rt, path, work, of.accepts_loss) {
-            Ok(taken) => Ok(shelf.taken_by(taken)),
-            Err(untaken) => Err(untaken),
-        }
-    }
-
-    fn resume(
-        &mut self,
-        path: &str,
-        catalog: &Catalog,
-    ) -> Result<(FolderShelf<R>, RestoreOf), Untaken> {
-        let taken = match resume(self.alloc, &self.rt, path) {
-            Ok(taken) => taken,
-            Err(untaken) => return Err(untaken),
-        };
-        let Some(of) = restore_of(&taken) else {
-            return Err(Untaken::UnfinishedUndo);
-        };
-        match self.shelf(path, catalog, of.lost) {
-            Ok(shelf) => Ok((shelf.taken_by(taken), of)),
-            Err(_) => Err(Untaken::Memory),
-        }
-    }
-
-    fn take_undo(
-        &mut self,
-        path: &str,
-        catalog: &Catalog,
-        asked: UndoOf,
-    ) -> Result<(FolderShelf<R>, Undoable), Untaken> {
-        let shelf = match self.shelf(path, catalog, Loss::none()) {
-            Ok(shelf) => shelf,
-            Err(_) => return Err(Untaken::Memory),
-        };
-        match take_undo(self.alloc, &self.rt, path, asked, FileLimits::of(catalog)) {
-            Ok((taken, undoable)) => Ok((shelf.taken_by(taken), undoable)),
-            Err(untaken) => Err(untaken),
-        }
-    }
-
-    fn look(
-        &self,
-        path: &str,
-        catalog: &Catalog,
-        lost: Loss,
-    ) -> Result<FolderShelf<R>, StoreFault> {
-        self.shelf(path, catalog, lost)
-    }
-
-    fn give_back(
-        &mut self,
-        store: FolderShelf<R>,
-        is_finished: bool,
-    ) -> Result<GivenBack, StoreFault> {
-        let is_unfinished = store.has_changed() && !is_finished;
-        match store.give_back(is_finished) {
-            Ok(ended) => Ok(GivenBack {
-                kept: ended.kept,
-                is_unfinished,
-                is_synced: ended.is_synced,
-            }),
-            Err(fault) => Err(fault),
-        }
     }
 }
 

@@ -3,13 +3,17 @@
 #![tactic(auto)]
 
 mod copies;
+mod distinct;
 mod folders;
 mod listing;
 mod meter;
 mod rebuilt;
+mod replacing;
+mod shelves;
 mod sites;
 mod sites_error;
 mod siting;
+mod store_folders;
 mod tables;
 
 pub use folders::Folders;

@@ -1,16 +1,17 @@
 //! The folders of a store's sites.
 use crate::copies::{differing, read_copies};
+use crate::distinct::one_folder;
 use crate::folders::Folders;
+use crate::replacing::{Adoption, with_new_folders};
 use crate::sites_error::SitesError;
 use cs_catalog::{CatalogFault, read_catalog};
 use cs_folders::{CATALOG_LIMIT, FileLimits, StoreFolder, read_file};
 use cs_schema::Loss;
 use cs_sites::{SiteFolder, SitesFault, folder_beside, folders_of, read_sites};
 use cs_store::StoreFault;
+use pinepolo_args::NewFolders;
 use pinepolo_run::AwaySite;
 use std::alloc::{AllocError, Global};
-use std::fs;
-use std::os::unix::fs::MetadataExt;
 use std::rt::Files;
 
 /// The folders of a store's sites.
@@ -22,6 +23,8 @@ pub struct SiteFolders {
     away: Loss,
     /// The bytes of the catalog, if a copy of it was read.
     catalog: Option<Vec<u8>>,
+    /// What is done once sites are restored into new folders, if some are to be.
+    adoption: Option<Adoption>,
 }
 
 /// Whether a loss has a site.
@@ -40,24 +43,37 @@ fn refused(alloc: Global, file: &str, fault: SitesFault) -> SitesError {
     }
 }
 
-/// The sites that a SITES file names, each with the path of its folder from where the program runs.
-fn named_sites<R: Files>(alloc: Global, rt: &R, file: &str) -> Result<Vec<SiteFolder>, SitesError> {
-    let bytes = match read_file(alloc, rt, file, CATALOG_LIMIT) {
-        Ok(Some(bytes)) => bytes,
-        Err(StoreFault::Memory) => return Err(SitesError::OutOfMemory),
-        Ok(None) | Err(StoreFault::Device) => {
-            return match String::from_str(alloc, file) {
-                Ok(file) => Err(SitesError::Unreadable(file)),
-                Err(_) => Err(SitesError::OutOfMemory),
-            };
-        }
-    };
-    let named = match read_sites(alloc, bytes.as_slice()) {
+/// The bytes of a SITES file.
+fn read_bytes<R: Files>(alloc: Global, rt: &R, file: &str) -> Result<Vec<u8>, SitesError> {
+    match read_file(alloc, rt, file, CATALOG_LIMIT) {
+        Ok(Some(bytes)) => Ok(bytes),
+        Err(StoreFault::Memory) => Err(SitesError::OutOfMemory),
+        Ok(None) | Err(StoreFault::Device) => match String::from_str(alloc, file) {
+            Ok(file) => Err(SitesError::Unreadable(file)),
+            Err(_) => Err(SitesError::OutOfMemory),
+        },
+    }
+}
+
+/// The sites that a SITES file names, each with the path of its folder from where the program runs; and what is done once
+/// those with new folders are restored.
+fn named_sites<R: Files + Alloc + Clone + Drop>(
+    alloc: Global,
+    rt: &R,
+    file: &str,
+    to: &NewFolders<'_>,
+    resumes: bool,
+) -> Result<(Vec<SiteFolder>, Option<Adoption>), SitesError> {
+    let bytes = read_bytes(alloc, rt, file)?;
+    let old = match read_sites(alloc, bytes.as_slice()) {
         Ok(named) => named,
         Err(fault) => return Err(refused(alloc, file, fault)),
     };
-    match beside(alloc, file, named.as_slice()) {
-        Ok(sites) => Ok(sites),
+    let new = with_new_folders(alloc, rt, old.as_slice(), to, resumes)?;
+    let text = std::str::from_utf8(bytes.as_slice()).unwrap_or("");
+    let adoption = Adoption::new(alloc, file, text, old.as_slice(), new.as_slice(), to)?;
+    match beside(alloc, file, new.as_slice()) {
+        Ok(sites) => Ok((sites, adoption)),
         Err(_) => Err(SitesError::OutOfMemory),
     }
 }
@@ -71,50 +87,6 @@ fn beside(alloc: Global, file: &str, named: &[SiteFolder]) -> Result<Vec<SiteFol
         sites.push(SiteFolder { number, folder })?;
     }
     Ok(sites)
-}
-
-/// What a folder is on this system, whatever its path: its device, and its number there.
-fn identity<R: Files>(rt: &R, folder: &str) -> Option<(u64, u64)> {
-    match fs::metadata(rt, folder) {
-        Ok(found) => Some((found.dev(), found.ino())),
-        Err(_) => None,
-    }
-}
-
-/// The first of these sites that has the folder with this identity.
-fn owner_of<R: Files>(rt: &R, sites: &[SiteFolder], wanted: (u64, u64)) -> Option<u8> {
-    for site in sites {
-        if identity(rt, site.folder.as_str()) == Some(wanted) {
-            return Some(site.number);
-        }
-    }
-    None
-}
-
-/// The error for two sites that have one folder, if there are two.
-fn one_folder<R: Files>(
-    alloc: Global,
-    rt: &R,
-    file: &str,
-    sites: &[SiteFolder],
-) -> Option<SitesError> {
-    for (at, site) in sites.iter().enumerate() {
-        let folder = site.folder.as_str();
-        let Some(found) = identity(rt, folder) else {
-            continue;
-        };
-        if let Some(first) = owner_of(rt, &sites[..at], found) {
-            let numbers = (first, site.number);
-            return match (
-                String::from_str(alloc, file),
-                String::from_str(alloc, folder),
-            ) {
-                (Ok(file), Ok(folder)) => Some(SitesError::OneFolder(file, numbers, folder)),
-                _ => Some(SitesError::OutOfMemory),
-            };
-        }
-    }
-    None
 }
 
 /// The folders of the sites of the catalog with these bytes, in the order of their numbers; none if the bytes are no
@@ -149,15 +121,29 @@ fn owned(alloc: Global, texts: &[&str]) -> Result<Vec<String>, AllocError> {
     Ok(copies)
 }
 
-/// Finds the folders that a SITES file names for the sites of the store at a path, and reads their copies of the catalog.
-pub fn find_sites<R: Files + Copy>(
+/// Those of the sites that are away which get no new folder.
+fn without_new(away: Loss, to: &NewFolders<'_>) -> Loss {
+    let mut left = Loss::none();
+    for site in 1..17u8 {
+        if has(away, site) && to.folder(site).is_none() {
+            left = left.with(site);
+        }
+    }
+    left
+}
+
+/// Finds the folders that a SITES file names for the sites of the store at a path, or those that take their places, and
+/// reads their copies of the catalog.
+pub fn find_sites<R: Files + Alloc + Copy + Drop>(
     alloc: Global,
     rt: R,
     file: &str,
     store: &str,
+    to: &NewFolders<'_>,
+    resumes: bool,
 ) -> Result<SiteFolders, SitesError> {
-    let sites = match named_sites(alloc, &rt, file) {
-        Ok(sites) => sites,
+    let (sites, adoption) = match named_sites(alloc, &rt, file, to, resumes) {
+        Ok(found) => found,
         Err(error) => return Err(error),
     };
     if let Some(error) = one_folder(alloc, &rt, file, sites.as_slice()) {
@@ -166,6 +152,7 @@ pub fn find_sites<R: Files + Copy>(
     let Ok((mut copies, away)) = read_copies(alloc, rt, store, sites.as_slice()) else {
         return Err(SitesError::OutOfMemory);
     };
+    let away = without_new(away, to);
     if let Some(error) = differing(alloc, copies.as_slice()) {
         return Err(error);
     }
@@ -174,6 +161,7 @@ pub fn find_sites<R: Files + Copy>(
             folders: Vec::new(alloc),
             away,
             catalog: None,
+            adoption,
         });
     };
     match placed(alloc, file, sites.as_slice(), copy.bytes.as_slice()) {
@@ -181,6 +169,7 @@ pub fn find_sites<R: Files + Copy>(
             folders,
             away,
             catalog: Some(copy.bytes),
+            adoption,
         }),
         Err(error) => Err(error),
     }
@@ -191,6 +180,14 @@ impl SiteFolders {
     pub fn catalog(&self) -> Option<&[u8]> {
         match &self.catalog {
             Some(bytes) => Some(bytes.as_slice()),
+            None => None,
+        }
+    }
+
+    /// What is done once sites are restored into new folders, if some are to be.
+    pub fn adoption(&self) -> Option<&Adoption> {
+        match &self.adoption {
+            Some(adoption) => Some(adoption),
             None => None,
         }
     }
@@ -221,11 +218,18 @@ impl SiteFolders {
     }
 }
 
-impl<R: Files + Copy> Folders<R> {
-    /// From now on each site of the store at this path has the folder that a SITES file names, and the store the catalog
-    /// of which they have copies. Gives the sites whose folders are away: of these no file can be read.
-    pub fn use_sites(&mut self, file: &str, store: &str) -> Result<Vec<AwaySite>, SitesError> {
-        let sites = match find_sites(self.alloc, self.rt, file, store) {
+impl<R: Files + Alloc + Copy + Drop> Folders<R> {
+    /// From now on each site of the store at this path has the folder that a SITES file names, or the one that takes its
+    /// place, and the store the catalog of which they have copies. Gives the sites whose folders are away: of these no file
+    /// can be read.
+    pub fn use_sites(
+        &mut self,
+        file: &str,
+        store: &str,
+        to: &NewFolders<'_>,
+        resumes: bool,
+    ) -> Result<Vec<AwaySite>, SitesError> {
+        let sites = match find_sites(self.alloc, self.rt, file, store, to, resumes) {
             Ok(sites) => sites,
             Err(error) => return Err(error),
         };
@@ -235,7 +239,9 @@ impl<R: Files + Copy> Folders<R> {
         self.sites = Some(sites);
         Ok(away)
     }
+}
 
+impl<R: Files + Copy> Folders<R> {
     /// The bytes of the catalog of which the sites have copies, if there is one.
     pub(crate) fn kept_catalog(&self) -> Option<Result<Vec<u8>, StoreFault>> {
         let sites = match &self.sites {

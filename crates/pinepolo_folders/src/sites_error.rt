@@ -26,6 +26,14 @@ pub enum SitesError {
     OneFolder(String, (u8, u8), String),
     /// Two copies of the catalog differ.
     CatalogsDiffer(CatalogCopy, CatalogCopy),
+    /// The SITES file has no site of this number, which is given a new folder.
+    NoSite(u8),
+    /// The new folder of a site at this path cannot be listed.
+    NoFolder(String),
+    /// The new folder of a site at this path is not empty.
+    NotEmpty(String),
+    /// The SITES file at this path cannot be given a new folder.
+    NotRewritable(String),
 }
 
 /// A digest in hexadecimal digits.
@@ -53,9 +61,12 @@ impl SitesError {
     pub fn status(&self) -> u8 {
         match self {
             SitesError::OutOfMemory => MEMORY,
-            SitesError::Unreadable(_) => DEVICE,
-            SitesError::Refused(..) | SitesError::OneFolder(..) => USAGE,
-            SitesError::CatalogsDiffer(..) => REFUSED,
+            SitesError::Unreadable(_) | SitesError::NoFolder(_) => DEVICE,
+            SitesError::Refused(..)
+            | SitesError::OneFolder(..)
+            | SitesError::NoSite(_)
+            | SitesError::NotRewritable(_) => USAGE,
+            SitesError::CatalogsDiffer(..) | SitesError::NotEmpty(_) => REFUSED,
         }
     }
 
@@ -69,6 +80,14 @@ impl SitesError {
             }
             SitesError::OneFolder(..) => "give each site a folder of its own",
             SitesError::CatalogsDiffer(..) => "put the right one in the place of the other",
+            SitesError::NoSite(_) => "give --to the number of a site that the file names",
+            SitesError::NoFolder(_) => "see that it is a folder that may be read",
+            SitesError::NotEmpty(_) => {
+                "give an empty folder, or --resume if a restore into this one was stopped"
+            }
+            SitesError::NotRewritable(_) => {
+                "write the folder of each [[site]] table on a line of its own"
+            }
         }
     }
 }
@@ -95,6 +114,19 @@ impl fmt::Display for SitesError {
             }
             SitesError::CatalogsDiffer(one, other) => {
                 write!(f, "fault: two copies of catalog.toml differ\n{one}{other}")?;
+            }
+            SitesError::NoSite(site) => writeln!(f, "fault: no site {site} has a folder")?,
+            SitesError::NoFolder(folder) => {
+                let folder = folder.as_str();
+                writeln!(f, "fault: list {folder}")?;
+            }
+            SitesError::NotEmpty(folder) => {
+                let folder = folder.as_str();
+                writeln!(f, "fault: {folder} is not empty")?;
+            }
+            SitesError::NotRewritable(file) => {
+                let file = file.as_str();
+                writeln!(f, "fault: {file} can't be given another folder")?;
             }
         }
         let advice = self.advice();

@@ -38,6 +38,14 @@ fn lose_away(request: &mut Request<'_>, away: &[AwaySite])
     }
 }
 
+/// Whether work that was stopped is to go on.
+fn resumes(verb: &Verb<'_>) -> bool {
+    match verb {
+        Verb::Restore(args) => args.resumes,
+        _ => false,
+    }
+}
+
 impl<'x> SitedRequest<'x> {
     /// Where the sites of the store stand, if each has a folder of its own.
     pub fn sites(&self) -> Option<Sited<'_>> {
@@ -54,9 +62,9 @@ impl<'x> SitedRequest<'x> {
     }
 }
 
-impl<R: Files + Copy> Folders<R> {
+impl<R: Files + Alloc + Copy + Drop> Folders<R> {
     /// Finds the folders of the sites of what was asked for: if it names a SITES file, each site of its store has the
-    /// folder that this file names, and otherwise all sites have the store's.
+    /// folder that this file names, or the one that takes its place, and otherwise all sites have the store's.
     pub fn find_sites_of<'x>(
         &mut self,
         parsed: Result<Request<'x>, ParseExit>,
@@ -72,10 +80,13 @@ impl<R: Files + Copy> Folders<R> {
             }
         };
         let away = match request.sites {
-            Some(file) => match self.use_sites(file, request.verb.path()) {
-                Ok(away) => away,
-                Err(error) => return Err(error),
-            },
+            Some(file) => {
+                let (store, resumes) = (request.verb.path(), resumes(&request.verb));
+                match self.use_sites(file, store, &request.to, resumes) {
+                    Ok(away) => away,
+                    Err(error) => return Err(error),
+                }
+            }
             None => Vec::new(self.alloc),
         };
         lose_away(&mut request, away.as_slice());

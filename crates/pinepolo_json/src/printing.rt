@@ -7,7 +7,7 @@ use crate::away_json::with_away;
 use crate::json::answer_object;
 use cs_verifying::Listed;
 use pinepolo_places::{DEVICE, DONE, MEMORY, REFUSED, VerbError, WorkKind, error_object};
-use pinepolo_text::{Answer, AnswerText, Dumped, Unfinished};
+use pinepolo_text::{Answer, AnswerText, Dumped, Unfinished, store_words};
 use serde_json::Value;
 use std::alloc::{AllocError, Global};
 use std::io::Write;
@@ -75,7 +75,7 @@ pub fn say<W: Write, E: Write>(
 {
     let answer = text.answer;
     if let Some(kind) = unfinished(answer) {
-        let store = text.store;
+        let store = store_words(text.store, text.sites);
         if warn(Unfinished { kind, store }, err) != DONE {
             return DEVICE;
         }

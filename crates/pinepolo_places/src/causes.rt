@@ -33,6 +33,8 @@ pub enum Failure {
     RemoveRecord(WorkKind),
     /// That the record of finished work is gone was brought to the disk.
     SyncEnd,
+    /// The folder of this site was looked for.
+    ReachSite(u8),
 }
 
 /// A place in a CSV.
@@ -77,6 +79,8 @@ pub enum Refusal {
     NoRecord(u32),
     /// This file of what is kept under this number is missing, or can't be read.
     Incomplete(u32, FileName),
+    /// The name of this file is a link that leads nowhere, or to a file of another name.
+    BrokenLink(FileName),
 }
 
 /// What is said of a failure, and what to do next.
@@ -124,11 +128,15 @@ pub fn failure_texts(failure: &Failure) -> (&'static str, &'static str) {
         ),
         Failure::RemoveRecord(_) => (
             "could not write {0}/restores.jsonl or remove {0}/RESTORING",
-            "pinepolo {3} --resume {1}",
+            "pinepolo {3} --resume {5}",
         ),
         Failure::SyncEnd => (
             "could not sync {0}: all files are in place, but a crash may bring RESTORING back",
             "sync -f {1}",
+        ),
+        Failure::ReachSite(_) => (
+            "the folder of site {3} is away, or is not the one in which the work on {0} was begun",
+            "bring it back; or give an empty folder on a new disk, or the one in which the work was begun: --to {3}=FOLDER",
         ),
     }
 }
@@ -155,29 +163,29 @@ pub fn refusal_texts(refusal: &Refusal) -> (&'static str, &'static str) {
         Refusal::Layout => ("{2}", "change {0}, and lay the store out again"),
         Refusal::Unfinished(WorkKind::Restore) => (
             "a restore of {0} is not finished",
-            "pinepolo restore --resume {1}",
+            "pinepolo restore --resume {5}",
         ),
         Refusal::Unfinished(WorkKind::Undo) => (
             "an undo of {0} is not finished",
-            "pinepolo undo --resume {1}",
+            "pinepolo undo --resume {5}",
         ),
         Refusal::NothingToResume(WorkKind::Restore) => (
             "no restore of {0} is unfinished",
-            "pinepolo check {1}",
+            "pinepolo check {5}",
         ),
         Refusal::NothingToResume(WorkKind::Undo) => (
             "no undo of {0} is unfinished",
-            "pinepolo undo {1}",
+            "pinepolo undo {5}",
         ),
         Refusal::Busy => (
             "another restore or undo of {0} is running",
-            "wait for it to end, then pinepolo check {1}",
+            "wait for it to end, then pinepolo check {5}",
         ),
         Refusal::DamagedRecord => (
             "{0}/RESTORING is not a record of a restore or an undo",
-            "move it away, then pinepolo diagnose {1}",
+            "move it away, then pinepolo diagnose {5}",
         ),
-        Refusal::NothingKept(None) => ("nothing to undo in {0}", "pinepolo check {1}"),
+        Refusal::NothingKept(None) => ("nothing to undo in {0}", "pinepolo check {5}"),
         Refusal::NothingKept(Some(_)) => (
             "nothing is kept in {0}/replaced/{3}",
             "see which numbers are there: ls {1}/replaced",
@@ -189,6 +197,10 @@ pub fn refusal_texts(refusal: &Refusal) -> (&'static str, &'static str) {
         Refusal::Incomplete(..) => (
             "{0}/replaced/{3}/{4} is not a regular file that can be read",
             "copy the others of {0}/replaced/{3} back by hand",
+        ),
+        Refusal::BrokenLink(_) => (
+            "{0}/{4} is a link that leads nowhere, or to a file of another name",
+            "bring its disk back, or name the folder of each site in a file: --sites FILE",
         ),
     }
 }
@@ -211,5 +223,6 @@ pub fn refusal_kind(refusal: &Refusal) -> &'static str {
         Refusal::NothingKept(_) => "nothing kept",
         Refusal::NoRecord(_) => "no record",
         Refusal::Incomplete(..) => "incomplete",
+        Refusal::BrokenLink(_) => "broken link",
     }
 }

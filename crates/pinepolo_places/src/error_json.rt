@@ -43,6 +43,7 @@ fn with_refusal(object: Object, refusal: &Refusal) -> Object {
         Refusal::Incomplete(number, name) => {
             with_file(object.number("kept", u64::from(*number)), *name)
         }
+        Refusal::BrokenLink(name) => with_file(object, *name),
         _ => object,
     }
 }

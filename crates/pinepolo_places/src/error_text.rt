@@ -60,6 +60,7 @@ fn failure_details(failure: &Failure) -> (Detail, Detail) {
         }
         Failure::WriteOutput(None) => (Detail::Nothing, Detail::Mark),
         Failure::RemoveRecord(verb) => (Detail::Verb(*verb), Detail::Nothing),
+        Failure::ReachSite(site) => (Detail::Number(u32::from(*site)), Detail::Nothing),
         _ => (Detail::Nothing, Detail::Nothing),
     }
 }
@@ -72,6 +73,7 @@ fn refusal_details(refusal: &Refusal) -> (Detail, Detail) {
         }
         Refusal::NoSuchSite(site) => (Detail::Number(u32::from(*site)), Detail::Nothing),
         Refusal::Incomplete(number, name) => (Detail::Number(*number), Detail::File(*name)),
+        Refusal::BrokenLink(name) => (Detail::Nothing, Detail::File(*name)),
         _ => (Detail::Nothing, Detail::Nothing),
     }
 }
@@ -86,8 +88,8 @@ impl StoreError {
         };
         match self.step {
             Step::ByFault => (said, ""),
-            Step::Resume(WorkKind::Restore) => (said, "pinepolo restore --resume {1}"),
-            Step::Resume(WorkKind::Undo) => (said, "pinepolo undo --resume {1}"),
+            Step::Resume(WorkKind::Restore) => (said, "pinepolo restore --resume {5}"),
+            Step::Resume(WorkKind::Undo) => (said, "pinepolo undo --resume {5}"),
             Step::Diagnose => (said, "pinepolo diagnose {5}"),
         }
     }

@@ -97,9 +97,27 @@ impl fmt::Display for AnswerText<'_> {
             Answer::Recovered(recovered) => write!(f, "{recovered}"),
             Answer::Restored(Restoration::Done(restored)) => write!(f, "{restored}"),
             Answer::Restored(Restoration::Doubted(doubted)) => {
-                write!(f, "{}", DoubtedText { doubted, store })
+                write!(
+                    f,
+                    "{}",
+                    DoubtedText {
+                        doubted,
+                        store,
+                        sites
+                    }
+                )
             }
-            Answer::RestoredFound(found) => write!(f, "{}", FoundText { found, store }),
+            Answer::RestoredFound(found) => {
+                write!(
+                    f,
+                    "{}",
+                    FoundText {
+                        found,
+                        store,
+                        sites
+                    }
+                )
+            }
             Answer::Listed(listed) => write!(f, "{listed}"),
             Answer::Verified(verified) => write!(f, "{verified}"),
             Answer::Undone(undone) => write!(f, "{undone}"),

@@ -4,7 +4,7 @@ ghost use Rattle.pinepolo_text.specs.Statuses.{checked_status};
 
 use crate::Unfinished;
 use crate::bad_files::BadLines;
-use crate::sited::{AwayLines, Sited, away_sites, store_words};
+use crate::sited::{AwayLines, Sited, ToWords, away_sites, store_words};
 use cs_inspection::Badness;
 use cs_reports::{FaultWords, Next, SiteWords, site_of, with_site};
 use cs_safety::safe;
@@ -107,11 +107,11 @@ impl CheckedText<'_> {
         let loss = self.checked.bad_sites();
         let (store, sites) = (store_words(self.store, self.sites), SiteWords(loss));
         if safe(&self.checked.catalog, loss) {
-            if self.sites.is_some() {
-                // (no restore reaches the folders of sites)
-                return writeln!(f, "next: pinepolo recover {store} OUT{sites}");
-            }
-            writeln!(f, "next: pinepolo restore {store}{sites}")
+            let to = ToWords {
+                sites: self.sites,
+                loss,
+            };
+            writeln!(f, "next: pinepolo restore {to}{store}{sites}")
         } else {
             writeln!(
                 f,
@@ -123,7 +123,7 @@ impl CheckedText<'_> {
     /// What to do next.
     fn write_next<W: fmt::Write>(&self, f: &mut fmt::Formatter<W>) -> fmt::Result {
         if let Some(kind) = self.checked.unfinished {
-            let store = self.store;
+            let store = store_words(self.store, self.sites);
             let unfinished = Unfinished { kind, store };
             return write!(f, "{unfinished}");
         }

@@ -7,7 +7,7 @@ use crate::bad_files::BadLines;
 use crate::changed::{ChangedFile, reads_well};
 use crate::disputed::DisputeLines;
 use crate::explained::{ExplanationLines, VerdictLine};
-use crate::sited::{AwayLines, Sited, away_sites, store_words};
+use crate::sited::{AwayLines, Sited, ToWords, away_sites, store_words};
 use crate::unrecoverable::BringBack;
 use cs_design::fatal_losses;
 use cs_diagnosis::{Diagnosis, TableDisputes, Verdict};
@@ -109,7 +109,7 @@ impl DiagnosedText<'_> {
         let Some(kind) = self.diagnosed.unfinished else {
             return Ok(());
         };
-        let store = self.store;
+        let store = store_words(self.store, self.sites);
         let unfinished = Unfinished { kind, store };
         write!(f, "{unfinished}")
     }
@@ -135,12 +135,11 @@ impl DiagnosedText<'_> {
         } else {
             ""
         };
-        if self.sites.is_some() {
-            // (no restore reaches the folders of sites)
-            writeln!(f, "next: pinepolo recover {store} OUT{sites}")?;
-        } else {
-            writeln!(f, "next: pinepolo restore{option} {store}{sites}")?;
-        }
+        let to = ToWords {
+            sites: self.sites,
+            loss: first.loss,
+        };
+        writeln!(f, "next: pinepolo restore{option} {to}{store}{sites}")?;
         if self.diagnosed.fatal.is_empty() {
             return Ok(());
         }

@@ -2,9 +2,10 @@
 ghost use Rattle.std.specs.Prelude.{◌≤◌};
 
 use crate::diagnosed::{Diagnosed, DiagnosedText};
+use crate::sited::{Sited, store_words};
 use cs_design::within::is_within;
 use cs_diagnosis::Diagnosis;
-use cs_reports::{ShellWord, SiteWords};
+use cs_reports::SiteWords;
 use cs_schema::Loss;
 use std::fmt;
 
@@ -48,16 +49,18 @@ pub struct DoubtedText<'a> {
     pub doubted: &'a Doubted,
     /// The folder of the store.
     pub store: &'a str,
+    /// Where its sites stand, if not there.
+    pub sites: Option<Sited<'a>>,
 }
 
 impl fmt::Display for DoubtedText<'_> {
     fn fmt<W: fmt::Write>(&self, f: &mut fmt::Formatter<W>) -> fmt::Result {
-        let (store, lost) = (self.store, self.doubted.lost);
+        let (store, sites, lost) = (self.store, self.sites, self.doubted.lost);
         let diagnosed = &self.doubted.diagnosed;
         let text = DiagnosedText {
             diagnosed,
             store,
-            sites: None,
+            sites,
         };
         write!(f, "{text}")?;
         let spare = spare_sites(&diagnosed.diagnosis, lost);
@@ -75,7 +78,7 @@ impl fmt::Display for DoubtedText<'_> {
                 )?;
             }
         }
-        let store = ShellWord(store);
+        let store = store_words(store, sites);
         if self.doubted.resumes {
             return writeln!(
                 f,

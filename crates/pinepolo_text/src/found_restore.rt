@@ -5,6 +5,7 @@ ghost use Rattle.pinepolo_text.specs.Statuses.{found_status};
 use crate::diagnosed::{Diagnosed, DiagnosedText};
 use crate::doubted::DoubtedText;
 use crate::restoration::Restoration;
+use crate::sited::Sited;
 use cs_diagnosis::Verdict;
 use std::fmt;
 
@@ -34,16 +35,18 @@ pub struct FoundText<'a> {
     pub found: &'a FoundRestore,
     /// The folder of the store.
     pub store: &'a str,
+    /// Where its sites stand, if not there.
+    pub sites: Option<Sited<'a>>,
 }
 
 impl fmt::Display for FoundText<'_> {
     fn fmt<W: fmt::Write>(&self, f: &mut fmt::Formatter<W>) -> fmt::Result {
-        let store = self.store;
+        let (store, sites) = (self.store, self.sites);
         let diagnosed = &self.found.diagnosed;
         let text = DiagnosedText {
             diagnosed,
             store,
-            sites: None,
+            sites,
         };
         match &self.found.restoration {
             Some(Restoration::Done(restored)) => {
@@ -51,7 +54,15 @@ impl fmt::Display for FoundText<'_> {
                 write!(f, "{restored}")
             }
             Some(Restoration::Doubted(doubted)) => {
-                write!(f, "{}", DoubtedText { doubted, store })
+                write!(
+                    f,
+                    "{}",
+                    DoubtedText {
+                        doubted,
+                        store,
+                        sites
+                    }
+                )
             }
             None => {
                 write!(f, "{text}")?;

@@ -60,7 +60,7 @@ pub use new_store::NewStore;
 pub use recovered::Recovered;
 pub use restoration::Restoration;
 pub use restored::{Restored, what_word};
-pub use sited::{AwaySite, Sited};
+pub use sited::{AwaySite, Sited, store_words};
 pub use store_json::store_object;
 pub use store_view::StoreView;
 pub use strays::strays_of;

@@ -54,6 +54,28 @@ impl fmt::Display for AwayLines<'_> {
     }
 }
 
+/// The options by which lost sites that are away are restored into new folders, each with a space behind it.
+#[derive(Clone, Copy)]
+pub struct ToWords<'a> {
+    pub sites: Option<Sited<'a>>,
+    pub loss: Loss,
+}
+
+impl fmt::Display for ToWords<'_> {
+    fn fmt<W: fmt::Write>(&self, f: &mut fmt::Formatter<W>) -> fmt::Result {
+        let Some(sites) = self.sites else {
+            return Ok(());
+        };
+        for away in sites.away {
+            let site = away.site;
+            if (1..=16).contains(&site) && self.loss.has(site) {
+                write!(f, "--to {site}=FOLDER ")?;
+            }
+        }
+        Ok(())
+    }
+}
+
 /// The store at a path as words of a command line.
 pub fn store_words<'a>(store: &'a str, sites: Option<Sited<'a>>) -> StoreWords<'a> {
     let sites = match sites {

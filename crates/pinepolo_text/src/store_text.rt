@@ -4,7 +4,7 @@ use crate::catalog_words::CatalogWords;
 use crate::counted::Counted;
 use crate::file_lines::FileLine;
 use crate::memory::recovery_memory;
-use crate::sited::{AwayLines, Sited, away_sites};
+use crate::sited::{AwayLines, Sited, away_sites, store_words};
 use crate::store_view::StoreView;
 use crate::unfinished::Unfinished;
 use cs_reports::{DesignHead, site_of};
@@ -131,7 +131,7 @@ pub struct StoreText<'a> {
 
 impl fmt::Display for StoreText<'_> {
     fn fmt<W: fmt::Write>(&self, f: &mut fmt::Formatter<W>) -> fmt::Result {
-        let (view, store) = (self.view, self.store);
+        let view = self.view;
         let catalog = CatalogWords(&view.catalog);
         let head = DesignHead {
             catalog: &view.catalog,
@@ -145,6 +145,7 @@ impl fmt::Display for StoreText<'_> {
         let Some(kind) = view.unfinished else {
             return Ok(());
         };
+        let store = store_words(self.store, self.sites);
         let unfinished = Unfinished { kind, store };
         write!(f, "{unfinished}")
     }

@@ -1,5 +1,5 @@
 //! That work on a store was left unfinished.
-use cs_reports::ShellWord;
+use cs_reports::StoreWords;
 use cs_reports::object::Object;
 use pinepolo_places::{RESTORING, WorkKind};
 use serde_json::Value;
@@ -9,13 +9,13 @@ use std::fmt;
 #[derive(Clone, Copy)]
 pub struct Unfinished<'a> {
     pub kind: WorkKind,
-    /// The folder of the store.
-    pub store: &'a str,
+    /// The store as words of a command line.
+    pub store: StoreWords<'a>,
 }
 
 impl fmt::Display for Unfinished<'_> {
     fn fmt<W: fmt::Write>(&self, f: &mut fmt::Formatter<W>) -> fmt::Result {
-        let (kind, store) = (self.kind, ShellWord(self.store));
+        let (kind, store) = (self.kind, self.store);
         writeln!(
             f,
             "unfinished {kind}: {RESTORING} is there\nnext: pinepolo {kind} --resume {store}"

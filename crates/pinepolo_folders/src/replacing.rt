@@ -1,0 +1,188 @@
+//! Folders that take the places of those of sites.
+use crate::folders::Folders;
+use crate::listing::names_in;
+use crate::sites_error::SitesError;
+use cs_file_system::{FileSystem, SystemFiles, put_owned};
+use cs_sites::{SiteFolder, with_folders};
+use cs_store::StoreFault;
+use pinepolo_args::NewFolders;
+use std::alloc::Global;
+use std::io;
+use std::io::ErrorKind;
+use std::rt::Files;
+
+/// What stands in each new file system of some kinds.
+const LOST_AND_FOUND: &str = "lost+found";
+
+/// The folder in which a restore keeps what it replaces. It is made there before anything else.
+const REPLACED: &str = "replaced";
+
+/// What is done once some sites are restored into new folders.
+#[derive(Drop)]
+pub struct Adoption {
+    /// The path of the SITES file.
+    file: String,
+    /// Its text with the new folders.
+    text: String,
+    /// The paths of the new folders.
+    folders: Vec<String>,
+}
+
+/// Whether what stands in a folder is nothing, or what a restore left there that was stopped.
+fn is_free(names: &[String], resumes: bool) -> bool {
+    let mut is_empty = true;
+    for name in names {
+        match name.as_str() {
+            LOST_AND_FOUND => {}
+            REPLACED if resumes => return true,
+            _ => is_empty = false,
+        }
+    }
+    is_empty
+}
+
+/// A text of its own.
+fn owned(alloc: Global, text: &str) -> Result<String, SitesError> {
+    match String::from_str(alloc, text) {
+        Ok(text) => Ok(text),
+        Err(_) => Err(SitesError::OutOfMemory),
+    }
+}
+
+/// The path of a new folder, from the root. It has to be empty, unless a restore into it is resumed.
+fn free_folder<R: Files + Alloc + Clone + Drop>(
+    alloc: Global,
+    rt: &R,
+    folder: &str,
+    resumes: bool,
+) -> Result<String, SitesError> {
+    let names = match names_in(alloc, rt, folder) {
+        Ok(names) => names,
+        Err(StoreFault::Memory) => return Err(SitesError::OutOfMemory),
+        Err(StoreFault::Device) => return Err(SitesError::NoFolder(owned(alloc, folder)?)),
+    };
+    if !is_free(names.as_slice(), resumes) {
+        return Err(SitesError::NotEmpty(owned(alloc, folder)?));
+    }
+    match rt.canonicalize(alloc, folder) {
+        Ok(path) => owned(alloc, path.as_str()),
+        Err(_) => Err(SitesError::NoFolder(owned(alloc, folder)?)),
+    }
+}
+
+/// The sites that a SITES file names, of which some have new folders.
+pub fn with_new_folders<R: Files + Alloc + Clone + Drop>(
+    alloc: Global,
+    rt: &R,
+    named: &[SiteFolder],
+    to: &NewFolders<'_>,
+    resumes: bool,
+) -> Result<Vec<SiteFolder>, SitesError> {
+    let mut sites = Vec::new(alloc);
+    for site in named {
+        let number = site.number;
+        let folder = match to.folder(number) {
+            Some(folder) => free_folder(alloc, rt, folder, resumes)?,
+            None => owned(alloc, site.folder.as_str())?,
+        };
+        if sites.push(SiteFolder { number, folder }).is_err() {
+            return Err(SitesError::OutOfMemory);
+        }
+    }
+    Ok(sites)
+}
+
+/// The new folders of sites, if there are any.
+fn new_folders(
+    alloc: Global,
+    sites: &[SiteFolder],
+    to: &NewFolders<'_>,
+) -> Result<Vec<String>, SitesError> {
+    let mut folders = Vec::new(alloc);
+    for number in 1..17u8 {
+        if to.folder(number).is_none() {
+            continue;
+        }
+        let Some(site) = sites.iter().find(|site| site.number == number) else {
+            return Err(SitesError::NoSite(number));
+        };
+        let folder = owned(alloc, site.folder.as_str())?;
+        if folders.push(folder).is_err() {
+            return Err(SitesError::OutOfMemory);
+        }
+    }
+    Ok(folders)
+}
+
+impl Adoption {
+    /// What is done once the sites with new folders are restored, if there are any: `old` are the sites that the SITES file
+    /// names, of which `text` is the text, and `new` those that it is to name.
+    pub fn new(
+        alloc: Global,
+        file: &str,
+        text: &str,
+        old: &[SiteFolder],
+        new: &[SiteFolder],
+        to: &NewFolders<'_>,
+    ) -> Result<Option<Self>, SitesError> {
+        let folders = new_folders(alloc, new, to)?;
+        if folders.is_empty() {
+            return Ok(None);
+        }
+        let file = owned(alloc, file)?;
+        match with_folders(alloc, text, old, new) {
+            Ok(Some(text)) => Ok(Some(Self {
+                file,
+                text,
+                folders,
+            })),
+            Ok(None) => Err(SitesError::NotRewritable(file)),
+            Err(_) => Err(SitesError::OutOfMemory),
+        }
+    }
+
+    /// Gives the new folders their copies of the catalog, and then writes the SITES file with them: whole or not at all.
+    fn adopt<R: Files>(&self, alloc: Global, rt: &R, catalog: &[u8]) -> io::Result<()> {
+        for folder in &self.folders {
+            put_in(alloc, rt, folder.as_str(), "catalog.toml", catalog)?;
+        }
+        let file = rt.canonicalize(alloc, self.file.as_str())?;
+        match file.as_str().rsplit_once('/') {
+            Some((folder, name)) => put_in(alloc, rt, folder, name, self.text.as_str().as_bytes()),
+            None => Err(io::Error::from(ErrorKind::NotFound)),
+        }
+    }
+}
+
+/// Puts a file in place in a folder, and brings its name to the disk.
+fn put_in<R: Files>(
+    alloc: Global,
+    rt: &R,
+    folder: &str,
+    name: &str,
+    bytes: &[u8],
+) -> io::Result<()> {
+    let path = format!(in alloc; "{folder}/{name}")?;
+    let beside = format!(in alloc; "{path}.partial")?;
+    let folder = if folder.is_empty() { "/" } else { folder };
+    let files = &mut SystemFiles(rt);
+    put_owned(files, folder, beside.as_str(), path.as_str(), bytes)?;
+    files.sync_folder(folder)
+}
+
+impl<R: Files> Folders<R> {
+    /// From now on the SITES file names the new folders of the sites that were restored into them, if there are any.
+    pub(crate) fn adopt(&self) -> Result<(), StoreFault> {
+        let Some(sites) = &self.sites else {
+            return Ok(());
+        };
+        let (Some(adoption), Some(catalog)) = (sites.adoption(), sites.catalog()) else {
+            return Ok(());
+        };
+        match adoption.adopt(self.alloc, &self.rt, catalog) {
+            Ok(()) => Ok(()),
+            Err(e) if e.kind() == ErrorKind::OutOfMemory => Err(StoreFault::Memory),
+            Err(_) => Err(StoreFault::Device),
+        }
+    }
+}
