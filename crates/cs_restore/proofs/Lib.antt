@@ -10,4 +10,5 @@ mod Loop
 mod NameLists
 mod Parts
 mod Places
+mod Told
 mod Whole

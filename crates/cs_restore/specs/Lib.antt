@@ -1,3 +1,4 @@
 pub mod Undoing
 pub mod Placing
 pub mod Restoring
+pub mod Refusals

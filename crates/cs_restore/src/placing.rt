@@ -1,7 +1,7 @@
 //! Puts the rebuilt files in place.
-ghost use Rattle.std.specs.Prelude.{◌≡◌, ◌≤◌, Option, OnOk, OnErr, IsErrOf};
-ghost use Rattle.cs_schema.specs.declared.file_name.FileName.{FileName};
-ghost use Rattle.cs_store.specs.Fault.{CountsFault};
+ghost use Rattle.std.specs.Prelude.{◌≡◌, ◌≤◌, IfErr, OnOk, OnErr, IsErrOf};
+ghost use Rattle.cs_store.specs.Fault.{CountsFault, MemoryOr};
+ghost use Rattle.cs_shelf.specs.Faults.{FailsToWrite};
 ghost use Rattle.cs_shelf.specs.Shelf.{AddsCopies, Elapses, Follows, IsNoMore, KeepsOld, LeavesOnly};
 ghost use Rattle.cs_restore.specs.Placing.{HasOne, IsOldOrPartOver, IsPartOf, IsPartOver, IsPutOver, MayHaveOne, OthersAreThere, TouchesOnly};
 
@@ -37,8 +37,7 @@ fn put_all<S: Shelf>(answer: &FileSet, names: &[FileName], shelf: &mut S) -> Res
     ensures copies { IsNoMore (S.kept shelf.old) (S.kept shelf.new) }
     ensures any_moment { LeavesOnly S.moment S.left_since shelf.old shelf.new
         (IsPartOver answer.now (S.may_leave shelf.old)) }
-    ensures device { (at : Option FileName) → IsErrOf result (Fault.Write at)
-        → CountsFault (S.fault_count shelf.old) (S.fault_count shelf.new) }
+    ensures device { IfErr result (λ fault. MemoryOr fault (FailsToWrite (S.fault_count shelf.old) (S.fault_count shelf.new) fault)) }
     ensures counted { S.fault_count shelf.old ≤ S.fault_count shelf.new }
 {
     for name in names {
@@ -63,8 +62,7 @@ pub fn exchange<S: Shelf>(answer: &FileSet, names: &[FileName], shelf: &mut S) -
     ensures copies { Follows (AddsCopies (S.holds shelf.old)) (S.kept shelf.old) (S.kept shelf.new) }
     ensures any_moment { LeavesOnly S.moment S.left_since shelf.old shelf.new
         (IsOldOrPartOver answer.now (S.holds shelf.old) (S.may_leave shelf.old)) }
-    ensures device { (at : Option FileName) → IsErrOf result (Fault.Write at)
-        → CountsFault (S.fault_count shelf.old) (S.fault_count shelf.new) }
+    ensures device { IfErr result (λ fault. MemoryOr fault (FailsToWrite (S.fault_count shelf.old) (S.fault_count shelf.new) fault)) }
     ensures counted { S.fault_count shelf.old ≤ S.fault_count shelf.new }
 {
     match shelf.keep(names) {

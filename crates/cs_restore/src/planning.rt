@@ -1,10 +1,13 @@
 //! Plans a restore without changing anything.
-ghost use Rattle.std.specs.Prelude.{◌≡◌, ◌<◌, ◌≤◌, ℕ, [], ⊤, Ok, Some, IfOk, MatchOption};
+ghost use Rattle.std.specs.Prelude.{◌≡◌, ◌⊎◌, ◌<◌, ◌≤◌, ℕ, [], Ok, Some, IfOk, IfErr, MatchOption};
 ghost use Rattle.std.specs.List.{slice_get};
 ghost use Rattle.cs_schema.specs.FileNames.{surviving};
 ghost use Rattle.cs_schema.specs.Lists.{IsIn};
+ghost use Rattle.cs_store.specs.Fault.{MemoryOr};
 ghost use Rattle.cs_store.specs.FileSet.{Files, contents_of};
+ghost use Rattle.cs_shelf.specs.Faults.{FailsToRead};
 ghost use Rattle.cs_shelf.specs.Shelf.{ChangesNothing, IsReadOf};
+ghost use Rattle.cs_restore.specs.Refusals.{IsFirstUnread, IsRefusedBack, IsRefusedPlan};
 ghost use Rattle.cs_restore.specs.Restoring.{AreSurvivorsRead, PlansFor, ReadsBack};
 
 use crate::comparing::compare;
@@ -34,7 +37,8 @@ fn unread(
     loss: Loss,
     unreadable: &[FileName],
 ) -> Result<Option<FileName>, AllocError>
-    ensures { IfOk result (λ found. MatchOption found (AreSurvivorsRead catalog.now loss unreadable.now) (λ name. ⊤)) }
+    ensures { IfOk result (λ found. MatchOption found (AreSurvivorsRead catalog.now loss unreadable.now)
+        (IsFirstUnread catalog.now loss unreadable.now)) }
 {
     let _rules = catalog.projection_count();
     let names = catalog.surviving(alloc, loss)?;
@@ -55,8 +59,9 @@ pub fn plan_restore<R: Threads + Sync, G: Gate + Sync>(
     loss: Loss,
     read: &Readable,
 ) -> Result<Plan, Fault>
-    ensures { IfOk result (λ plan. (d : Files) → IsReadOf (surviving catalog.now []) read.now.files read.now.unreadable.items d
+    ensures plan { IfOk result (λ plan. (d : Files) → IsReadOf (surviving catalog.now []) read.now.files read.now.unreadable.items d
         → PlansFor catalog.now loss plan.answer plan.changes.items d) }
+    ensures refused { IfErr result (λ fault. MemoryOr fault (IsRefusedPlan catalog.now loss read.now fault)) }
 {
     let _rules = catalog.projection_count();
     let (workers, cut) = (run.workers, run.cut);
@@ -96,6 +101,8 @@ pub fn check_held<S: Shelf, R: Threads + Sync, G: Gate + Sync>(
 ) -> Result<u64, Fault>
     ensures accepted { IfOk result (ReadsBack catalog.now (S.holds shelf.new)) }
     ensures unchanged { ChangesNothing S.holds S.may_leave S.kept S.moment S.left_since shelf.old shelf.new }
+    ensures refused { IfErr result (λ fault. MemoryOr fault
+        (FailsToRead (S.fault_count shelf.old) (S.fault_count shelf.new) fault ⊎ IsRefusedBack catalog.now (S.holds shelf.new) fault)) }
     ensures counted { S.fault_count shelf.old ≤ S.fault_count shelf.new }
 {
     let read = match load_held(run.alloc, catalog, Loss::none(), shelf) {

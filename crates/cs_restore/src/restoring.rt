@@ -1,7 +1,10 @@
 //! Restores a store in place.
-ghost use Rattle.std.specs.Prelude.{◌≤◌, [], IfOk};
+ghost use Rattle.std.specs.Prelude.{◌≤◌, ◌⊎◌, [], IfOk, IfErr};
 ghost use Rattle.cs_schema.specs.FileNames.{surviving};
-ghost use Rattle.cs_shelf.specs.Shelf.{AddsCopies, Follows, IsReadIn, KeepsOld, LeavesOnly};
+ghost use Rattle.cs_shelf.specs.Shelf.{AddsCopies, ChangesNothing, Follows, IsReadIn, KeepsOld, LeavesOnly};
+ghost use Rattle.cs_store.specs.Fault.{MemoryOr};
+ghost use Rattle.cs_shelf.specs.Faults.{FailsToRead, FailsToWrite};
+ghost use Rattle.cs_restore.specs.Refusals.{IsRestoreFault};
 ghost use Rattle.cs_restore.specs.Restoring.{IsFinished, IsOldOrPart, MayBeLeft, ReadsBack};
 
 use crate::placing::exchange;
@@ -28,6 +31,9 @@ pub struct Restored {
 ///
 /// Nothing changes before `rebuild` has succeeded. After a fault, and after a stop at any moment, each name has its old
 /// file or the rebuilt one; run again with the same loss, a restore puts the same files in place. What it replaces is kept.
+///
+/// Faults: `Read` for the first surviving file that could not be read; the refusals of `rebuild`, with nothing changed;
+/// `Write` or `Read` if a call on the store failed; a refusal of `check` for the files that were read back.
 pub fn restore<S: Shelf, R: Threads + Sync, G: Gate + Sync>(
     run: &Run<'_, R, G>,
     catalog: &Catalog,
@@ -44,6 +50,10 @@ pub fn restore<S: Shelf, R: Threads + Sync, G: Gate + Sync>(
         (MayBeLeft catalog.now loss (S.holds shelf.old) (S.may_leave shelf.old)) }
     ensures kept { KeepsOld (S.holds shelf.old) (S.holds shelf.new) (S.kept shelf.new) }
     ensures copies { Follows (AddsCopies (S.holds shelf.old)) (S.kept shelf.old) (S.kept shelf.new) }
+    ensures fault { IfErr result (λ fault. MemoryOr fault (IsRestoreFault catalog.now loss read
+        (ChangesNothing S.holds S.may_leave S.kept S.moment S.left_since shelf.old shelf.new)
+        (FailsToWrite (S.fault_count shelf.old) (S.fault_count shelf.new) fault ⊎ FailsToRead (S.fault_count shelf.old) (S.fault_count shelf.new) fault)
+        (S.holds shelf.new) fault)) }
     ensures counted { S.fault_count shelf.old ≤ S.fault_count shelf.new }
 {
     let _rules = catalog.projection_count();

@@ -1,7 +1,7 @@
 //! Puts back the files of the names that had changed.
-ghost use Rattle.std.specs.Prelude.{◌≡◌, ◌≤◌, Option, OnOk, IsErrOf};
-ghost use Rattle.cs_schema.specs.declared.file_name.FileName.{FileName};
-ghost use Rattle.cs_store.specs.Fault.{CountsFault};
+ghost use Rattle.std.specs.Prelude.{◌≡◌, ◌≤◌, IfErr, OnOk, IsErrOf};
+ghost use Rattle.cs_store.specs.Fault.{CountsFault, MemoryOr};
+ghost use Rattle.cs_shelf.specs.Faults.{FailsToWrite};
 ghost use Rattle.cs_shelf.specs.Shelf.{AddsCopies, Elapses, Follows, IsNoMore, KeepsOld, LeavesOnly};
 ghost use Rattle.cs_restore.specs.Undoing.{IsBack, IsOneBack, IsOldOrPartBackOf, IsPartBack, IsPartBackOf, MayBeOneBack};
 
@@ -34,8 +34,7 @@ fn put_back_all<S: Shelf>(back: &FileSet, names: &[FileName], shelf: &mut S) -> 
     ensures copies { IsNoMore (S.kept shelf.old) (S.kept shelf.new) }
     ensures any_moment { LeavesOnly S.moment S.left_since shelf.old shelf.new
         (IsPartBackOf back.now names.now (S.may_leave shelf.old)) }
-    ensures device { (at : Option FileName) → IsErrOf result (Fault.Write at)
-        → CountsFault (S.fault_count shelf.old) (S.fault_count shelf.new) }
+    ensures device { IfErr result (λ fault. MemoryOr fault (FailsToWrite (S.fault_count shelf.old) (S.fault_count shelf.new) fault)) }
     ensures counted { S.fault_count shelf.old ≤ S.fault_count shelf.new }
 {
     for name in names {
@@ -62,8 +61,7 @@ pub fn put_back<S: Shelf>(back: &FileSet, names: &[FileName], shelf: &mut S) -> 
     ensures copies { Follows (AddsCopies (S.holds shelf.old)) (S.kept shelf.old) (S.kept shelf.new) }
     ensures any_moment { LeavesOnly S.moment S.left_since shelf.old shelf.new
         (IsOldOrPartBackOf back.now names.now (S.holds shelf.old) (S.may_leave shelf.old)) }
-    ensures device { (at : Option FileName) → IsErrOf result (Fault.Write at)
-        → CountsFault (S.fault_count shelf.old) (S.fault_count shelf.new) }
+    ensures device { IfErr result (λ fault. MemoryOr fault (FailsToWrite (S.fault_count shelf.old) (S.fault_count shelf.new) fault)) }
     ensures counted { S.fault_count shelf.old ≤ S.fault_count shelf.new }
 {
     match shelf.keep(names) {
