@@ -71,8 +71,8 @@ fn at_most_of(found: &ArgMatches<'_>) -> Option<u8>
 }
 
 impl<'a> Options<'a> {
-    /// Reads the arguments of a verb; none if a site is out of range, or a folder is given for it twice. Without a number of workers there are as many as
-    /// processors, within the limit.
+    /// Reads the arguments of a verb; none if a site is out of range, or has two new folders. Without a number of workers
+    /// there are as many as processors, within the limit.
     pub fn read(found: &ArgMatches<'a>, processors: u32) -> Option<Options<'a>> {
         let lost = sites_of(found, "lost")?;
         let to = new_folders_of(found)?;

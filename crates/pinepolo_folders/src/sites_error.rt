@@ -81,7 +81,7 @@ impl SitesError {
             SitesError::OneFolder(..) => "give each site a folder of its own",
             SitesError::CatalogsDiffer(..) => "put the right one in the place of the other",
             SitesError::NoSite(_) => "give --to the number of a site that the file names",
-            SitesError::NoFolder(_) => "see that it is a folder that may be read",
+            SitesError::NoFolder(_) => "check that it is a folder and may be read",
             SitesError::NotEmpty(_) => {
                 "give an empty folder, or --resume if a restore into this one was stopped"
             }
@@ -118,7 +118,7 @@ impl fmt::Display for SitesError {
             SitesError::NoSite(site) => writeln!(f, "fault: no site {site} has a folder")?,
             SitesError::NoFolder(folder) => {
                 let folder = folder.as_str();
-                writeln!(f, "fault: list {folder}")?;
+                writeln!(f, "fault: could not list {folder}")?;
             }
             SitesError::NotEmpty(folder) => {
                 let folder = folder.as_str();
@@ -126,7 +126,7 @@ impl fmt::Display for SitesError {
             }
             SitesError::NotRewritable(file) => {
                 let file = file.as_str();
-                writeln!(f, "fault: {file} can't be given another folder")?;
+                writeln!(f, "fault: {file} cannot be given a new folder")?;
             }
         }
         let advice = self.advice();

@@ -102,7 +102,7 @@ pub returns-in-Err-check_held-clause-fault : goal.returns-in-Err-check_held-clau
 returns-in-Err-check_held-clause-fault g c = elim c.in-Err-check_held.ensures.refused [
   | inl memory ↦ inl memory
   | inr why ↦ elim why [
-      | inl failed ↦ inr (inr (inl (inr (read_since (g.S.Source.fault_count c.args.shelf.now) (g.S.Source.fault_count c.exchange.new.shelf) (g.S.Source.fault_count c.check_held.new.shelf) c.in-Err-check_held.fault c.exchange.ensures.counted c.check_held.ensures.counted failed))))
-      | inr refused ↦ inr (inr (inr refused))
-    ]
+    | inl failed ↦ inr (inr (inl (inr (read_since (g.S.Source.fault_count c.args.shelf.now) (g.S.Source.fault_count c.exchange.new.shelf) (g.S.Source.fault_count c.check_held.new.shelf) c.in-Err-check_held.fault c.exchange.ensures.counted c.check_held.ensures.counted failed))))
+    | inr refused ↦ inr (inr (inr refused))
+  ]
 ]
