@@ -1,7 +1,6 @@
-use Rattle.std.proofs.Common.{◌≡◌, ◌∙◌, ◌∷◌, ◌++◌, ◌+◌, [], List, ℕ, Bool, true, false, refl, sym, ap, suc, take, get_or, arith, nat_eq, eqb-true, eq-eqb, string_bytes}
+use Rattle.std.proofs.Common.{◌≡◌, ◌∙◌, ◌∷◌, ◌++◌, ◌+◌, [], Bool, true, false, refl, sym, ap, suc, take, arith, eqb-true, eq-eqb, string_bytes}
 use Rattle.std.proofs.Math.Seq.{take-suc}
-use lib.Pointwise.{pointwise, pointwise_decides}
-use Rattle.cs_sites.specs.Reading.{SiteText}
+use lib.Pointwise.{pointwise_decides}
 use Rattle.cs_sites.proofs.rewriting.are_same.Goals as goal
 
 holds : (b : Bool) → false ≡ mathlib.Core.Bool.not b → b ≡ true
