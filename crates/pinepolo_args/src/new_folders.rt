@@ -28,28 +28,31 @@ impl<'a> NewFolders<'a> {
     pub fn has_any(&self) -> bool {
         self.folders.iter().any(|folder| folder.is_some())
     }
+}
 
-    /// These folders, and that of a site as `SITE=FOLDER`; none if it is no such text, or the site has one already.
-    fn with(self, text: &'a str) -> Option<Self> {
-        let (site, folder) = text.split_once("=")?;
-        let at = usize::from(site.parse::<u8>().ok()?).checked_sub(1)?;
-        let mut folders = self.folders;
-        if folders.get(at)?.is_some() || folder.is_empty() {
-            return None;
-        }
-        *folders.get_mut(at)? = Some(folder);
-        Some(Self { folders })
+/// The place of a site among all, and its folder, of a text `SITE=FOLDER`.
+fn place_and_folder(text: &str) -> Option<(usize, &str)> {
+    let (site, folder) = text.split_once("=")?;
+    let place = usize::from(site.parse::<u8>().ok()?).checked_sub(1)?;
+    if folder.is_empty() {
+        return None;
     }
+    Some((place, folder))
 }
 
 /// The new folders that the arguments give; none if one is no `SITE=FOLDER` with a site from 1 to 16, or a site has two.
 pub fn new_folders_of<'a>(found: &ArgMatches<'a>) -> Option<NewFolders<'a>> {
-    let mut all = NewFolders::none();
+    let mut folders = [None; limits::SITES as usize];
     let Some(texts) = found.get_strs("to") else {
-        return Some(all);
+        return Some(NewFolders { folders });
     };
     for text in texts {
-        all = all.with(*text)?;
+        let (at, folder) = place_and_folder(text)?;
+        let place = folders.get_mut(at)?;
+        if place.is_some() {
+            return None;
+        }
+        *place = Some(folder);
     }
-    Some(all)
+    Some(NewFolders { folders })
 }
