@@ -1,12 +1,13 @@
 //! What a diagnosis answers.
 ghost use Rattle.std.specs.Prelude.{◌≡◌, IfOk};
+ghost use Rattle.pinepolo_text.specs.OnlyLoss.{AreFatalBeside};
 ghost use Rattle.pinepolo_text.specs.Statuses.{diagnosed_status};
 
 use crate::Unfinished;
 use crate::bad_files::BadLines;
 use crate::changed::{ChangedFile, reads_well};
 use crate::disputed::DisputeLines;
-use crate::explained::{ExplanationLines, VerdictLine};
+use crate::explained::{ExplanationLines, VerdictLine, only_loss};
 use crate::sited::{AwayLines, Sited, ToWords, away_sites, store_words};
 use crate::unrecoverable::BringBack;
 use cs_design::fatal_losses;
@@ -40,15 +41,17 @@ pub struct Diagnosed {
     pub unfinished: Option<WorkKind>,
 }
 
-/// The losses that must not come beside the first explanation, where one table explains a store.
+/// The least losses that must not come beside the first explanation, if one table explains a store.
 fn fatal_beside(
     alloc: Global,
     catalog: &Catalog,
     diagnosis: &Diagnosis,
-) -> Result<Vec<Loss>, AllocError> {
-    match (diagnosis.verdict, diagnosis.explanations.first()) {
-        (Verdict::OneTable, Some(first)) => fatal_losses(alloc, catalog, first.loss),
-        _ => Ok(Vec::new(alloc)),
+) -> Result<Vec<Loss>, AllocError>
+    ensures { IfOk result (λ fatal. AreFatalBeside catalog.now diagnosis.now fatal.items) }
+{
+    match only_loss(diagnosis) {
+        Some(loss) => fatal_losses(alloc, catalog, loss),
+        None => Ok(Vec::new(alloc)),
     }
 }
 
@@ -65,6 +68,7 @@ impl Diagnosed {
     ) -> Result<Self, AllocError>
         ensures found { IfOk result (λ found. (found.catalog ≡ catalog) × (found.diagnosis ≡ diagnosis)) }
         ensures compared { IfOk result (λ found. (found.disputes ≡ disputes) × (found.unfinished ≡ unfinished)) }
+        ensures fatal { IfOk result (λ found. AreFatalBeside catalog diagnosis found.fatal.items) }
     {
         match fatal_beside(alloc, &catalog, &diagnosis) {
             Ok(fatal) => Ok(Self {
