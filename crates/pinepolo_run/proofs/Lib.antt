@@ -1,2 +1,3 @@
+mod ChangedNames
 mod LowStatuses
 mod NoneFailed

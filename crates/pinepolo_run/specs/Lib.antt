@@ -1,6 +1,1 @@
-pub mod Found
-pub mod Promises
-pub mod Requests
-pub mod Showing
-pub mod TablePromises
-pub mod World
+pub mod Changed
