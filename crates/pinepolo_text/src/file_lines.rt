@@ -1,5 +1,9 @@
 //! What is said of each file of a store.
-ghost use Rattle.std.specs.Prelude.{◌<◌, length};
+ghost use Rattle.std.specs.Prelude.{◌≡◌, IfOk, MatchOption};
+ghost use Rattle.cs_schema.specs.Lists.{IsIn};
+ghost use Rattle.cs_store.specs.FileSet.{contents_of};
+ghost use Rattle.cs_inspection.specs.BadFiles.{IsListed};
+ghost use Rattle.pinepolo_text.specs.FileLines.{AreLines, IsLine};
 
 use cs_delta::{Layer, read_delta};
 use cs_file_decode::head_count;
@@ -53,14 +57,15 @@ fn count_of(
 }
 
 /// What is wrong with a file, if it is among the bad ones.
-fn badness_of(bad: &[(FileName, Badness)], name: FileName) -> Option<Badness> {
-    match bad.binary_search_by_key(&name, |file| file.0) {
-        Ok(at) => match bad.get(at) {
-            Some(file) => Some(file.1),
-            None => None,
-        },
-        Err(_) => None,
+fn badness_of(bad: &[(FileName, Badness)], name: FileName) -> Option<Badness>
+    ensures { MatchOption result (¬ IsListed name bad.now) (λ why. IsIn (name, why) bad.now) }
+{
+    for file in bad {
+        if file.0 == name {
+            return Some(file.1);
+        }
     }
+    None
 }
 
 /// What is said of the file of this name.
@@ -70,7 +75,9 @@ fn line_of(
     files: &FileSet,
     bad: &[(FileName, Badness)],
     name: FileName,
-) -> Result<FileLine, AllocError> {
+) -> Result<FileLine, AllocError>
+    ensures { IfOk result (λ line. (line.name ≡ name) × IsLine (contents_of files.now) bad.now line) }
+{
     let badness = badness_of(bad, name);
     let Some(bytes) = files.get(name) else {
         return Ok(FileLine {
@@ -92,13 +99,15 @@ fn line_of(
     })
 }
 
-/// What is said of each file that the catalog names, in the order of names; `bad` are the bad ones, in that order.
+/// What is said of each file that the catalog names, in the order of names; `bad` are the bad ones.
 pub fn lines_of(
     alloc: Global,
     catalog: &Catalog,
     files: &FileSet,
     bad: &[(FileName, Badness)],
-) -> Result<Vec<FileLine>, AllocError> {
+) -> Result<Vec<FileLine>, AllocError>
+    ensures { IfOk result (λ lines. AreLines catalog.now (contents_of files.now) bad.now lines.items) }
+{
     let names = catalog.surviving(alloc, Loss::none())?;
     let mut lines = Vec::new(alloc);
     for name in &names {

@@ -15,4 +15,5 @@ returns-in-Ok-lines_of g c =
       unreadable = c.in-Ok.found.unreadable.items;
       loads = subst (λ (L : List ℕ). LoadsReadable (standing g.S.SharedSource.answers) (standing g.S.SharedSource.fails) (surviving c.args.catalog.now L) c.args.source.now c.in-Ok.found.files c.in-Ok.found.unreadable.items c.args.source.now) c.none.ensures c.in-Ok.ensures.ok;
       inspected = subst (λ (U : List FileName). AreBadFiles c.args.catalog.now (contents_of c.in-Ok.found.files) U c.in-Ok-bad_files.bad.items) read c.in-Ok-bad_files.ensures;
+      said = rw c.as_slice.ensures.value at c.in-Ok-lines_of.ensures;
     }
