@@ -1,13 +1,11 @@
 -- Rows of projections that have every column of the table.
-use Rattle.std.specs.Prelude.{ℕ, nat_lt, ◌≡◌, Bool, true, false, not, ◌&&◌, if◌then◌else◌, List, [], ◌∷◌, map, length}
+use Rattle.std.specs.Prelude.{ℕ, nat_lt, ◌≡◌, Bool, true, false, not, ◌&&◌, if◌then◌else◌, List, [], ◌∷◌, length}
 use Rattle.std.specs.List.{find, list_all}
 use Rattle.std.specs.Option.{option_map_or}
-use Rattle.cs_schema.specs.declared.cells.Value.{Value}
 use Rattle.cs_schema.specs.CatalogData.{CatalogData}
 use Rattle.cs_schema.specs.Lists.{numbers_below}
 use Rattle.cs_safety.specs.Paths.{holds_column}
-use Rattle.cs_rows.specs.Walk.{Contents, image_cell}
-use Rattle.cs_rows.specs.WalkByRows.{Reached, Found, numbers_of, is_full}
+use Rattle.cs_rows.specs.WalkByRows.{Found, numbers_of, is_full}
 
 -- each column of the table is in the projection
 abbrev pub has_all : CatalogData → ℕ → Bool
@@ -15,10 +13,6 @@ has_all C p = list_all (holds_column C p) (numbers_below (length C.columns))
 
 abbrev pub HasAll : CatalogData → ℕ → Type 0
 HasAll C p = has_all C p ≡ true
-
--- the cells of some rows in a column, each read in the row's own image
-abbrev pub own_cells : CatalogData → Contents → List Reached → ℕ → List Value
-own_cells C S xs c = map (λ (x : Reached). image_cell C S x.0 c x.1) xs
 
 -- Whether an earlier walk finds the row of a walk that starts in the first of these projections and reaches them all.
 -- It does if the key is read in a projection that comes before the first and has every column: the walk from the row

@@ -10,7 +10,7 @@ ghost use Rattle.cs_rows.specs.RangeByRows.{surviving_between, found_among, fres
 ghost use Rattle.cs_rows.specs.RowSteps.{Stands, AllStand, IsReading, AreSourcesOf, through, RowPushed, reached_from};
 ghost use Rattle.cs_rows.specs.RowWalks.{NoneAstray, IsFirstAstray, Extends, rows_between, rows_in_projection};
 
-use crate::catalog_of::{self, has_all_columns};
+use crate::catalog_of;
 use crate::columns::{new_columns, push_cell};
 use crate::counts::{kept_in_projection, kept_in_segment, surviving_row_count};
 use crate::desk::{Desk, new_desk};
@@ -128,9 +128,6 @@ impl RowWalk<'_> {
             columns.old.items columns.new.items) }
         ensures fault { IfErr result (IsFirstAstray self.now (reached_from segment.0 segment.1 rows.0 (rows.1 - rows.0))) }
     {
-        if has_all_columns(self.survivors, segment.0) {
-            return self.walk_own_rows(segment, rows, desk, columns);
-        }
         for i in rows.0..rows.1 {
             let row = (segment.0, (segment.1, i));
             match self.walk_row(row, desk, columns) {

@@ -23,7 +23,6 @@ mod marks;
 mod near_ints;
 mod numbers;
 mod once;
-mod own_rows;
 pub mod plan_walk;
 pub mod range;
 mod repeats;
