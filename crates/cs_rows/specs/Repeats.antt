@@ -1,5 +1,5 @@
 -- Rows whose key occurs in an earlier row, by their numbers.
-use Rattle.std.specs.Prelude.{ℕ, ℤ, pos, ◌+ℤ◌, ◌≤ℤ◌, ◌<ℤ◌, ◌≡◌, ◌<◌, Bool, false, if◌then◌else◌, List, [], ◌∷◌, length, take, slice_index_or}
+use Rattle.std.specs.Prelude.{ℕ, ◌≡◌, ◌<◌, Bool, false, if◌then◌else◌, List, [], ◌∷◌, length, take, slice_index_or}
 use Rattle.std.specs.List.{list_any}
 use Rattle.std.specs.Ordering.{ordering_then, nat_cmp}
 use Rattle.std.specs.declared.cmp.Ordering.{Ordering}
@@ -19,10 +19,6 @@ is_repeat keys j = list_any (λ v. value_eq v (cell keys j)) (take j keys)
 pub record AreRepeats (keys : List Value) (marks : List Bool) : Type 0 where
   pub count : length marks ≡ length keys
   pub each : (j : ℕ) → j < length keys → slice_index_or marks j false ≡ is_repeat keys j
-
--- the int is one of the `count` ints from `least` on
-abbrev pub IsNear : ℤ → ℕ → ℤ → Type 0
-IsNear least count x = (least ≤ℤ x) × (x <ℤ (least +ℤ pos count))
 
 -- the elements that are not marked
 abbrev pub unmarked : {X : Type 0} → List Bool → List X → List X

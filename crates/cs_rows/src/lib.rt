@@ -20,7 +20,6 @@ pub mod laws;
 pub mod lent;
 mod levels;
 mod marks;
-mod near_ints;
 mod numbers;
 mod once;
 pub mod plan_walk;

@@ -10,7 +10,6 @@ ghost use Rattle.cs_schema.specs.Rows.{cell};
 ghost use Rattle.cs_rows.specs.Repeats.{numbered_cmp, AreRepeats};
 
 use crate::marks::no_marks;
-use crate::near_ints::{mark_near_ints, near_ints};
 use crate::rows_by_int::rows_by_int;
 use cs_schema::Cells;
 use rayon::prelude::*;
@@ -150,12 +149,6 @@ pub(crate) fn find_repeats<R: Threads + Sync>(
     ensures { IfOk result (λ marks. AreRepeats (values keys.now) marks.items) }
 {
     let mut marks = no_marks(alloc, keys.len())?;
-    if let Cells::Ints(ints) = keys {
-        if let Some((least, count)) = near_ints(ints) {
-            mark_near_ints(alloc, ints, least, count, marks.as_mut_slice())?;
-            return Ok(marks);
-        }
-    }
     let sorted = sorted_rows(rt, alloc, keys)?;
     mark_repeats(keys, sorted.as_slice(), marks.as_mut_slice());
     Ok(marks)
