@@ -5,6 +5,8 @@
 #![tactic(auto)]
 
 mod limits;
+mod naming;
+mod new_site;
 mod new_store;
 mod output;
 mod paths;
@@ -13,6 +15,8 @@ mod store;
 mod texts;
 
 pub use limits::{CATALOG_LIMIT, FileLimits};
+pub use naming::name_sites;
+pub use new_site::{BEGUN, NewSite};
 pub use new_store::{NewStoreFolder, Way, partial_path, way_to};
 pub use output::OutputFolder;
 pub use paths::file_in;

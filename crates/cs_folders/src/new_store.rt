@@ -29,8 +29,25 @@ pub fn partial_path(alloc: Global, path: &str) -> Result<String, AllocError> {
     format!(in alloc; "{path}.partial")
 }
 
+/// Writes a file, brings it to the disk, and reads it back: it must have the same bytes.
+pub(crate) fn write_checked<R: Files>(
+    alloc: Global,
+    rt: &R,
+    path: &str,
+    bytes: &[u8],
+) -> Result<(), StoreFault> {
+    write_synced(&mut SystemFiles(rt), path, bytes).map_err(failed)?;
+    // what is longer than was written is none of it
+    let limit = (bytes.len() as u64).min(u64::MAX / 2);
+    match read_file(alloc, rt, path, limit) {
+        Ok(Some(found)) if found.as_slice() == bytes => Ok(()),
+        Err(StoreFault::Memory) => Err(StoreFault::Memory),
+        _ => Err(StoreFault::Device),
+    }
+}
+
 /// Whether something is at this path, be it a link that leads nowhere.
-fn is_there<R: Files>(rt: &R, path: &str) -> Result<bool, StoreFault> {
+pub(crate) fn is_there<R: Files>(rt: &R, path: &str) -> Result<bool, StoreFault> {
     match fs::symlink_metadata(rt, path) {
         Ok(_) => Ok(true),
         Err(e) if e.kind() == io::ErrorKind::NotFound => Ok(false),
@@ -106,25 +123,13 @@ impl<R: Files> NewStoreFolder<R> {
         }
     }
 
-    /// Writes a file, brings it to the disk, and reads it back: it must have the same bytes.
-    fn write_checked(&self, path: &str, bytes: &[u8]) -> Result<(), StoreFault> {
-        write_synced(&mut SystemFiles(&self.rt), path, bytes).map_err(failed)?;
-        // what is longer than was written is none of it
-        let limit = (bytes.len() as u64).min(u64::MAX / 2);
-        match read_file(self.alloc, &self.rt, path, limit) {
-            Ok(Some(found)) if found.as_slice() == bytes => Ok(()),
-            Err(StoreFault::Memory) => Err(StoreFault::Memory),
-            _ => Err(StoreFault::Device),
-        }
-    }
-
     /// Writes the catalog and gives the folder its name.
     fn finish(&self) -> Result<(), StoreFault> {
         let catalog = path_in(self.alloc, self.partial.as_str(), "catalog.toml").map_err(
             no_memory,
         )?;
         let parent = path_in(self.alloc, self.path.as_str(), "..").map_err(no_memory)?;
-        self.write_checked(catalog.as_str(), self.catalog.as_slice())?;
+        write_checked(self.alloc, &self.rt, catalog.as_str(), self.catalog.as_slice())?;
         let named = put_folder(
             &mut SystemFiles(&self.rt),
             self.partial.as_str(),
@@ -146,7 +151,7 @@ impl<R: Files> Sink for NewStoreFolder<R> {
 
     fn put(&mut self, name: FileName, bytes: &[u8]) -> Result<(), StoreFault> {
         let path = file_in(self.alloc, self.partial.as_str(), name).map_err(no_memory)?;
-        let written = self.write_checked(path.as_str(), bytes);
+        let written = write_checked(self.alloc, &self.rt, path.as_str(), bytes);
         self.told(written)
     }
 

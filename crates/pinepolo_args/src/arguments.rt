@@ -97,8 +97,22 @@ pub const ARGUMENTS: &[Argument] = &[
         help: "Each site stands in the folder that this file names for it",
         verbs: &[
             "check", "show", "diagnose", "drill", "recover", "restore", "undo", "manifest",
-            "verify", "design", "dump",
+            "verify", "design", "dump", "relayout",
         ],
+    },
+    Argument {
+        id: "sites",
+        form: Form::Named("FILE", Value::Text),
+        presence: Presence::Optional,
+        help: "Each site of STORE gets the empty folder that this file names for it",
+        verbs: &["load"],
+    },
+    Argument {
+        id: "new-sites",
+        form: Form::Named("FILE", Value::Text),
+        presence: Presence::Optional,
+        help: "Each site of NEW gets the empty folder that this file names for it",
+        verbs: &["relayout"],
     },
     Argument {
         id: "to",

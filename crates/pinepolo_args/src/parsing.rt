@@ -6,7 +6,7 @@ ghost use Rattle.pinepolo_args.specs.Exits.{AsksForHelp, IsHelp};
 use crate::commands;
 use crate::options::Options;
 use crate::paths::path_problem;
-use crate::request::Request;
+use crate::request::{Request, Verb};
 use crate::verbs::verb_of;
 use clap::error::ErrorKind;
 use clap::{ArgMatches, Error};
@@ -85,12 +85,18 @@ fn requested<'a>(matches: &ArgMatches<'a>, processors: u32) -> Option<Request<'a
     if options.sites.is_none() && options.to.has_any() {
         return None;
     }
+    // the store of `load` is the one that it makes
+    let (sites, new_sites) = match verb {
+        Verb::Load(_) => (None, options.sites),
+        _ => (options.sites, options.new_sites),
+    };
     Some(Request {
         verb,
         workers: options.workers,
         json: options.json,
         quiet: options.quiet,
-        sites: options.sites,
+        sites,
+        new_sites,
         to: options.to,
     })
 }

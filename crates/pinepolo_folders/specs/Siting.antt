@@ -17,6 +17,7 @@ pub record IsSited (asked sited : Request) : Type 0 where
   pub json : sited.json ≡ asked.json
   pub quiet : sited.quiet ≡ asked.quiet
   pub sites : sited.sites ≡ asked.sites
+  pub new_sites : sited.new_sites ≡ asked.new_sites
   pub to : sited.to ≡ asked.to
 
 -- what is run is what was asked for, or why there is no request

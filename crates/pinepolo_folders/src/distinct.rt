@@ -6,16 +6,34 @@ use std::fs;
 use std::os::unix::fs::MetadataExt;
 use std::rt::Files;
 
-/// What a folder is on this system, whatever its path: its device, and its number there.
-fn identity<R: Files>(rt: &R, folder: &str) -> Option<(u64, u64)> {
-    match fs::metadata(rt, folder) {
-        Ok(found) => Some((found.dev(), found.ino())),
+/// What tells a folder from others on this system, whatever its path: its device, and its number there; if it is not there
+/// yet, those of the folder in which it is to be made, and its name.
+pub type FolderIdentity<'a> = (u64, u64, &'a str);
+
+/// The path of the folder in which a folder stands, and its name.
+fn parted(folder: &str) -> (&str, &str) {
+    let folder = folder.trim_end_matches('/');
+    match folder.rsplit_once('/') {
+        Some(("", name)) => ("/", name),
+        Some((parent, name)) => (parent, name),
+        None => (".", folder),
+    }
+}
+
+/// What tells a folder from others; none if neither it nor the folder around it is there.
+pub fn identity<'a, R: Files>(rt: &R, folder: &'a str) -> Option<FolderIdentity<'a>> {
+    if let Ok(found) = fs::metadata(rt, folder) {
+        return Some((found.dev(), found.ino(), ""));
+    }
+    let (parent, name) = parted(folder);
+    match fs::metadata(rt, parent) {
+        Ok(found) => Some((found.dev(), found.ino(), name)),
         Err(_) => None,
     }
 }
 
 /// The first of these sites that has the folder with this identity.
-fn owner_of<R: Files>(rt: &R, sites: &[SiteFolder], wanted: (u64, u64)) -> Option<u8> {
+pub fn owner_of<R: Files>(rt: &R, sites: &[SiteFolder], wanted: FolderIdentity<'_>) -> Option<u8> {
     for site in sites {
         if identity(rt, site.folder.as_str()) == Some(wanted) {
             return Some(site.number);

@@ -25,6 +25,8 @@ pub struct Folders<R> {
     faults: u64,
     /// The folders of the sites of the store that is read, if they have folders of their own.
     pub(crate) sites: Option<SiteFolders>,
+    /// The paths of those of the store that is made, in the order of the sites' numbers from 1.
+    pub(crate) new_sites: Option<Vec<String>>,
 }
 
 impl<R> Folders<R> {
@@ -35,6 +37,7 @@ impl<R> Folders<R> {
             rt,
             faults: 0,
             sites: None,
+            new_sites: None,
         }
     }
 }
@@ -90,7 +93,7 @@ impl<R: Files + Copy + Sync> Places for Folders<R> {
     ghost fault_count = { λ s. s.faults };
 
     fn catalog(&mut self, path: &str) -> Result<Vec<u8>, StoreFault> {
-        let read = match self.kept_catalog() {
+        let read = match self.kept_catalog(path) {
             Some(Ok(bytes)) => Ok(Some(bytes)),
             Some(Err(fault)) => Err(fault),
             None => match StoreFolder::new(self.alloc, self.rt, path, FileLimits::Fixed) {
@@ -102,7 +105,7 @@ impl<R: Files + Copy + Sync> Places for Folders<R> {
     }
 
     fn catalog_or_file(&mut self, path: &str) -> Result<Vec<u8>, StoreFault> {
-        let read = match self.kept_catalog() {
+        let read = match self.kept_catalog(path) {
             Some(Ok(bytes)) => Ok(Some(bytes)),
             Some(Err(fault)) => Err(fault),
             None => read_catalog_file(self.alloc, &self.rt, path),

@@ -7,6 +7,8 @@ mod distinct;
 mod folders;
 mod listing;
 mod meter;
+mod new_sites;
+mod new_store;
 mod rebuilt;
 mod replacing;
 mod shelves;

@@ -12,7 +12,7 @@ use std::io::ErrorKind;
 use std::rt::Files;
 
 /// What stands in each new file system of some kinds.
-const LOST_AND_FOUND: &str = "lost+found";
+pub const LOST_AND_FOUND: &str = "lost+found";
 
 /// The folder in which a restore keeps what it replaces. It is made there before anything else.
 const REPLACED: &str = "replaced";

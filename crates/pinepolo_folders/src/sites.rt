@@ -17,6 +17,8 @@ use std::rt::Files;
 /// The folders of a store's sites.
 #[derive(Drop)]
 pub struct SiteFolders {
+    /// The path of the store.
+    store: String,
     /// The paths of the sites' folders, in the order of their numbers from 1.
     folders: Vec<String>,
     /// The sites whose folders are away.
@@ -57,7 +59,7 @@ fn read_bytes<R: Files>(alloc: Global, rt: &R, file: &str) -> Result<Vec<u8>, Si
 
 /// The sites that a SITES file names, each with the path of its folder from where the program runs; and what is done once
 /// those with new folders are restored.
-fn named_sites<R: Files + Alloc + Clone + Drop>(
+pub fn named_sites<R: Files + Alloc + Clone + Drop>(
     alloc: Global,
     rt: &R,
     file: &str,
@@ -91,7 +93,7 @@ fn beside(alloc: Global, file: &str, named: &[SiteFolder]) -> Result<Vec<SiteFol
 
 /// The folders of the sites of the catalog with these bytes, in the order of their numbers; none if the bytes are no
 /// catalog, which whoever asks for it is told.
-fn placed(
+pub fn placed(
     alloc: Global,
     file: &str,
     sites: &[SiteFolder],
@@ -156,8 +158,12 @@ pub fn find_sites<R: Files + Alloc + Copy + Drop>(
     if let Some(error) = differing(alloc, copies.as_slice()) {
         return Err(error);
     }
+    let Ok(store) = String::from_str(alloc, store) else {
+        return Err(SitesError::OutOfMemory);
+    };
     let Some(copy) = copies.pop() else {
         return Ok(SiteFolders {
+            store,
             folders: Vec::new(alloc),
             away,
             catalog: None,
@@ -166,6 +172,7 @@ pub fn find_sites<R: Files + Alloc + Copy + Drop>(
     };
     match placed(alloc, file, sites.as_slice(), copy.bytes.as_slice()) {
         Ok(folders) => Ok(SiteFolders {
+            store,
             folders,
             away,
             catalog: Some(copy.bytes),
@@ -242,11 +249,11 @@ impl<R: Files + Alloc + Copy + Drop> Folders<R> {
 }
 
 impl<R: Files + Copy> Folders<R> {
-    /// The bytes of the catalog of which the sites have copies, if there is one.
-    pub(crate) fn kept_catalog(&self) -> Option<Result<Vec<u8>, StoreFault>> {
+    /// The bytes of the catalog of which the sites of the store at this path have copies, if there is one.
+    pub(crate) fn kept_catalog(&self, path: &str) -> Option<Result<Vec<u8>, StoreFault>> {
         let sites = match &self.sites {
-            Some(sites) => sites,
-            None => return None,
+            Some(sites) if sites.store.as_str() == path => sites,
+            _ => return None,
         };
         match sites.catalog() {
             Some(bytes) => match Vec::from_slice(self.alloc, bytes) {

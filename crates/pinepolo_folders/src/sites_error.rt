@@ -28,6 +28,12 @@ pub enum SitesError {
     CatalogsDiffer(CatalogCopy, CatalogCopy),
     /// The SITES file has no site of this number, which is given a new folder.
     NoSite(u8),
+    /// In the SITES file at the first path, this site has the folder of the new store, which is at the second path.
+    StoreFolder(String, u8, String),
+    /// The folder of a site of a new store at this path is not empty and cannot be made.
+    NotFree(String),
+    /// The folder of a site of a new store at this path has what a run left there that was stopped.
+    Begun(String),
     /// The new folder of a site at this path cannot be listed.
     NoFolder(String),
     /// The new folder of a site at this path is not empty.
@@ -64,9 +70,13 @@ impl SitesError {
             SitesError::Unreadable(_) | SitesError::NoFolder(_) => DEVICE,
             SitesError::Refused(..)
             | SitesError::OneFolder(..)
+            | SitesError::StoreFolder(..)
             | SitesError::NoSite(_)
             | SitesError::NotRewritable(_) => USAGE,
-            SitesError::CatalogsDiffer(..) | SitesError::NotEmpty(_) => REFUSED,
+            SitesError::CatalogsDiffer(..)
+            | SitesError::NotEmpty(_)
+            | SitesError::NotFree(_)
+            | SitesError::Begun(_) => REFUSED,
         }
     }
 
@@ -78,7 +88,15 @@ impl SitesError {
             SitesError::Refused(..) => {
                 "give each site of the catalog one [[site]] table, with its number and its folder"
             }
-            SitesError::OneFolder(..) => "give each site a folder of its own",
+            SitesError::OneFolder(..) | SitesError::StoreFolder(..) => {
+                "give each site a folder of its own"
+            }
+            SitesError::NotFree(_) => {
+                "give an empty folder, or a path at which nothing is, in a folder that is there"
+            }
+            SitesError::Begun(_) => {
+                "check that no other run writes it, then give --replace-partial"
+            }
             SitesError::CatalogsDiffer(..) => "put the right one in the place of the other",
             SitesError::NoSite(_) => "give --to the number of a site that the file names",
             SitesError::NoFolder(_) => "see that it is a folder that may be read",
@@ -111,6 +129,21 @@ impl fmt::Display for SitesError {
                     f,
                     "fault: {file}: sites {first} and {second} have one folder: {folder}"
                 )?;
+            }
+            SitesError::StoreFolder(file, site, folder) => {
+                let (file, folder) = (file.as_str(), folder.as_str());
+                writeln!(
+                    f,
+                    "fault: {file}: site {site} has the folder of the new store: {folder}"
+                )?;
+            }
+            SitesError::NotFree(folder) => {
+                let folder = folder.as_str();
+                writeln!(f, "fault: {folder} is not an empty folder and cannot be made")?;
+            }
+            SitesError::Begun(folder) => {
+                let folder = folder.as_str();
+                writeln!(f, "fault: {folder} has files that are left from an unfinished run")?;
             }
             SitesError::CatalogsDiffer(one, other) => {
                 write!(f, "fault: two copies of catalog.toml differ\n{one}{other}")?;

@@ -72,6 +72,7 @@ impl<R: Files + Alloc + Copy + Drop> Folders<R> {
         ensures { IfOk result (λ sited. AreSited parsed.entry sited.parsed) }
     {
         self.sites = None;
+        self.new_sites = None;
         let mut request = match parsed {
             Ok(request) => request,
             Err(exit) => {
@@ -89,6 +90,11 @@ impl<R: Files + Alloc + Copy + Drop> Folders<R> {
             }
             None => Vec::new(self.alloc),
         };
+        if let Some(file) = request.new_sites {
+            if let Err(error) = self.use_new_sites(file, &request.verb) {
+                return Err(error);
+            }
+        }
         lose_away(&mut request, away.as_slice());
         let parsed = Ok(request);
         Ok(SitedRequest { parsed, away })

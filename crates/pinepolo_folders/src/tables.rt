@@ -2,15 +2,16 @@
 ghost use Rattle.std.specs.Prelude.{⊤};
 
 use crate::folders::Folders;
-use cs_folders::{NewStoreFolder, open_text, way_to, write_whole};
+use crate::new_store::SystemStore;
+use cs_folders::{open_text, way_to, write_whole};
 use cs_store::StoreFault;
 use pinepolo_places::{Tables, Way};
 use std::rt::Files;
 
-impl<R: Files + Copy> Tables for Folders<R> {
+impl<R: Files + Alloc + Copy + Drop> Tables for Folders<R> {
     type Input = R::File;
 
-    type NewStore = NewStoreFolder<R>;
+    type NewStore = SystemStore<R>;
 
     ghost opens_table = { λ s path input t. ⊤ };
 
@@ -27,8 +28,8 @@ impl<R: Files + Copy> Tables for Folders<R> {
         self.told(opened)
     }
 
-    fn new_store(&mut self, path: &str, catalog: &[u8]) -> Result<NewStoreFolder<R>, StoreFault> {
-        let made = NewStoreFolder::make(self.alloc, self.rt, path, catalog);
+    fn new_store(&mut self, path: &str, catalog: &[u8]) -> Result<SystemStore<R>, StoreFault> {
+        let made = SystemStore::make(self.alloc, self.rt, path, catalog, &self.new_sites);
         self.told(made)
     }
 

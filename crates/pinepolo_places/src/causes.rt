@@ -25,8 +25,8 @@ pub enum Failure {
     WriteOutput(Option<FileName>),
     /// Something new was made at a path.
     MakeNew,
-    /// This file of a new store was written.
-    WriteNew(FileName),
+    /// Part of a new store was written, which stands in place of the path.
+    WriteNew,
     /// The record of a restore or an undo was written.
     WriteRecord,
     /// The record of a restore or an undo was removed.
@@ -118,8 +118,8 @@ pub fn failure_texts(failure: &Failure) -> (&'static str, &'static str) {
             "could not write {0}",
             "check that its parent folder is there and may be written to",
         ),
-        Failure::WriteNew(_) => (
-            "could not write {0}.partial/{4}",
+        Failure::WriteNew => (
+            "could not write {0}",
             "check that the disk has room, and run it again with --replace-partial",
         ),
         Failure::WriteRecord => (

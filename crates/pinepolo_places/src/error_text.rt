@@ -55,9 +55,7 @@ impl fmt::Display for Part<'_> {
 /// The number or the verb, and the file, that a failure is about.
 fn failure_details(failure: &Failure) -> (Detail, Detail) {
     match failure {
-        Failure::WriteOutput(Some(name)) | Failure::WriteNew(name) => {
-            (Detail::Nothing, Detail::File(*name))
-        }
+        Failure::WriteOutput(Some(name)) => (Detail::Nothing, Detail::File(*name)),
         Failure::WriteOutput(None) => (Detail::Nothing, Detail::Mark),
         Failure::RemoveRecord(verb) => (Detail::Verb(*verb), Detail::Nothing),
         Failure::ReachSite(site) => (Detail::Number(u32::from(*site)), Detail::Nothing),
@@ -155,6 +153,12 @@ impl VerbError {
                 (error.subject.path.as_str(), error.subject.words.as_str())
             }
         }
+    }
+
+    /// Whether the error is about what is at this path.
+    pub fn is_about(&self, path: &str) -> bool {
+        let (about, _words) = self.subject();
+        about == path
     }
 
     /// What else the texts name.

@@ -25,4 +25,4 @@ pub use finding::{find_store, find_store_text, look_up, look_up_text};
 pub use listings::Listings;
 pub use places::Places;
 pub use shelves::{GivenBack, RestoreOf, Shelves};
-pub use tables::Tables;
+pub use tables::{NewFiles, Tables};

@@ -2,8 +2,16 @@
 ghost use Rattle.std.specs.Prelude.{◌≡◌, ℕ, List, ◌≤◌, IfOk, OnOk, IsErrOf};
 
 use cs_folders::Way;
+use cs_schema::FileName;
 use cs_store::{Sink, StoreFault};
+use std::alloc::{AllocError, Global};
 use std::io::Read;
+
+/// What takes the files of a new store, and can say what of it could not be written.
+pub trait NewFiles {
+    /// The path of what takes the bytes of this file, or without a file that of the store, with what has its name already.
+    fn unwritten(&self, alloc: Global, at: Option<FileName>) -> Result<String, AllocError>;
+}
 
 /// Tables as CSV, and new stores, by path. Places in memory can say by their ghost members what they found and made; those
 /// over folders say nothing.
@@ -12,7 +20,7 @@ pub trait Tables {
     type Input: Read + Drop;
 
     /// What takes the files of a new store. Its mark gives the store its name.
-    type NewStore: Sink + Drop;
+    type NewStore: Sink + NewFiles + Drop;
 
     /// A text that was found: the state before, the path, the stream, and the state after.
     ghost opens_table: { Self → List ℕ → Self.Input → Self → Type 0 };

@@ -5,7 +5,7 @@ ghost use Rattle.pinepolo_run.specs.TablePromises.{MakesStore, WritesStore};
 use cs_design::{fatal_losses, greatest_k};
 use cs_schema::{Catalog, Loss};
 use cs_store::{Fault, FileSet, StoreFault, save};
-use pinepolo_places::{Failure, Tables, VerbError};
+use pinepolo_places::{Failure, NewFiles, Tables, VerbError};
 use pinepolo_text::NewStore;
 use std::alloc::Global;
 
@@ -33,14 +33,18 @@ pub fn unsafe_already(alloc: Global, catalog: &Catalog, path: &str) -> VerbError
     VerbError::of_store(alloc, catalog, path, &Fault::Unsafe(Loss::none()))
 }
 
-/// The error for a file of a new store that could not be written.
-fn write_error(alloc: Global, fault: &Fault, path: &str) -> VerbError {
-    let failure = match fault {
-        Fault::Write(Some(name)) => Failure::WriteNew(*name),
-        Fault::Write(None) => Failure::MakeNew,
-        _ => return VerbError::OutOfMemory,
+/// The error for a new store of which a part could not be written.
+fn write_error<S: NewFiles>(alloc: Global, store: &S, fault: &Fault) -> VerbError {
+    let Fault::Write(at) = fault else {
+        return VerbError::OutOfMemory;
     };
-    VerbError::of_device(alloc, StoreFault::Device, failure, path)
+    match store.unwritten(alloc, *at) {
+        Ok(part) => {
+            let failure = Failure::WriteNew;
+            VerbError::of_device(alloc, StoreFault::Device, failure, part.as_str())
+        }
+        Err(_) => VerbError::OutOfMemory,
+    }
 }
 
 /// Begins the store, puts the files there and gives it its name.
@@ -59,7 +63,7 @@ fn write_store<P: Tables>(
     };
     match save(files, &mut sink) {
         Ok(()) => Ok(()),
-        Err(fault) => Err(write_error(alloc, &fault, path)),
+        Err(fault) => Err(write_error(alloc, &sink, &fault)),
     }
 }
 

@@ -113,10 +113,13 @@ fn say_error<W: Write, E: Write>(
     ensures { IsSaid (status_of error.now) result }
 {
     if request.json && error.is_refusal() {
-        say_refusal(alloc, request.verb.name(), error, out)
-    } else {
-        report(error, request.sites, err)
+        return say_refusal(alloc, request.verb.name(), error, out);
     }
+    let sites = match request.sites {
+        Some(file) if error.is_about(request.verb.path()) => Some(file),
+        _ => None,
+    };
+    report(error, sites, err)
 }
 
 /// Performs a verb.

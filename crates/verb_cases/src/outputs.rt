@@ -7,6 +7,7 @@ use cs_parallel_io::{BatchSink, NoWriter};
 use cs_schema::FileName;
 use cs_store::memory::MemorySink;
 use cs_store::{FileSet, Sink, StoreFault};
+use pinepolo_places::NewFiles;
 use std::alloc::{AllocError, Global};
 use std::cell::RefCell;
 use std::rc::Rc;
@@ -103,6 +104,16 @@ impl Sink for MemoryOutput {
 
     fn faults(&self) -> u64 {
         self.sink.faults
+    }
+}
+
+impl NewFiles for MemoryOutput {
+    fn unwritten(&self, alloc: Global, at: Option<FileName>) -> Result<String, AllocError> {
+        let path = self.path.as_str();
+        match at {
+            Some(name) => format!(in alloc; "{path}.partial/{name}"),
+            None => String::from_str(alloc, path),
+        }
     }
 }
 
