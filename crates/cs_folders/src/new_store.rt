@@ -129,7 +129,12 @@ impl<R: Files> NewStoreFolder<R> {
             no_memory,
         )?;
         let parent = path_in(self.alloc, self.path.as_str(), "..").map_err(no_memory)?;
-        write_checked(self.alloc, &self.rt, catalog.as_str(), self.catalog.as_slice())?;
+        write_checked(
+            self.alloc,
+            &self.rt,
+            catalog.as_str(),
+            self.catalog.as_slice(),
+        )?;
         let named = put_folder(
             &mut SystemFiles(&self.rt),
             self.partial.as_str(),

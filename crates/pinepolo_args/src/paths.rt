@@ -3,7 +3,16 @@ use clap::ArgMatches;
 
 /// The arguments that are paths or names of files.
 const PATHS: &[&str] = &[
-    "catalog", "file", "manifest", "new", "new-sites", "output", "sites", "store", "svg", "table",
+    "catalog",
+    "file",
+    "manifest",
+    "new",
+    "new-sites",
+    "output",
+    "sites",
+    "store",
+    "svg",
+    "table",
 ];
 
 /// Those that are paths of tables and pictures.

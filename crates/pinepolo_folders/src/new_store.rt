@@ -54,12 +54,7 @@ fn routes_of(alloc: Global, catalog: &[u8], sites: usize) -> Result<Routes, Stor
 
 impl<R: Files + Alloc + Copy + Drop> NewSites<R> {
     /// Begins the folders of the sites of a store with this catalog.
-    fn begin(
-        alloc: Global,
-        rt: R,
-        folders: &[String],
-        catalog: &[u8],
-    ) -> Result<Self, StoreFault> {
+    fn begin(alloc: Global, rt: R, folders: &[String], catalog: &[u8]) -> Result<Self, StoreFault> {
         let routes = routes_of(alloc, catalog, folders.len())?;
         let mut sites = Vec::new(alloc);
         for folder in folders {

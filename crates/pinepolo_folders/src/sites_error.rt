@@ -139,11 +139,17 @@ impl fmt::Display for SitesError {
             }
             SitesError::NotFree(folder) => {
                 let folder = folder.as_str();
-                writeln!(f, "fault: {folder} is not an empty folder and cannot be made")?;
+                writeln!(
+                    f,
+                    "fault: {folder} is not an empty folder and cannot be made"
+                )?;
             }
             SitesError::Begun(folder) => {
                 let folder = folder.as_str();
-                writeln!(f, "fault: {folder} has files that are left from an unfinished run")?;
+                writeln!(
+                    f,
+                    "fault: {folder} has files that are left from an unfinished run"
+                )?;
             }
             SitesError::CatalogsDiffer(one, other) => {
                 write!(f, "fault: two copies of catalog.toml differ\n{one}{other}")?;
