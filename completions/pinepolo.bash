@@ -11,14 +11,14 @@ _pinepolo() {
     diagnose) words="--at-most --disputes --manifest --sites --workers --quiet --json" ;;
     drill) words="--lose --sites --workers --quiet --json" ;;
     recover) words="--sites --workers --quiet --json" ;;
-    restore) words="--dry-run --accept-loss --resume --workers --quiet --json" ;;
-    undo) words="--resume --quiet --json" ;;
+    restore) words="--dry-run --accept-loss --resume --sites --to --workers --quiet --json" ;;
+    undo) words="--resume --sites --quiet --json" ;;
     manifest) words="--site --sites" ;;
     verify) words="--manifest --site --sites --json" ;;
     design) words="--lost --sites --json --svg" ;;
-    load) words="--workers --quiet --json --replace-partial" ;;
+    load) words="--sites --workers --quiet --json --replace-partial" ;;
     dump) words="--lost --sites --workers --quiet" ;;
-    relayout) words="--lost --workers --quiet --json --replace-partial" ;;
+    relayout) words="--lost --sites --new-sites --workers --quiet --json --replace-partial" ;;
     esac
     mapfile -t COMPREPLY < <(compgen -W "$words" -- "$word"; compgen -f -- "$word")
 }
