@@ -1,8 +1,8 @@
 """The states of a folder that a crash may leave, by what a file system promises.
 
 A synced file has its data and its mode, and a synced folder its names. A mode that was not synced is gone. Of what was done since then
-- `journal` leaves the changes of names in their order, of all folders together, and of each file the data that was
-  written up to some moment; a sync brings all earlier changes of names to the disk, as a journal of metadata does;
+- `journal` leaves the changes of names in their order, of all folders of a disk together, and of each file the data that was
+  written up to some moment; a sync brings all earlier changes of names to its disk, as a journal of metadata does;
 - `ordered` leaves the changes of each folder in their order, whatever became of other folders and of files;
 - `weak` leaves any of the changes of names, and zeros may stand for data.
 A rename is one step in each of them. Data whose sync failed is gone, unless it was written again.
@@ -32,20 +32,24 @@ class Choice:
     zeros: frozenset = frozenset()
 
 
-def folders_of(op):
-    return {folder for folder, _, _ in op.names}
+def part_of(log, model, node):
+    """That of which the names stay in their order, and are synced at once: a disk, or a folder."""
+    return log.disks[node] if model == "journal" else node
+
+
+def parts_of(log, model, op):
+    return {part_of(log, model, folder) for folder, _, _ in op.names}
 
 
 @lru_cache(4096)
 def pending_names(log, count, model):
     """The changes of names, of so many first changes, that a crash may undo."""
-    pending, synced, is_synced = [], set(), False
+    pending, synced = [], set()
     for at in reversed(range(count)):
         op = log.ops[at]
         if op.kind == "sync":
-            synced.add(op.node)
-            is_synced = True
-        elif op.kind == "names" and not (is_synced if model == "journal" else folders_of(op) & synced):
+            synced.add(part_of(log, model, op.node))
+        elif op.kind == "names" and not parts_of(log, model, op) & synced:
             pending.append(at)
     return pending[::-1]
 
@@ -77,17 +81,17 @@ def modes_of(log, count):
     return modes
 
 
-def in_order(log, pending, random):
-    """Of these changes those that are left if each folder keeps its own up to some moment."""
-    folders = sorted({folder for at in pending for folder in folders_of(log.ops[at])})
-    until = {folder: random.choice([-1, *pending]) for folder in folders}
+def in_order(log, pending, model, random):
+    """Of these changes those that are left if each folder, or each disk, keeps its own up to some moment."""
+    parts = sorted({part for at in pending for part in parts_of(log, model, log.ops[at])})
+    until = {part: random.choice([-1, *pending]) for part in parts}
     left = set()
     for at in pending:
-        folders = folders_of(log.ops[at])
-        if all(at <= until[folder] for folder in folders):
+        parts = parts_of(log, model, log.ops[at])
+        if all(at <= until[part] for part in parts):
             left.add(at)
         else:
-            until.update(dict.fromkeys(folders, -1))
+            until.update(dict.fromkeys(parts, -1))
     return frozenset(left)
 
 
@@ -101,16 +105,12 @@ def extremes(log, count, model):
 def chosen(log, count, model, random):
     """One of the states that a crash after so many changes may leave."""
     names, (writes, _) = pending_names(log, count, model), pending_writes(log, count)
-    if model == "journal":
-        kept = frozenset(names[:random.randint(0, len(names))])
-    elif model == "ordered":
-        kept = in_order(log, names, random)
-    else:
-        kept = frozenset(at for at in names if random.random() < 0.6)
+    is_weak = model == "weak"
+    kept = frozenset(at for at in names if random.random() < 0.6) if is_weak else in_order(log, names, model, random)
     counts = {node: random.randint(0, len(ats)) for node, ats in writes.items()}
     some = [node for node in writes if counts[node] > 0]
     halves = frozenset(node for node in some if random.random() < 0.3)
-    zeros = frozenset(node for node in some if model == "weak" and random.random() < 0.3)
+    zeros = frozenset(node for node in some if is_weak and random.random() < 0.3)
     return Choice(kept, counts, halves, zeros)
 
 

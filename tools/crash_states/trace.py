@@ -36,32 +36,35 @@ class Op:
 
 
 class Log:
-    """The changes below a folder, over all programs that were traced, with what each of them sees."""
+    """The changes below a folder, over all programs that were traced, with what each of them sees.
 
-    def __init__(self, root):
-        self.root = os.path.realpath(root)
+    All is on one disk, or each folder in it is a disk.
+    """
+
+    def __init__(self, root, has_disks=False):
+        self.root, self.has_disks = os.path.realpath(root), has_disks
         self.nodes, self.ops, self.seen = [], [], {}
-        self.names, self.sizes = {}, {}
-        self.scan(self.root)
+        self.names, self.sizes, self.disks = {}, {}, []
+        self.scan(self.root, "")
 
     def until(self, count, state, root):
         """The log after so many changes, of a folder at another place in which this state was made."""
         log = copy.copy(self)
-        log.root, log.nodes, log.ops = os.path.realpath(root), list(self.nodes), self.ops[:count]
+        log.root, log.nodes, log.disks, log.ops = os.path.realpath(root), list(self.nodes), list(self.disks), self.ops[:count]
         log.names = {at: dict(names) for at, names in state[0].items()}
         log.sizes = {at: len(data) for at, data in state[1].items()}
         return log
 
-    def scan(self, path):
+    def scan(self, path, disk):
         """The node of what stands at a path."""
         found = os.lstat(path)
         if (at := self.seen.get(found.st_ino)) is not None:
             return at
-        at = self.seen[found.st_ino] = self.add(Node("pipe"))
+        at = self.seen[found.st_ino] = self.add(Node("pipe"), disk)
         node = self.nodes[at]
         if stat.S_ISDIR(found.st_mode):
             node.kind = "folder"
-            node.names = {name: self.scan(f"{path}/{name}") for name in sorted(os.listdir(path))}
+            node.names = {name: self.scan(f"{path}/{name}", disk or self.disk_of(f"{path}/{name}")) for name in sorted(os.listdir(path))}
             self.names[at] = dict(node.names)
         elif stat.S_ISLNK(found.st_mode):
             node.kind, node.data = "link", os.readlink(path).encode()
@@ -71,8 +74,13 @@ class Log:
             self.sizes[at] = len(node.data)
         return at
 
-    def add(self, node):
+    def disk_of(self, path):
+        """The disk of what stands in the root, as the name of its folder, or none."""
+        return os.path.basename(path) if self.has_disks and os.path.isdir(path) else ""
+
+    def add(self, node, disk):
         self.nodes.append(node)
+        self.disks.append(disk)
         at = len(self.nodes) - 1
         self.names[at], self.sizes[at] = {}, 0
         return at
@@ -97,6 +105,8 @@ class Log:
 
     def change(self, *names):
         """Names that change at one blow."""
+        if len({self.disks[folder] for folder, _, _ in names}) > 1:
+            raise ValueError(f"a name from one disk to another: {names}")
         for folder, name, node in names:
             if node is None:
                 self.names[folder].pop(name, None)
@@ -106,7 +116,7 @@ class Log:
 
     def make(self, kind, path, data=b""):
         if (place := self.place(path)) is not None:
-            self.change((*place, self.add(Node(kind, data))))
+            self.change((*place, self.add(Node(kind, data), self.disks[place[0]])))
 
     def write(self, node, at, data):
         self.sizes[node] = max(self.sizes[node], at + len(data))
@@ -153,7 +163,7 @@ class Log:
             return None
         node = self.node(path)
         if node is None:
-            node = self.add(Node("file"))
+            node = self.add(Node("file"), self.disks[place[0]])
             self.change((*place, node))
         elif "O_TRUNC" in flags and self.sizes[node] > 0:
             self.truncate(node, 0)

@@ -7,39 +7,13 @@ import shutil
 import stat
 import subprocess
 import tempfile
-import tomllib
 from functools import cache
 
-SITES = ("2", "3")
-# What comes to stand under the names of the lost sites, in turn.
-RUINS = ("half", "pipe", "nothing", "folder", "empty", "sound")
-# The mode of each half of a file.
-HALF_MODE = 0o640
-# Where the copies of a larger store may be cut, by their sort columns: each at the first of these.
-CUTS = {"part": list(range(101, 116)), "name": list("bcdefghijklmnop"), "shelf": [f"{it}{at}" for it in "ABCDE" for at in (1, 2, 3)]}
+from crash_states.stores import HALF_MODE, LOST, RUINS, files_of, lost_names, name_folders, names_in, ruin, site_of, spread, thing
+from crash_states.trace import is_below, traced
 
-
-def thing(path):
-    """What stands at a path, with all that is in it."""
-    try:
-        mode = os.lstat(path).st_mode
-    except FileNotFoundError:
-        return None
-    if stat.S_ISDIR(mode):
-        return {name: thing(f"{path}/{name}") for name in sorted(os.listdir(path))}
-    if stat.S_ISREG(mode):
-        with open(path, "rb") as file:
-            return file.read()
-    return os.readlink(path) if stat.S_ISLNK(mode) else "pipe"
-
-
-def files_of(store):
-    """What stands under the names of a store's files."""
-    return {name: thing(f"{store}/{name}") for name in sorted(os.listdir(store)) if name[0] == "p" and name[1].isdigit() and not name.endswith(".restoring")}
-
-
-def mode_of(path):
-    return stat.S_IMODE(os.lstat(path).st_mode)
+# Where a site has a folder of its own, each folder of a room is a disk.
+SITED = "--sites"
 
 
 def digest_of(found):
@@ -53,51 +27,11 @@ def ended(words, status, said):
     return [] if status == 0 else [f"{' '.join(word for word in words if '/' not in word)}: status {status}, {line}"]
 
 
-def lost_names(store):
-    """The names of the files of the lost sites."""
-    with open(f"{store}/catalog.toml", "rb") as file:
-        projections = tomllib.load(file)["projection"]
-    sites = {f"p{at}.s{part}": str(site) for at, it in enumerate(projections) for part, site in enumerate(it["sites"])}
-    return [name for name in sorted(os.listdir(store)) if sites.get(".".join(name.split(".")[:2])) in SITES]
-
-
-def ruin(path, how):
-    """Puts something else in the place of a file."""
-    if how == "half":
-        os.truncate(path, os.path.getsize(path) // 2)
-        os.chmod(path, HALF_MODE)
-    elif how == "empty":
-        os.truncate(path, 0)
-    elif how != "sound":
-        os.remove(path)
-    if how == "pipe":
-        os.mkfifo(path)
-    elif how == "folder":
-        os.mkdir(path)
-        with open(f"{path}/inner", "w") as file:
-            file.write("inner")
-
-
-def larger_store(program, examples, parent, segments):
-    """Loads the table of examples/two-of-six into three copies of so many segments. Each is on a site and leads to the others."""
-    with open(f"{examples}/two-of-six/catalog.toml") as file:
-        head, *copies = file.read().replace("sites = 6", "sites = 3").split("[[projection]]")
-    for site, (copy, (column, cuts)) in enumerate(zip(copies, CUTS.items()), 1):
-        kept = copy.partition("cuts =")[0]
-        joins = [f"by_{it}" for it in CUTS if it != column]
-        head += f"[[projection]]{kept}cuts = {json.dumps(cuts[:segments - 1])}\nsites = {[site] * segments}\njoins = {json.dumps(joins)}\n"
-    with open(f"{parent}/catalog.toml", "w") as file:
-        file.write(head)
-    store = f"{parent}/larger"
-    subprocess.run([program, "load", f"{parent}/catalog.toml", f"{examples}/two-of-six/parts.csv", store], check=True, stdout=subprocess.DEVNULL)
-    return store
-
-
 class Verb:
     """A verb in a folder of its own, with the program that does it."""
 
-    def __init__(self, name, program, example):
-        self.name, self.program, self.example = name, program, example
+    def __init__(self, name, program, example, sited):
+        self.name, self.program, self.example, self.sited = name, program, example, sited
         self.does = name.removeprefix("resume-")
 
     @cache
@@ -116,65 +50,76 @@ class Verb:
         """Whether what is to be resumed by the words of a fault is unfinished."""
         return "--resume" not in said or os.path.lexists(f"{room}/store/RESTORING")
 
-    def break_store(self, store):
-        """A store of which two sites are lost."""
-        shutil.copytree(self.example, store)
-        for at, name in enumerate(lost_names(store)):
-            ruin(f"{store}/{name}", RUINS[at % len(RUINS)])
+    def folders(self, room, kind="s"):
+        """The folders of the sites of a store."""
+        return [f"{room}/{kind}{site}" for site in sorted(set(site_of(f"{self.example}/catalog.toml").values()))] if self.sited else []
+
+    def store(self, room):
+        """The store of a room, as words of a command line."""
+        return [SITED, f"{room}/sites.toml", f"{room}/store"] if self.sited else [f"{room}/store"]
 
 
 class InPlace(Verb):
     """`restore`, or `undo` of one."""
 
     def prepare(self, room):
-        self.break_store(f"{room}/store")
-        broken, whole = files_of(f"{room}/store"), files_of(self.example)
+        shutil.copytree(self.example, f"{room}/store")
+        for at, name in enumerate(lost_names(self.example)):
+            ruin(f"{room}/store/{name}", RUINS[at % len(RUINS)])
+        if self.sited:
+            spread(room)
+        broken, whole = self.files(room), files_of([self.example])
         self.changed = sorted(name for name in whole if whole[name] != broken.get(name))
         self.before, self.after = (broken, whole) if self.does == "restore" else (whole, broken)
-        if self.does == "undo" and (failed := self.run("restore", "--quiet", f"{room}/store", *SITES)):
+        if self.does == "undo" and (failed := self.run("restore", "--quiet", *self.store(room), *LOST)):
             raise RuntimeError(failed[0])
 
+    def all_folders(self, room):
+        return [f"{room}/store", *self.folders(room)]
+
+    def files(self, room):
+        return files_of(self.all_folders(room))
+
     def words(self, room):
-        return ["restore", "--quiet", f"{room}/store", *SITES] if self.does == "restore" else ["undo", f"{room}/store", "1"]
+        return ["restore", "--quiet", *self.store(room), *LOST] if self.does == "restore" else ["undo", *self.store(room), "1"]
 
     def has_ended(self, room):
-        return not os.path.lexists(f"{room}/store/RESTORING") and files_of(f"{room}/store") == self.after
+        return not os.path.lexists(f"{room}/store/RESTORING") and self.files(room) == self.after
 
     def go_on(self, room, run):
         """Goes on as the documents say."""
-        store = f"{room}/store"
-        if os.path.lexists(f"{store}/RESTORING"):
-            return run(self.does, "--resume", store)
+        if os.path.lexists(f"{room}/store/RESTORING"):
+            return run(self.does, "--resume", *self.store(room))
         if self.has_ended(room):
             return []
-        if files_of(store) != self.before:
+        if self.files(room) != self.before:
             return ["changed, and RESTORING is gone"]
         return run(*self.words(room))
 
     def faults(self, room):
         """What is wrong with a store in which the verb has ended, and with what is left of it after an undo."""
-        store = f"{room}/store"
-        if files_of(store) != self.after:
-            return [f"not right: {' '.join(name for name in self.changed if files_of(store).get(name) != self.after.get(name))}"]
-        wrong = self.lost(store) + self.told(store)
+        if self.files(room) != self.after:
+            return [f"not right: {' '.join(name for name in self.changed if self.files(room).get(name) != self.after.get(name))}"]
+        wrong = self.lost(room) + self.told(f"{room}/store/restores.jsonl")
         # What replaces a file has its mode.
+        paths = names_in(self.all_folders(room))
         halves = lost_names(self.example)[::len(RUINS)]
-        wrong += [f"another mode: {name}" for name in halves if mode_of(f"{store}/{name}") != HALF_MODE]
-        wrong += self.run("undo", store)
-        if not wrong and files_of(store) != self.before:
+        wrong += [f"another mode: {name}" for name in halves if stat.S_IMODE(os.lstat(paths[name]).st_mode) != HALF_MODE]
+        wrong += self.run("undo", *self.store(room))
+        if not wrong and self.files(room) != self.before:
             wrong.append("an undo gives back something else")
-        over = [name for name in os.listdir(store) if name.startswith("RESTORING") or name.endswith(".restoring")]
+        over = [name for name in names_in(self.all_folders(room)) if name.startswith("RESTORING") or name.endswith(".restoring")]
         return wrong + ([f"left over: {' '.join(sorted(over))}"] if over else [])
 
-    def lost(self, store):
+    def lost(self, room):
         """Names of which nothing keeps what they had."""
-        kept = [files_of(f"{store}/replaced/{number}") for number in os.listdir(f"{store}/replaced")] if os.path.isdir(f"{store}/replaced") else []
+        kept = [files_of([path]) for folder in self.all_folders(room) for path in names_in([f"{folder}/replaced"]).values()]
         return [f"lost: {name}" for name in self.changed if name in self.before and all(it.get(name) != self.before[name] for it in kept)]
 
-    def told(self, store):
+    def told(self, journal):
         """What is wrong with the line of the journal."""
         found = []
-        for line in (thing(f"{store}/restores.jsonl") or b"").splitlines():
+        for line in (thing(journal) or b"").splitlines():
             try:
                 found.append(json.loads(line))
             except ValueError:
@@ -197,17 +142,26 @@ class InPlace(Verb):
 
 
 class Resumed(InPlace):
-    """`restore --resume` or `undo --resume`, after a kill among the renames."""
+    """`restore --resume` or `undo --resume`, after a kill among the changes of names."""
 
     def prepare(self, room):
         super().prepare(room)
-        kill = ["-e", "trace=rename", "-e", f"inject=rename:signal=KILL:when={len(self.changed)}"]
-        subprocess.run(["strace", "-f", *kill, self.program, *super().words(room)], stdin=subprocess.DEVNULL, capture_output=True)
+        copy = tempfile.mkdtemp(dir=os.path.dirname(room))
+        subprocess.run(["cp", "-a", f"{room}/.", copy], check=True)
+        _, _, lines = traced([self.program, *super().words(copy)], ("rename", "unlink"))
+        shutil.rmtree(copy)
+        changes = [line for line in lines if any(is_below(line, f"/{name}") for name in self.changed)]
+        half = changes[len(changes) // 2]
+        # strace counts the calls of each thread.
+        begin = half.partition("(")[0]
+        number = sum(line.startswith(begin) for line in lines[:lines.index(half) + 1])
+        call = begin.split()[1]
+        traced([self.program, *super().words(room)], (call,), f"{call}:signal=KILL:when={number}")
         if not os.path.lexists(f"{room}/store/RESTORING"):
             raise RuntimeError("not killed")
 
     def words(self, room):
-        return [self.does, "--resume", f"{room}/store"]
+        return [self.does, "--resume", *self.store(room)]
 
 
 class IntoNew(Verb):
@@ -219,42 +173,69 @@ class IntoNew(Verb):
         self.run("dump", self.example, f"{room}/table.csv")
         if self.name == "recover":
             os.remove(f"{room}/store/{lost_names(self.example)[0]}")
-        self.beside = files_of(f"{room}/store")
-        with_room = f"{room}/made"
-        self.run(*self.words(with_room, room))
-        self.after = thing(f"{with_room}.new")
-        shutil.rmtree(f"{with_room}.new") if isinstance(self.after, dict) else os.remove(f"{with_room}.new")
+        if self.sited:
+            spread(room)
+            name_folders(room, "new.toml", sorted(set(site_of(f"{room}/catalog.toml").values())), "n")
+            for folder in self.folders(room, "n"):
+                os.mkdir(folder)
+        self.beside = self.not_made(room)
+        copy = tempfile.mkdtemp(dir=os.path.dirname(room))
+        subprocess.run(["cp", "-a", f"{room}/.", copy], check=True)
+        if failed := self.run(*self.words(copy)):
+            raise RuntimeError(failed[0])
+        self.after = self.made(copy)
+        shutil.rmtree(copy)
 
-    def words(self, room, given=None):
-        given, new = given or room, f"{room}.new" if given else f"{room}/new"
-        return {"load": ["load", "--replace-partial", f"{given}/catalog.toml", f"{given}/table.csv", new],
-                "relayout": ["relayout", "--replace-partial", f"{given}/store", f"{given}/catalog.toml", new],
-                "recover": ["recover", "--quiet", f"{given}/store", new, *SITES],
-                "dump": ["dump", f"{given}/store", new],
-                "design": ["design", "--svg", new, f"{given}/catalog.toml"]}[self.name]
+    def words(self, room):
+        new, to = f"{room}/new", [SITED, f"{room}/new.toml"] if self.sited else []
+        return {"load": ["load", "--replace-partial", *to, f"{room}/catalog.toml", f"{room}/table.csv", new],
+                "relayout": ["relayout", "--replace-partial", *[word.replace(SITED, "--new-sites") for word in to], *self.store(room), f"{room}/catalog.toml", new],
+                "recover": ["recover", "--quiet", *self.store(room), new, *LOST],
+                "dump": ["dump", *self.store(room), new],
+                "design": ["design", "--svg", new, f"{room}/catalog.toml"]}[self.name]
+
+    def made(self, room):
+        """What was made."""
+        return [thing(f"{room}/new"), *[thing(folder) for folder in self.folders(room, "n")]]
+
+    def not_made(self, room):
+        """What the verb has to leave alone."""
+        return [thing(folder) for folder in [f"{room}/store", *self.folders(room)]]
 
     def has_ended(self, room):
         mark = f"{room}/new/DONE" if self.name == "recover" else f"{room}/new"
         return os.path.lexists(mark)
 
     def go_on(self, room, run):
+        """Goes on as the documents say: once a folder of a site has its catalog, it is emptied first. All have their files by then."""
         if self.has_ended(room):
             return []
         shutil.rmtree(f"{room}/new", ignore_errors=True)
+        folders = [folder for folder in self.folders(room, "n") if os.path.lexists(f"{folder}/catalog.toml")]
+        if folders and any({**it, "catalog.toml": None} != {**right, "catalog.toml": None} for it, right in zip(self.without_partial(room), self.after[1:])):
+            return ["a folder has its catalog, and not all files have their names"]
+        for folder in folders:
+            shutil.rmtree(folder)
+            os.mkdir(folder)
         return run(*self.words(room))
 
+    def without_partial(self, room):
+        """What stands in the folders of sites, but for the copies of the catalog that have no name yet."""
+        found = [thing(folder) for folder in self.folders(room, "n")]
+        return [{name: it for name, it in names.items() if name != "catalog.toml.partial"} for names in found]
+
     def faults(self, room):
-        made = thing(f"{room}/new")
+        made = self.made(room)
         if self.name == "recover":
             # the name of the mark tells all
-            made["DONE"] = self.after["DONE"]
+            made[0]["DONE"] = self.after[0]["DONE"]
         wrong = [] if made == self.after else ["not right: what was made"]
-        return wrong + ([] if files_of(f"{room}/store") == self.beside else ["the store has changed"])
+        return wrong + ([] if self.not_made(room) == self.beside else ["the store has changed"])
 
 
-def verb_of(name, program, example):
+def verb_of(name, program, example, sited):
     kind = Resumed if name.startswith("resume-") else InPlace if name in ("restore", "undo") else IntoNew
-    return kind(name, program, example)
+    return kind(name, program, example, sited)
 
 
 VERBS = ("restore", "undo", "resume-restore", "resume-undo", "load", "relayout", "recover", "dump", "design")
