@@ -35,6 +35,15 @@ Adds call old new = (calls : Calls) → new calls → (before : Calls) × old be
 abbrev pub MayAdd : Call → (old new : Calls → Type 0) → Type 0
 MayAdd call old new = (calls : Calls) → new calls → old calls ⊎ ((before : Calls) × old before × (calls ≡ call ∷ before))
 
+-- this was called
+abbrev pub WasCalled : Call → Calls → Type 0
+WasCalled call [] = ⊥
+WasCalled call (last ∷ before) = (call ≡ last) ⊎ WasCalled call before
+
+-- more was called
+abbrev pub Extends : (old new : Calls → Type 0) → Type 0
+Extends old new = (calls : Calls) → new calls → (before : Calls) × old before × ((call : Call) → WasCalled call before → WasCalled call calls)
+
 -- the bytes of the file at this path were brought to the disk after they were written
 abbrev pub IsSynced : List ℕ → Calls → Type 0
 IsSynced path [] = ⊥

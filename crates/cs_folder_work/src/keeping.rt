@@ -1,7 +1,7 @@
 //! Keeping what stands under names that are to change.
 ghost use Rattle.std.specs.Prelude.{OnOk};
-ghost use Rattle.cs_file_system.specs.Calls.{Always};
-ghost use Rattle.cs_folder_work.specs.Keeping.{AreKept, Extends, IsKept};
+ghost use Rattle.cs_file_system.specs.Calls.{Always, Extends};
+ghost use Rattle.cs_folder_work.specs.Keeping.{AreKept, IsKept};
 
 use crate::record::Change;
 use cs_file_system::{FileSystem, Standing};

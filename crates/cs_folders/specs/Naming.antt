@@ -1,39 +1,18 @@
 -- Files of a new store that get their names.
-use Rattle.std.specs.Prelude.{◌≡◌, ◌⊎◌, ◌<◌, ℕ, List, [], ◌∷◌, ◌++◌, Some, codes, slice_get, string_bytes}
-use Rattle.cs_schema.specs.FileNames.{file_path}
+use Rattle.std.specs.Prelude.{◌≡◌, ◌<◌, ℕ, List, ◌++◌, Some, codes, length, slice_get, string_bytes}
 use Rattle.cs_schema.specs.declared.file_name.FileName.{FileName}
-use Rattle.cs_file_system.specs.Calls.{Call, Calls, rename}
+use Rattle.cs_file_system.specs.Calls.{Calls, WasCalled, rename}
+use Rattle.cs_folders.specs.Paths.{file_at}
 use Rattle.cs_folders.specs.declared.new_site.NewSite.{NewSite}
-
--- this was called
-abbrev pub WasCalled : Call → Calls → Type 0
-WasCalled call [] = ⊥
-WasCalled call (last ∷ before) = (call ≡ last) ⊎ WasCalled call before
-
--- more was called
-abbrev pub Extends : (old new : Calls → Type 0) → Type 0
-Extends old new = (calls : Calls) → new calls → (before : Calls) × old before × ((call : Call) → WasCalled call before → WasCalled call calls)
 
 -- a new file got this name
 abbrev pub WasNamed : List ℕ → Calls → Type 0
 WasNamed path calls = WasCalled (rename (path ++ codes ".partial") path) calls
 
--- the path of a store's file in a folder
-abbrev pub file_at : List ℕ → FileName → List ℕ
-file_at folder name = folder ++ codes "/" ++ file_path name
-
 -- the first of these files of a folder were named
-abbrev pub AreFirstNamed : (folder : List ℕ) → List FileName → ℕ → Calls → Type 0
-AreFirstNamed folder names count calls = (k : ℕ) (name : FileName) → k < count → slice_get names k ≡ Some name → WasNamed (file_at folder name) calls
-
--- these files of a folder were named
-abbrev pub AreNamed : (folder : List ℕ) → List FileName → Calls → Type 0
-AreNamed folder names calls = (k : ℕ) (name : FileName) → slice_get names k ≡ Some name → WasNamed (file_at folder name) calls
+abbrev pub AreNamed : (folder : List ℕ) → List FileName → ℕ → Calls → Type 0
+AreNamed folder names count calls = (k : ℕ) (name : FileName) → k < count → slice_get names k ≡ Some name → WasNamed (file_at folder name) calls
 
 -- all files of the first of these sites were named
-abbrev pub AreFirstSitesNamed : List NewSite → ℕ → Calls → Type 0
-AreFirstSitesNamed sites count calls = (k : ℕ) (site : NewSite) → k < count → slice_get sites k ≡ Some site → AreNamed (string_bytes site.path) site.names.items calls
-
--- all files of these sites were named
-abbrev pub AreSitesNamed : List NewSite → Calls → Type 0
-AreSitesNamed sites calls = (k : ℕ) (site : NewSite) → slice_get sites k ≡ Some site → AreNamed (string_bytes site.path) site.names.items calls
+abbrev pub AreSitesNamed : List NewSite → ℕ → Calls → Type 0
+AreSitesNamed sites count calls = (k : ℕ) (site : NewSite) → k < count → slice_get sites k ≡ Some site → AreNamed (string_bytes site.path) site.names.items (length site.names.items) calls

@@ -1,7 +1,7 @@
 //! The files of the sites of a new store get their names.
-ghost use Rattle.std.specs.Prelude.{◌≡◌, ◌++◌, IfOk, OnOk, codes, string_bytes};
-ghost use Rattle.cs_file_system.specs.Calls.{Adds, Always, see};
-ghost use Rattle.cs_folders.specs.Naming.{AreNamed, AreSitesNamed, Extends, WasNamed};
+ghost use Rattle.std.specs.Prelude.{◌≡◌, ◌++◌, IfOk, OnOk, codes, length, string_bytes};
+ghost use Rattle.cs_file_system.specs.Calls.{Adds, Always, Extends, see};
+ghost use Rattle.cs_folders.specs.Naming.{AreNamed, AreSitesNamed, WasNamed};
 
 use crate::new_site::NewSite;
 use crate::paths::{file_in, path_in};
@@ -49,7 +49,7 @@ fn name_files<F: FileSystem>(
     folder: &str,
     names: &[FileName],
 ) -> io::Result<()>
-    ensures named { OnOk result (Always (F.made files.new) (AreNamed folder.now names.now)) }
+    ensures named { OnOk result (Always (F.made files.new) (AreNamed folder.now names.now (length names.now))) }
     ensures more { OnOk result (Extends (F.made files.old) (F.made files.new)) }
 {
     for name in names {
@@ -66,7 +66,7 @@ fn name_catalog<F: FileSystem>(
     sites: &[NewSite],
     folder: &str,
 ) -> io::Result<()>
-    requires { Always (F.made files.old) (AreSitesNamed sites.now) }
+    requires { Always (F.made files.old) (AreSitesNamed sites.now (length sites.now)) }
     ensures { OnOk result (Extends (F.made files.old) (F.made files.new)) }
 {
     let path = path_in(alloc, folder, "catalog.toml")?;
@@ -76,8 +76,8 @@ fn name_catalog<F: FileSystem>(
 
 /// Gives the copies of the catalog in the folders of sites their names. All files of the sites have theirs.
 fn name_catalogs<F: FileSystem>(files: &mut F, alloc: Global, sites: &[NewSite]) -> io::Result<()>
-    requires { Always (F.made files.old) (AreSitesNamed sites.now) }
-    ensures { OnOk result (Always (F.made files.new) (AreSitesNamed sites.now)) }
+    requires { Always (F.made files.old) (AreSitesNamed sites.now (length sites.now)) }
+    ensures { OnOk result (Always (F.made files.new) (AreSitesNamed sites.now (length sites.now))) }
 {
     for site in sites {
         name_catalog(files, alloc, sites, site.path.as_str())?;
@@ -93,7 +93,7 @@ pub fn name_sites<F: FileSystem>(
     sites: &[NewSite],
     named: &mut usize,
 ) -> io::Result<()>
-    ensures { OnOk result (Always (F.made files.new) (AreSitesNamed sites.now)) }
+    ensures { OnOk result (Always (F.made files.new) (AreSitesNamed sites.now (length sites.now))) }
 {
     for site in sites {
         name_files(files, alloc, site.path.as_str(), site.names.as_slice())?;

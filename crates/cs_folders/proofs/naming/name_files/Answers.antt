@@ -1,9 +1,10 @@
 use Rattle.std.proofs.Common.{◌∙◌, subst, get_or, arith}
-use Rattle.std.proofs.lemmas.Option.{slice_get-get_or, slice_get_within}
+use Rattle.std.proofs.lemmas.Option.{slice_get-get_or}
 use Rattle.std.proofs.lemmas.Result.{on_ok_weaker}
 use Rattle.cs_schema.specs.declared.file_name.FileName.{FileName}
 use Rattle.cs_file_system.specs.Calls.{Always}
-use Rattle.cs_folders.specs.Naming.{WasNamed, file_at}
+use Rattle.cs_folders.specs.Naming.{WasNamed}
+use Rattle.cs_folders.specs.Paths.{file_at}
 use Rattle.cs_folders.proofs.Named.{extends_by, extends_on, one_more}
 use Rattle.cs_folders.proofs.naming.name_files.Goals as goal
 
@@ -19,9 +20,9 @@ loop-name-preserved g c =
     )
 
 pub returns-clause-named : goal.returns-clause-named
-returns-clause-named g c = on_ok_weaker c.sync_folder.result (λ added. λ calls made k name is.
+returns-clause-named g c = on_ok_weaker c.sync_folder.result (λ added. λ calls made k name less is.
     let x = extends_by _ _ _ added calls made in
-    x.2 _ (c.loop-name.invariant.0 x.0 x.1 k name (omega (arith, slice_get_within c.args.names.now k name is, c.loop-name-test.false)) is)) c.sync_folder.ensures.ok
+    x.2 _ (c.loop-name.invariant.0 x.0 x.1 k name (omega (arith, less, c.loop-name-test.false)) is)) c.sync_folder.ensures.ok
 
 pub returns-clause-more : goal.returns-clause-more
 returns-clause-more g c = on_ok_weaker c.sync_folder.result (λ added. extends_on _ _ _ c.loop-name.invariant.1 (extends_by _ _ _ added)) c.sync_folder.ensures.ok
