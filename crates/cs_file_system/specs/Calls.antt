@@ -1,5 +1,5 @@
 -- The calls that were made of a file system, and what they brought to the disk.
-use Rattle.std.specs.Prelude.{◌≡◌, ◌⊎◌, ℕ, List, [], ◌∷◌}
+use Rattle.std.specs.Prelude.{◌≡◌, ◌⊎◌, ℕ, List, [], ◌∷◌, ◌++◌}
 
 -- a call that changes a file or a folder, or a look at what stands at a path; a path is the bytes of its text
 pub data Call : Type 0 where
@@ -30,6 +30,10 @@ IsNoMore old new = (calls : Calls) → new calls → old calls
 -- this was called, and nothing else
 abbrev pub Adds : Call → (old new : Calls → Type 0) → Type 0
 Adds call old new = (calls : Calls) → new calls → (before : Calls) × old before × (calls ≡ call ∷ before)
+
+-- these were called, the last one first, and nothing else
+abbrev pub AddsAll : Calls → (old new : Calls → Type 0) → Type 0
+AddsAll more old new = (calls : Calls) → new calls → (before : Calls) × old before × (calls ≡ more ++ before)
 
 -- this may have been called, and nothing else
 abbrev pub MayAdd : Call → (old new : Calls → Type 0) → Type 0

@@ -1,7 +1,7 @@
 //! New files and folders, which get their names once they are on the disk.
 ghost use Rattle.std.specs.Prelude.{OnOk};
-ghost use Rattle.cs_file_system.specs.Calls.{Always, IsSynced};
-ghost use Rattle.cs_file_system.specs.Placing.{IsFolderPut, IsMarked, IsPut, IsUnmarked};
+ghost use Rattle.cs_file_system.specs.Calls.{AddsAll, Always, IsSynced};
+ghost use Rattle.cs_file_system.specs.Placing.{IsMarked, IsPut, IsUnmarked, folder_put};
 
 use crate::calls::FileSystem;
 use std::io;
@@ -51,7 +51,7 @@ pub fn put_folder<F: FileSystem>(
     path: &str,
     parent: &str,
 ) -> io::Result<()>
-    ensures { OnOk result (Always (F.made files.new) (IsFolderPut beside.now path.now parent.now)) }
+    ensures { OnOk result (AddsAll (folder_put beside.now path.now parent.now) (F.made files.old) (F.made files.new)) }
 {
     files.sync_folder(beside)?;
     files.rename_folder(beside, path)?;

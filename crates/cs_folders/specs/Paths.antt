@@ -10,3 +10,7 @@ path_at folder name = folder ++ codes "/" ++ name
 -- the path of a store's file in a folder
 abbrev pub file_at : (folder : List ℕ) → FileName → List ℕ
 file_at folder name = path_at folder (file_path name)
+
+-- where a new file stands before it has its name
+abbrev pub beside_of : (path : List ℕ) → List ℕ
+beside_of path = path ++ codes ".partial"
