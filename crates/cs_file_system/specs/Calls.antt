@@ -58,6 +58,10 @@ IsSynced path (rename from to ∷ before) = ⊥
 IsSynced path (remove other ∷ before) = ¬ (path ≡ other) × IsSynced path before
 IsSynced path (_ ∷ before) = IsSynced path before
 
+-- no file changed, so that what was on the disk stays there
+abbrev pub KeepsSynced : (old new : Calls → Type 0) → Type 0
+KeepsSynced old new = (calls : Calls) → new calls → (before : Calls) × old before × ((path : List ℕ) → IsSynced path before → IsSynced path calls)
+
 -- the names in this folder were brought to the disk after the last of them was given or taken away
 abbrev pub IsSettled : List ℕ → Calls → Type 0
 IsSettled folder [] = ⊥

@@ -72,6 +72,14 @@ pub trait FileSystem {
         ensures ok { OnOk result (Adds (rename from.now to.now) (made self.old) (made self.new)) }
         ensures err { OnErr result (MayAdd (rename from.now to.now) (made self.old) (made self.new)) };
 
+    /// Gives a new file, whose bytes are on the disk, the name of what stands there, in its place. That is kept in a folder, and
+    /// the names of what is kept are on the disk.
+    fn replace(&mut self, from: &str, to: &str, kept: &str, folder: &str) -> io::Result<()>
+        requires synced { Always (made self.old) (IsSynced from.now) }
+        requires safe { Always (made self.old) (MayBeReplaced to.now kept.now folder.now) }
+        ensures ok { OnOk result (Adds (rename from.now to.now) (made self.old) (made self.new)) }
+        ensures err { OnErr result (MayAdd (rename from.now to.now) (made self.old) (made self.new)) };
+
     /// Gives a new folder, whose names are on the disk, another name.
     fn rename_folder(&mut self, from: &str, to: &str) -> io::Result<()>
         requires { Always (made self.old) (IsSettled from.now) }

@@ -12,6 +12,7 @@ mod moving;
 mod owner;
 mod placing;
 mod recording;
+mod replacing;
 mod standing;
 mod system;
 
@@ -21,5 +22,6 @@ pub use locking::TryLock;
 pub use moving::move_back;
 pub use placing::{mark, put, put_folder, put_owned, unmark, write_synced};
 pub use recording::{begin_record, rewrite_record, sweep};
+pub use replacing::{Replacement, replace_kept, take_away};
 pub use standing::Standing;
 pub use system::SystemFiles;

@@ -25,6 +25,24 @@ pub fn put<F: FileSystem>(files: &mut F, beside: &str, path: &str, bytes: &[u8])
     files.rename(beside, path)
 }
 
+/// Makes a new file of these bytes beside a path, with the owner and the mode of what stands there, or where that is no file,
+/// of the folder, and brings it to the disk.
+pub fn write_owned<F: FileSystem>(
+    files: &mut F,
+    folder: &str,
+    beside: &str,
+    path: &str,
+    bytes: &[u8],
+) -> io::Result<()>
+    ensures { OnOk result (Always (F.made files.new) (IsSynced beside.now)) }
+{
+    files.remove(beside)?;
+    let mut file = files.create(beside)?;
+    files.write(beside, &mut file, bytes)?;
+    files.give_owner(folder, path, beside)?;
+    files.sync(beside, &mut file)
+}
+
 /// Puts a file of these bytes in place as `put` does, with the owner and the mode of what stands there, or where that is no
 /// file, of the folder.
 pub fn put_owned<F: FileSystem>(
@@ -36,11 +54,7 @@ pub fn put_owned<F: FileSystem>(
 ) -> io::Result<()>
     ensures { OnOk result (Always (F.made files.new) (IsPut beside.now path.now)) }
 {
-    files.remove(beside)?;
-    let mut file = files.create(beside)?;
-    files.write(beside, &mut file, bytes)?;
-    files.give_owner(folder, path, beside)?;
-    files.sync(beside, &mut file)?;
+    write_owned(files, folder, beside, path, bytes)?;
     files.rename(beside, path)
 }
 

@@ -34,7 +34,7 @@ fn unless_gone(done: io::Result<()>) -> io::Result<()> {
 impl<R: Files> FileSystem for SystemFiles<'_, R> {
     type File = R::File;
 
-    ghost made = { λ files calls. system_calls calls };
+    ghost made = { λ files calls. system_calls files calls };
 
     ghost is_at = { λ file path. ⊤ };
 
@@ -78,6 +78,10 @@ impl<R: Files> FileSystem for SystemFiles<'_, R> {
     }
 
     fn rename(&mut self, from: &str, to: &str) -> io::Result<()> {
+        fs::rename(self.0, from, to)
+    }
+
+    fn replace(&mut self, from: &str, to: &str, _kept: &str, _folder: &str) -> io::Result<()> {
         fs::rename(self.0, from, to)
     }
 

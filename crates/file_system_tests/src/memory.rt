@@ -168,6 +168,10 @@ impl FileSystem for MemoryFiles {
         self.move_to(What::Rename, from, to)
     }
 
+    fn replace(&mut self, from: &str, to: &str, _kept: &str, _folder: &str) -> io::Result<()> {
+        self.move_to(What::Rename, from, to)
+    }
+
     fn rename_folder(&mut self, from: &str, to: &str) -> io::Result<()> {
         self.move_to(What::Rename, from, to)
     }

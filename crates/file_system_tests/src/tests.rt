@@ -1,8 +1,8 @@
 //! The calls of each step, and where it stops if one fails.
 use crate::memory::MemoryFiles;
 use cs_file_system::{
-    EndOfWork, Entry, FileSystem, Standing, begin_record, end_recorded, end_work, mark, move_back,
-    put, put_folder, put_owned, rewrite_record, unmark,
+    EndOfWork, Entry, FileSystem, Replacement, Standing, begin_record, end_recorded, end_work,
+    mark, move_back, put, put_folder, put_owned, replace_kept, rewrite_record, take_away, unmark,
 };
 use std::alloc::{AllocError, Global};
 use std::io;
@@ -189,4 +189,45 @@ fn moves_back(rt: HostRuntime) {
     files.log.events.clear();
     assert!(rt; move_back(&mut files, "k/1/c", "c", "k/2/c", "k/2").is_err());
     expect_calls(&rt, alloc, &files, "see k/1/c; miss k/2/c; see c; ");
+}
+
+const REPLACED: &str =
+    "remove a.new; create a.new; write a.new; sync a.new; see k/a; sync folder k; \
+rename a.new a; ";
+
+/// The paths of a file that is kept in the folder `k`.
+fn replacement(alloc: Global, path: &str) -> Result<Replacement, AllocError> {
+    Ok(Replacement {
+        folder: String::from_str(alloc, ".")?,
+        path: String::from_str(alloc, path)?,
+        beside: format!(in alloc; "{path}.new")?,
+        kept: format!(in alloc; "k/{path}")?,
+        kept_folder: String::from_str(alloc, "k")?,
+    })
+}
+
+#[test]
+fn replaces_what_is_kept(rt: HostRuntime) {
+    let alloc = rt.alloc();
+    let mut files = empty(alloc);
+    for file in ["a", "k/a", "b"] {
+        files.let_stand(file, Standing::File).expect(&rt, "memory");
+    }
+    let paths = replacement(alloc, "a").expect(&rt, "memory");
+    let done = replace_kept(&mut files, &paths, b"1");
+    expect(&rt, alloc, &files, done, REPLACED);
+    files.log.events.clear();
+    let done = take_away(&mut files, &paths);
+    expect(
+        &rt,
+        alloc,
+        &files,
+        done,
+        "see k/a; sync folder k; remove a; ",
+    );
+    // what stands there is not kept
+    files.log.events.clear();
+    let paths = replacement(alloc, "b").expect(&rt, "memory");
+    assert!(rt; take_away(&mut files, &paths).is_err());
+    expect_calls(&rt, alloc, &files, "miss k/b; see b; ");
 }
