@@ -1,8 +1,10 @@
 //! The calls of a file system.
-ghost use Rattle.std.specs.Prelude.{◌≡◌, ℕ, List, IfOk, OnOk, OnErr};
+ghost use Rattle.std.specs.Prelude.{◌≡◌, ℕ, List, false, IfOk, OnOk, OnErr};
 ghost use Rattle.cs_file_system.specs.Calls.{Adds, Always, Calls, IsNoMore, IsSettled, IsSynced, MayAdd, MayBeReplaced, create, finish, keep, link, remove, rename, sync, sync_folder, write};
 ghost use Rattle.cs_file_system.specs.Seeing.{IsSeen};
+ghost use Rattle.cs_file_system.specs.declared.identity.Identity.{Identity};
 
+use crate::identity::Identity;
 use crate::standing::Standing;
 use std::io;
 
@@ -17,6 +19,22 @@ pub trait FileSystem {
 
     /// An open file is the one that was made or opened at this path.
     ghost is_at: { Self.File → List ℕ → Type 0 };
+
+    /// The folder at this path was found to have this identity.
+    ghost has_identity: { List ℕ → Identity → Type 0 };
+
+    /// No link was seen at this path.
+    ghost has_no_link: { List ℕ → Type 0 };
+
+    /// The identity of the folder at a path.
+    fn identity(&mut self, path: &str) -> io::Result<Identity>
+        ensures found { IfOk result (λ identity. has_identity path.now identity) }
+        ensures same { IsNoMore (made self.old) (made self.new) };
+
+    /// Whether a link is seen at a path.
+    fn is_link(&mut self, path: &str) -> bool
+        ensures none { result ≡ false → has_no_link path.now }
+        ensures same { IsNoMore (made self.old) (made self.new) };
 
     /// What stands at a path.
     fn look(&mut self, path: &str) -> io::Result<Standing>

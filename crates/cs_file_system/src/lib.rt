@@ -7,6 +7,7 @@
 
 mod calls;
 mod ending;
+mod identity;
 mod locking;
 mod moving;
 mod owner;
@@ -18,6 +19,7 @@ mod system;
 
 pub use calls::FileSystem;
 pub use ending::{EndOfWork, Entry, end_recorded, end_work};
+pub use identity::Identity;
 pub use locking::TryLock;
 pub use moving::move_back;
 pub use placing::{mark, put, put_folder, put_owned, unmark, write_synced};
