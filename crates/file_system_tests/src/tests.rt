@@ -106,12 +106,13 @@ fn rewrites_a_record(rt: HostRuntime) {
 }
 
 /// The calls by which work ends.
-const ENDED: [&str; 8] = [
+const ENDED: [&str; 9] = [
     "create s/log; ",
     "write s/log; ",
     "sync s/log; ",
     "sync folder s; ",
     "keep s/R s/replaced/1/R; ",
+    "sync folder d; ",
     "sync folder s/replaced/1; ",
     "sync folder s; ",
     "finish s/R; ",
@@ -132,8 +133,11 @@ fn first_of_ended(alloc: Global, count: u64) -> Result<String, AllocError> {
 }
 
 fn work(alloc: Global) -> Result<EndOfWork, AllocError> {
+    let mut changed = Vec::new(alloc);
+    changed.push(String::from_str(alloc, "d")?)?;
     Ok(EndOfWork {
         folder: String::from_str(alloc, "s")?,
+        changed,
         log: String::from_str(alloc, "s/log")?,
         mark: String::from_str(alloc, "s/R")?,
         kept: String::from_str(alloc, "s/replaced/1")?,
@@ -149,16 +153,16 @@ fn ends_work(rt: HostRuntime) {
         cut: None,
         text: String::from_str(alloc, "1").expect(&rt, "memory"),
     };
-    for before_failure in 0..9 {
+    for before_failure in 0..10 {
         let mut files = MemoryFiles::new(alloc, Some(before_failure));
         let ended = end_work(&mut files, &work, &entry);
-        assert_eq!(rt; ended.is_ok(), before_failure == 8);
+        assert_eq!(rt; ended.is_ok(), before_failure == 9);
         let want = first_of_ended(alloc, before_failure).expect(&rt, "memory");
         expect_calls(&rt, alloc, &files, want.as_str());
     }
     let mut files = empty(alloc);
     let done = end_recorded(&mut files, &work);
-    let want = "sync folder s/replaced/1; sync folder s; finish s/R; ";
+    let want = "sync folder d; sync folder s/replaced/1; sync folder s; finish s/R; ";
     expect(&rt, alloc, &files, done, want);
 }
 
