@@ -34,6 +34,7 @@ module _ (has_identity : List ℕ → Identity → Type 0) (folders : StoreFolde
     new_of put new = record { folder = folder; reached = reached; put = put_of folder noted.kept name paths are calls put; safe = inl new }
 
     pub replaced_of : IsReplaced paths calls → IsNameReplaced has_identity folders noted name calls
+    unfolding put_of
     replaced_of done = record {
       folder = folder;
       reached = reached;

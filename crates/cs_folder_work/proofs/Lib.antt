@@ -1,2 +1,1 @@
 mod ChangingLemmas
-mod FolderLemmas

@@ -9,5 +9,5 @@ loop-at-preserved g c =
     let count : length found ≡ c.loop-at.at = omega arith in
     record {
       count = let grown = simp length-append at (ap length c.in_ok-push.ensures.items) in omega arith;
-      each = rw c.in_ok-push.ensures.items (folders_more c.args.sites.now found c.site_folder.field-0 c.loop-at.invariant.each (rw count c.in_ok-site_folder.ensures));
+      each = rw c.in_ok-push.ensures.items (folders_more c.args.sites.now found c.in_ok-site_folder.field-0 c.loop-at.invariant.each (rw count c.in_ok-site_folder.ensures));
     }
