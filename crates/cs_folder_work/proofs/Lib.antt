@@ -1,1 +1,2 @@
 mod ChangingLemmas
+mod KeepingLemmas
