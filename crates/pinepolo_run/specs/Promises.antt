@@ -13,6 +13,7 @@ use Rattle.cs_store.specs.declared.fault.StoreFault.{StoreFault}
 use Rattle.cs_recovery.specs.Claims.{IsRebuildAnswer}
 use Rattle.cs_diagnosis.specs.Diagnoses.{IsDiagnosis}
 use Rattle.cs_diagnosis.specs.Disputed.{AreAllDisputes}
+use Rattle.pinepolo_text.specs.OnlyLoss.{AreFatalBeside}
 use Rattle.pinepolo_text.specs.declared.diagnosed.Diagnosed.{Diagnosed}
 use Rattle.cs_reports.specs.Design.{IsDesign}
 use Rattle.cs_reports.specs.declared.design.Design.{Design}
@@ -30,7 +31,7 @@ pub record FindsTrusted {P S : Type 0} (reads : P → List ℕ → List ℕ → 
 
 module _ {P S : Type 0} (reads : P → List ℕ → List ℕ → P → Type 0) (opens : P → List ℕ → CatalogData → S → Type 0) (gives : S → FileName → Option (List ℕ) → S → Type 0) where
   -- The manifest was read, if one was asked for. The store at this path was found, and each of its files read that the manifest trusts; this is the diagnosis of what could be
-  -- read and is trusted, and where each two of its tables differ.
+  -- read and is trusted, where each two of its tables differ, and what is fatal beside its only loss.
   pub record DiagnosesStore {I : Type 0} (refuses : S → FileName → StoreFault → S → Type 0) (opens_table : P → List ℕ → I → P → Type 0) (remaining : I → Option (List ℕ)) (leaves : P → List ℕ → Option WorkKind → Type 0)
       (s : P) (path : List ℕ) (manifest_path : Option (List ℕ)) (at_most : Option ℕ) (disputes : ℕ) (diagnosed : Diagnosed) (t : P) : Type 0 where
     pub catalog : CatalogData
@@ -45,6 +46,8 @@ module _ {P S : Type 0} (reads : P → List ℕ → List ℕ → P → Type 0) (
     pub loads : LoadsReadable (gives_trusted manifest gives) (refuses_trusted manifest gives refuses) (surviving catalog []) store files unreadable left
     pub diagnosis : IsDiagnosis catalog (contents_of files) unreadable at_most diagnosed.diagnosis
     pub disputed : AreAllDisputes catalog diagnosed.diagnosis.tables.items disputes diagnosed.disputes.items
+    pub same_catalog : diagnosed.catalog ≡ catalog
+    pub fatal : AreFatalBeside catalog diagnosed.diagnosis diagnosed.fatal.items
     pub unfinished : leaves t path diagnosed.unfinished
 
   -- the store at this path was loaded without the lost sites, and its rebuild answered these files

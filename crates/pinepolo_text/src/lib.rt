@@ -50,7 +50,7 @@ pub use diagnosed::{Diagnosed, DiagnosedText};
 pub use disputed::{is_disputed, table_at};
 pub use doubted::{Doubted, spare_sites};
 pub use dumped::Dumped;
-pub use explained::{number_of, rows_of, verdict_word};
+pub use explained::{number_of, only_loss, rows_of, verdict_word};
 pub use file_json::file_object;
 pub use file_lines::{FileLine, lines_of};
 pub use file_view::FileView;

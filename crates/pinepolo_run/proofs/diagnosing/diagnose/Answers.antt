@@ -5,6 +5,7 @@ use Rattle.cs_inspection.specs.Laws.{AreAbsent}
 use Rattle.cs_diagnosis.specs.Diagnoses.{IsDiagnosis}
 use Rattle.cs_diagnosis.specs.Disputed.{AreAllDisputes}
 use Rattle.cs_restoring.proofs.Unreadable.{absent}
+use Rattle.pinepolo_text.specs.OnlyLoss.{AreFatalBeside}
 use Rattle.pinepolo_run.proofs.diagnosing.diagnose.Goals as goal
 
 pub diagnose-requires-clause-at_most : goal.diagnose-requires-clause-at_most
@@ -34,5 +35,7 @@ returns-in-Ok-new-clause-ok g c =
           (subst (λ (U : List FileName). IsDiagnosis catalog (contents_of found.files) U c.args.request.now.at_most c.in-Ok-diagnose_files.diagnosis) c.as_slice-unreadable.ensures.value c.in-Ok-diagnose_files.ensures);
       disputed = subst (λ d. AreAllDisputes catalog d.tables.items c.args.request.now.disputes c.in-Ok-new.diagnosed.disputes.items) (sym c.in-Ok-new.ensures.found.1)
           (subst (λ v. AreAllDisputes catalog c.in-Ok-diagnose_files.diagnosis.tables.items c.args.request.now.disputes v.items) (sym c.in-Ok-new.ensures.compared.0) c.in-Ok-disputed_rows.ensures);
+      same_catalog = c.in-Ok-new.ensures.found.0;
+      fatal = subst (λ d. AreFatalBeside catalog d c.in-Ok-new.diagnosed.fatal.items) (sym c.in-Ok-new.ensures.found.1) c.in-Ok-new.ensures.fatal;
       unfinished = rw c.in-Ok-new.ensures.compared.1 c.in-Ok-unfinished.ensures;
     }
