@@ -1,3 +1,4 @@
+pub mod FileLines
 pub mod Named
 pub mod OnlyLoss
 pub mod Statuses
