@@ -67,7 +67,7 @@ impl Diagnosed {
         unfinished: Option<WorkKind>,
     ) -> Result<Self, AllocError>
         ensures found { IfOk result (λ found. (found.catalog ≡ catalog) × (found.diagnosis ≡ diagnosis)) }
-        ensures compared { IfOk result (λ found. (found.disputes ≡ disputes) × (found.unfinished ≡ unfinished)) }
+        ensures compared { IfOk result (λ found. (found.disputes ≡ disputes) × (found.changed ≡ changed) × (found.unfinished ≡ unfinished)) }
         ensures fatal { IfOk result (λ found. AreFatalBeside catalog diagnosis found.fatal.items) }
     {
         match fatal_beside(alloc, &catalog, &diagnosis) {

@@ -57,7 +57,7 @@ fn count_of(
 }
 
 /// What is wrong with a file, if it is among the bad ones, which are in the order of their names.
-fn badness_of(bad: &[(FileName, Badness)], name: FileName) -> Option<Badness>
+pub fn badness_of(bad: &[(FileName, Badness)], name: FileName) -> Option<Badness>
     requires { AreInOrder bad.now }
     ensures { MatchOption result (¬ IsListed name bad.now) (λ why. IsIn (name, why) bad.now) }
 {

@@ -52,7 +52,7 @@ pub use doubted::{Doubted, spare_sites};
 pub use dumped::Dumped;
 pub use explained::{number_of, only_loss, rows_of, verdict_word};
 pub use file_json::file_object;
-pub use file_lines::{FileLine, lines_of};
+pub use file_lines::{FileLine, badness_of, lines_of};
 pub use file_view::FileView;
 pub use found_restore::FoundRestore;
 pub use memory::recovery_memory;
