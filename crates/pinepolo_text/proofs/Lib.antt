@@ -1,1 +1,2 @@
 mod NamesFound
+mod SitesBelow
