@@ -39,8 +39,8 @@ abbrev pub IsNameKept : (folder : List ℕ) → (number : ℕ) → FileName → 
 IsNameKept folder number name = MayBeReplaced (file_at folder name) (file_at (kept_in folder number) name) (kept_in folder number)
 
 module _ (has_identity : List ℕ → Identity → Type 0) (folders : StoreFolders) (noted : Record) (name : FileName) where
-  -- A new file took a name, once its bytes were on the disk and what stood there was kept. Nothing was if the record says that
-  -- nothing stood there before the work.
+  -- A new file took a name, once its bytes were on the disk. What stood there was kept, unless the record says that nothing
+  -- stood there before the work.
   pub record IsNameReplaced (calls : Calls) : Type 0 where
     pub folder : List ℕ
     pub reached : IsFolderOf has_identity folders name folder
