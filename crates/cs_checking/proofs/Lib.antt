@@ -1,2 +1,2 @@
-mod SafeNumbers
+pub mod SafeNumbers
 mod SoundFiles

@@ -1,12 +1,12 @@
 -- How many sites may fail, by the greatest number of which any may.
-use Rattle.std.proofs.Common.{◌≡◌, ℕ, ◌+◌, ◌<◌, ◌≤◌, List, [], ◌∷◌, length, slice_get, None, refl, arith}
+use Rattle.std.proofs.Common.{◌≡◌, ℕ, ◌+◌, ◌<◌, ◌≤◌, List, [], ◌∷◌, length, slice_get, Option, Some, None, refl, subst, arith}
 use Rattle.std.specs.List.Sorted.{IsStrictlySortedBy}
 use Rattle.cs_schema.proofs.Ascending.{false≢true}
 use Rattle.cs_schema.specs.CatalogData.{CatalogData}
 use Rattle.cs_schema.specs.Losses.{Sites, IsLoss}
 use Rattle.cs_safety.specs.Safety.{IsSafe}
-use Rattle.cs_design.specs.Fatal.{IsSafeBeyond, IsFatalAt, AreFatalLosses}
-use Rattle.cs_checking.specs.Checks.{HasFatal}
+use Rattle.cs_design.specs.Fatal.{IsSafeBeyond, IsFatalAt, IsGreatestK, AreFatalLosses}
+use Rattle.cs_checking.specs.Checks.{HasFatal, IsFirstFatal}
 
 -- as many as may fail, or fewer
 pub safe_below : (C : CatalogData) (lost : Sites) (g k : ℕ) → IsSafeBeyond C lost g → k ≤ g → IsSafeBeyond C lost k
@@ -25,6 +25,11 @@ no_loss C = (tt, λ x h. false≢true h)
 pub fatal_already : (C : CatalogData) (k : ℕ) → ¬ IsSafe C [] → HasFatal C k
 fatal_already C k bad = ([], record { loss = no_loss C; is_unsafe = bad }, omega arith)
 
+-- each catalog has a fatal loss
+pub has_fatal : (C : CatalogData) (greatest : Option ℕ) → IsGreatestK C [] greatest → (k : ℕ) × HasFatal C k
+has_fatal C None bad = (0, fatal_already C 0 bad)
+has_fatal C (Some g) is = (g + 1, fatal_above C g (g + 1) is.1 (omega arith))
+
 -- where some loss is fatal, the least fatal ones are some
 pub some_fatal : (C : CatalogData) (k : ℕ) (fatal : List Sites) → HasFatal C k → AreFatalLosses C [] fatal → fatal ≡ [] → ⊥
 some_fatal C k [] (L, is, few) all none = let (M, there, within) = (all.exact L is.loss).0 is.is_unsafe in absurd there
@@ -34,3 +39,8 @@ some_fatal C k (M ∷ Ms) is all none = cc
 pub none_first : {X : Type 0} (xs : List X) → slice_get xs 0 ≡ None → xs ≡ []
 none_first [] e = refl
 none_first (x ∷ xs) e = cc
+
+-- the first of the least fatal losses
+pub first_fatal : (C : CatalogData) (fatal : List Sites) (L : Sites) → AreFatalLosses C [] fatal → slice_get fatal 0 ≡ Some L → IsFirstFatal C L
+first_fatal C [] L all e = absurd (cc)
+first_fatal C (M ∷ Ms) L all e = let same : M ≡ L = cc in (Ms, subst (λ (K : Sites). AreFatalLosses C [] (K ∷ Ms)) same all)

@@ -1,5 +1,5 @@
 -- The calls that were made of a file system, and what they brought to the disk.
-use Rattle.std.specs.Prelude.{◌≡◌, ◌⊎◌, ℕ, List, [], ◌∷◌}
+use Rattle.std.specs.Prelude.{◌≡◌, ◌⊎◌, ℕ, List, [], ◌∷◌, ◌++◌}
 
 -- a call that changes a file or a folder, or a look at what stands at a path; a path is the bytes of its text
 pub data Call : Type 0 where
@@ -31,9 +31,22 @@ IsNoMore old new = (calls : Calls) → new calls → old calls
 abbrev pub Adds : Call → (old new : Calls → Type 0) → Type 0
 Adds call old new = (calls : Calls) → new calls → (before : Calls) × old before × (calls ≡ call ∷ before)
 
+-- these were called, the last one first, and nothing else
+abbrev pub AddsAll : Calls → (old new : Calls → Type 0) → Type 0
+AddsAll more old new = (calls : Calls) → new calls → (before : Calls) × old before × (calls ≡ more ++ before)
+
 -- this may have been called, and nothing else
 abbrev pub MayAdd : Call → (old new : Calls → Type 0) → Type 0
 MayAdd call old new = (calls : Calls) → new calls → old calls ⊎ ((before : Calls) × old before × (calls ≡ call ∷ before))
+
+-- this was called
+abbrev pub WasCalled : Call → Calls → Type 0
+WasCalled call [] = ⊥
+WasCalled call (last ∷ before) = (call ≡ last) ⊎ WasCalled call before
+
+-- more was called
+abbrev pub Extends : (old new : Calls → Type 0) → Type 0
+Extends old new = (calls : Calls) → new calls → (before : Calls) × old before × ((call : Call) → WasCalled call before → WasCalled call calls)
 
 -- the bytes of the file at this path were brought to the disk after they were written
 abbrev pub IsSynced : List ℕ → Calls → Type 0
@@ -44,6 +57,10 @@ IsSynced path (write other ∷ before) = ¬ (path ≡ other) × IsSynced path be
 IsSynced path (rename from to ∷ before) = ⊥
 IsSynced path (remove other ∷ before) = ¬ (path ≡ other) × IsSynced path before
 IsSynced path (_ ∷ before) = IsSynced path before
+
+-- no file changed, so that what was on the disk stays there
+abbrev pub KeepsSynced : (old new : Calls → Type 0) → Type 0
+KeepsSynced old new = (calls : Calls) → new calls → (before : Calls) × old before × ((path : List ℕ) → IsSynced path before → IsSynced path calls)
 
 -- the names in this folder were brought to the disk after the last of them was given or taken away
 abbrev pub IsSettled : List ℕ → Calls → Type 0

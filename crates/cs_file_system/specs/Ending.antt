@@ -1,5 +1,5 @@
 -- Work that ends.
-use Rattle.std.specs.Prelude.{◌≡◌, ℕ, List, ◌∷◌, string_bytes}
+use Rattle.std.specs.Prelude.{◌≡◌, ℕ, List, [], ◌∷◌, ◌++◌, map, string_bytes}
 use Rattle.cs_file_system.specs.Calls.{Calls, IsSettled, IsSynced, finish, keep, sync_folder}
 use Rattle.cs_file_system.specs.declared.ending.EndOfWork.{EndOfWork}
 
@@ -10,12 +10,18 @@ pub record IsRecorded (work : EndOfWork) (calls : Calls) : Type 0 where
   pub logged : IsSynced (string_bytes work.log) before
   pub settled : IsSettled (string_bytes work.folder) before
 
--- the names of what is kept were brought to the disk, and those in the folder, and then the record was removed
-abbrev pub Ends : EndOfWork → (old new : Calls → Type 0) → Type 0
-Ends work old new = (calls : Calls) → new calls → (before : Calls) × old before × (calls ≡ finish (string_bytes work.mark) ∷ sync_folder (string_bytes work.folder) ∷ sync_folder (string_bytes work.kept) ∷ before)
+-- the names in these folders are brought to the disk, in their order
+abbrev pub folders_synced : List (List ℕ) → Calls
+folders_synced [] = []
+folders_synced (folder ∷ folders) = folders_synced folders ++ sync_folder folder ∷ []
+
+-- the names in the folders that changed are brought to the disk, then those of what is kept and those in the folder of the work,
+-- and then its record is removed
+abbrev pub work_ended : EndOfWork → Calls
+work_ended work = finish (string_bytes work.mark) ∷ sync_folder (string_bytes work.folder) ∷ sync_folder (string_bytes work.kept) ∷ folders_synced (map string_bytes work.changed.items)
 
 -- the work was logged, then recorded, and then its record was removed, each once what came before was on the disk
 pub record IsFinished (work : EndOfWork) (calls : Calls) : Type 0 where
   pub before : Calls
-  pub last : calls ≡ finish (string_bytes work.mark) ∷ sync_folder (string_bytes work.folder) ∷ sync_folder (string_bytes work.kept) ∷ before
+  pub last : calls ≡ work_ended work ++ before
   pub recorded : IsRecorded work before

@@ -1,8 +1,10 @@
 //! The calls of a file system.
-ghost use Rattle.std.specs.Prelude.{◌≡◌, ℕ, List, IfOk, OnOk, OnErr};
+ghost use Rattle.std.specs.Prelude.{◌≡◌, ℕ, List, false, IfOk, OnOk, OnErr};
 ghost use Rattle.cs_file_system.specs.Calls.{Adds, Always, Calls, IsNoMore, IsSettled, IsSynced, MayAdd, MayBeReplaced, create, finish, keep, link, remove, rename, sync, sync_folder, write};
 ghost use Rattle.cs_file_system.specs.Seeing.{IsSeen};
+ghost use Rattle.cs_file_system.specs.declared.identity.Identity.{Identity};
 
+use crate::identity::Identity;
 use crate::standing::Standing;
 use std::io;
 
@@ -17,6 +19,22 @@ pub trait FileSystem {
 
     /// An open file is the one that was made or opened at this path.
     ghost is_at: { Self.File → List ℕ → Type 0 };
+
+    /// The folder at this path was found to have this identity.
+    ghost has_identity: { List ℕ → Identity → Type 0 };
+
+    /// No link was seen at this path.
+    ghost has_no_link: { List ℕ → Type 0 };
+
+    /// The identity of the folder at a path.
+    fn identity(&mut self, path: &str) -> io::Result<Identity>
+        ensures found { IfOk result (λ identity. has_identity path.now identity) }
+        ensures same { IsNoMore (made self.old) (made self.new) };
+
+    /// Whether a link is seen at a path.
+    fn is_link(&mut self, path: &str) -> bool
+        ensures none { result ≡ false → has_no_link path.now }
+        ensures same { IsNoMore (made self.old) (made self.new) };
 
     /// What stands at a path.
     fn look(&mut self, path: &str) -> io::Result<Standing>
@@ -69,6 +87,14 @@ pub trait FileSystem {
     /// Gives a new file, whose bytes are on the disk, another name, in the place of what has that name.
     fn rename(&mut self, from: &str, to: &str) -> io::Result<()>
         requires { Always (made self.old) (IsSynced from.now) }
+        ensures ok { OnOk result (Adds (rename from.now to.now) (made self.old) (made self.new)) }
+        ensures err { OnErr result (MayAdd (rename from.now to.now) (made self.old) (made self.new)) };
+
+    /// Gives a new file, whose bytes are on the disk, the name of what stands there, in its place. That is kept in a folder, and
+    /// the names of what is kept are on the disk.
+    fn replace(&mut self, from: &str, to: &str, kept: &str, folder: &str) -> io::Result<()>
+        requires synced { Always (made self.old) (IsSynced from.now) }
+        requires safe { Always (made self.old) (MayBeReplaced to.now kept.now folder.now) }
         ensures ok { OnOk result (Adds (rename from.now to.now) (made self.old) (made self.new)) }
         ensures err { OnErr result (MayAdd (rename from.now to.now) (made self.old) (made self.new)) };
 

@@ -1,7 +1,7 @@
 //! The end of work on a folder: a line of a log, the record beside what the work keeps, and no record of unfinished work.
-ghost use Rattle.std.specs.Prelude.{IfOk, OnOk, string_bytes};
-ghost use Rattle.cs_file_system.specs.Calls.{Always, IsSettled, IsSynced};
-ghost use Rattle.cs_file_system.specs.Ending.{Ends, IsFinished, IsRecorded};
+ghost use Rattle.std.specs.Prelude.{IfOk, OnOk, map, string_bytes};
+ghost use Rattle.cs_file_system.specs.Calls.{AddsAll, Always, IsSettled, IsSynced};
+ghost use Rattle.cs_file_system.specs.Ending.{IsFinished, IsRecorded, folders_synced, work_ended};
 
 use crate::calls::FileSystem;
 use std::io;
@@ -11,6 +11,8 @@ use std::io;
 pub struct EndOfWork {
     /// The folder.
     pub folder: String,
+    /// The folders in which files changed, that one or others.
+    pub changed: Vec<String>,
     /// The log, a file in the folder.
     pub log: String,
     /// The record of the work, a file in the folder.
@@ -61,11 +63,22 @@ fn record_work<F: FileSystem>(files: &mut F, work: &EndOfWork, entry: &Entry) ->
     files.keep_mark(folder, log, work.mark.as_str(), work.kept_mark.as_str())
 }
 
+/// Brings the names in these folders to the disk, in their order.
+fn sync_folders<F: FileSystem>(files: &mut F, folders: &[String]) -> io::Result<()>
+    ensures { OnOk result (AddsAll (folders_synced (map string_bytes folders.now)) (F.made files.old) (F.made files.new)) }
+{
+    for folder in folders {
+        files.sync_folder(folder.as_str())?;
+    }
+    Ok(())
+}
+
 /// Ends work of which the record is among what it keeps. That the name of its other one is gone is not on the disk yet.
 pub fn end_recorded<F: FileSystem>(files: &mut F, work: &EndOfWork) -> io::Result<()>
-    ensures { OnOk result (Ends work.now (F.made files.old) (F.made files.new)) }
+    ensures { OnOk result (AddsAll (work_ended work.now) (F.made files.old) (F.made files.new)) }
 {
     let (folder, kept) = (work.folder.as_str(), work.kept.as_str());
+    sync_folders(files, work.changed.as_slice())?;
     files.sync_folder(kept)?;
     files.sync_folder(folder)?;
     files.finish_kept(folder, kept, work.mark.as_str())

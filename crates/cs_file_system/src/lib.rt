@@ -7,19 +7,23 @@
 
 mod calls;
 mod ending;
+mod identity;
 mod locking;
 mod moving;
 mod owner;
 mod placing;
 mod recording;
+mod replacing;
 mod standing;
 mod system;
 
 pub use calls::FileSystem;
 pub use ending::{EndOfWork, Entry, end_recorded, end_work};
+pub use identity::Identity;
 pub use locking::TryLock;
 pub use moving::move_back;
 pub use placing::{mark, put, put_folder, put_owned, unmark, write_synced};
 pub use recording::{begin_record, rewrite_record, sweep};
+pub use replacing::{Replacement, replace_kept, take_away};
 pub use standing::Standing;
 pub use system::SystemFiles;

@@ -1,6 +1,6 @@
 //! Moving back what is kept.
 ghost use Rattle.std.specs.Prelude.{IfOk, IsTrue, OnOk};
-ghost use Rattle.cs_file_system.specs.Calls.{Always, IsSeenKept, MayBeReplaced};
+ghost use Rattle.cs_file_system.specs.Calls.{Always, IsSeenKept, KeepsSynced, MayBeReplaced};
 ghost use Rattle.cs_file_system.specs.Moving.{IsMovedBack};
 
 use crate::calls::FileSystem;
@@ -10,7 +10,8 @@ use std::io::ErrorKind;
 
 /// Whether something is kept at one path, or nothing stands at the other.
 fn is_kept<F: FileSystem>(files: &mut F, path: &str, kept: &str) -> io::Result<bool>
-    ensures { IfOk result (λ is_kept. IsTrue is_kept → Always (F.made files.new) (IsSeenKept path.now kept.now)) }
+    ensures kept { IfOk result (λ is_kept. IsTrue is_kept → Always (F.made files.new) (IsSeenKept path.now kept.now)) }
+    ensures synced { OnOk result (KeepsSynced (F.made files.old) (F.made files.new)) }
 {
     match files.look(kept)? {
         Standing::File => Ok(true),
@@ -25,8 +26,14 @@ fn is_kept<F: FileSystem>(files: &mut F, path: &str, kept: &str) -> io::Result<b
 
 /// Sees that what stands at a path is kept in a folder, and brings the names of what is kept to the disk. An error of the kind
 /// `AlreadyExists` if it is not kept.
-fn see_kept<F: FileSystem>(files: &mut F, path: &str, kept: &str, folder: &str) -> io::Result<()>
-    ensures { OnOk result (Always (F.made files.new) (MayBeReplaced path.now kept.now folder.now)) }
+pub fn see_kept<F: FileSystem>(
+    files: &mut F,
+    path: &str,
+    kept: &str,
+    folder: &str,
+) -> io::Result<()>
+    ensures kept { OnOk result (Always (F.made files.new) (MayBeReplaced path.now kept.now folder.now)) }
+    ensures synced { OnOk result (KeepsSynced (F.made files.old) (F.made files.new)) }
 {
     if !is_kept(files, path, kept)? {
         return Err(io::Error::from(ErrorKind::AlreadyExists));

@@ -1,7 +1,7 @@
 //! New files and folders, which get their names once they are on the disk.
 ghost use Rattle.std.specs.Prelude.{OnOk};
-ghost use Rattle.cs_file_system.specs.Calls.{Always, IsSynced};
-ghost use Rattle.cs_file_system.specs.Placing.{IsFolderPut, IsMarked, IsPut, IsUnmarked};
+ghost use Rattle.cs_file_system.specs.Calls.{AddsAll, Always, IsSynced};
+ghost use Rattle.cs_file_system.specs.Placing.{IsMarked, IsPut, IsUnmarked, folder_put};
 
 use crate::calls::FileSystem;
 use std::io;
@@ -25,6 +25,24 @@ pub fn put<F: FileSystem>(files: &mut F, beside: &str, path: &str, bytes: &[u8])
     files.rename(beside, path)
 }
 
+/// Makes a new file of these bytes beside a path, with the owner and the mode of what stands there, or where that is no file,
+/// of the folder, and brings it to the disk.
+pub fn write_owned<F: FileSystem>(
+    files: &mut F,
+    folder: &str,
+    beside: &str,
+    path: &str,
+    bytes: &[u8],
+) -> io::Result<()>
+    ensures { OnOk result (Always (F.made files.new) (IsSynced beside.now)) }
+{
+    files.remove(beside)?;
+    let mut file = files.create(beside)?;
+    files.write(beside, &mut file, bytes)?;
+    files.give_owner(folder, path, beside)?;
+    files.sync(beside, &mut file)
+}
+
 /// Puts a file of these bytes in place as `put` does, with the owner and the mode of what stands there, or where that is no
 /// file, of the folder.
 pub fn put_owned<F: FileSystem>(
@@ -36,11 +54,7 @@ pub fn put_owned<F: FileSystem>(
 ) -> io::Result<()>
     ensures { OnOk result (Always (F.made files.new) (IsPut beside.now path.now)) }
 {
-    files.remove(beside)?;
-    let mut file = files.create(beside)?;
-    files.write(beside, &mut file, bytes)?;
-    files.give_owner(folder, path, beside)?;
-    files.sync(beside, &mut file)?;
+    write_owned(files, folder, beside, path, bytes)?;
     files.rename(beside, path)
 }
 
@@ -51,7 +65,7 @@ pub fn put_folder<F: FileSystem>(
     path: &str,
     parent: &str,
 ) -> io::Result<()>
-    ensures { OnOk result (Always (F.made files.new) (IsFolderPut beside.now path.now parent.now)) }
+    ensures { OnOk result (AddsAll (folder_put beside.now path.now parent.now) (F.made files.old) (F.made files.new)) }
 {
     files.sync_folder(beside)?;
     files.rename_folder(beside, path)?;

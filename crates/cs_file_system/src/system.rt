@@ -1,12 +1,14 @@
 //! The file system of the system. Each call is one of `std::fs`; that the trait says what it does is trusted.
 ghost use Rattle.std.specs.Prelude.{⊤};
-ghost use Rattle.cs_file_system.specs.System.{system_calls};
+ghost use Rattle.cs_file_system.specs.System.{system_calls, system_identity, system_no_link};
 
 use crate::calls::FileSystem;
+use crate::identity::Identity;
 use crate::owner::give_owner;
 use crate::standing::Standing;
 use std::fs::{OpenFile, OpenOptions};
 use std::io::{ErrorKind, Write};
+use std::os::unix::fs::MetadataExt;
 use std::rt::Files;
 use std::{fs, io};
 
@@ -30,13 +32,32 @@ fn unless_gone(done: io::Result<()>) -> io::Result<()> {
     }
 }
 
-#[tactic(auto, using(crate::specs::System::trusted))]
+#[tactic(auto, using(crate::specs::System::trusted, crate::specs::System::trusted_identity, crate::specs::System::trusted_no_link))]
 impl<R: Files> FileSystem for SystemFiles<'_, R> {
     type File = R::File;
 
-    ghost made = { λ files calls. system_calls calls };
+    ghost made = { λ files calls. system_calls files calls };
 
     ghost is_at = { λ file path. ⊤ };
+
+    ghost has_identity = { system_identity };
+
+    ghost has_no_link = { system_no_link };
+
+    fn identity(&mut self, path: &str) -> io::Result<Identity> {
+        let found = fs::metadata(self.0, path)?;
+        Ok(Identity {
+            device: found.dev(),
+            number: found.ino(),
+        })
+    }
+
+    fn is_link(&mut self, path: &str) -> bool {
+        match fs::symlink_metadata(self.0, path) {
+            Ok(found) => found.is_symlink(),
+            Err(_) => false,
+        }
+    }
 
     fn look(&mut self, path: &str) -> io::Result<Standing> {
         match fs::symlink_metadata(self.0, path) {
@@ -78,6 +99,10 @@ impl<R: Files> FileSystem for SystemFiles<'_, R> {
     }
 
     fn rename(&mut self, from: &str, to: &str) -> io::Result<()> {
+        fs::rename(self.0, from, to)
+    }
+
+    fn replace(&mut self, from: &str, to: &str, _kept: &str, _folder: &str) -> io::Result<()> {
         fs::rename(self.0, from, to)
     }
 

@@ -1,0 +1,2 @@
+mod ChangingLemmas
+mod KeepingLemmas

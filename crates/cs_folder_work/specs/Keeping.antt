@@ -1,32 +1,28 @@
--- Old files that are kept before they are replaced.
-use Rattle.std.specs.Prelude.{◌≡◌, ◌⊎◌, ◌<◌, ℕ, List, [], ◌∷◌, ◌++◌, Some, codes, slice_get}
-use Rattle.cs_schema.specs.FileNames.{file_path}
+-- Old files that are kept.
+use Rattle.std.specs.Prelude.{◌≡◌, ◌⊎◌, ℕ, List, ◌∷◌}
+use Rattle.std.specs.List.{AllZip}
 use Rattle.cs_schema.specs.declared.file_name.FileName.{FileName}
-use Rattle.cs_file_system.specs.Calls.{Call, Calls, keep, miss, sync_folder}
+use Rattle.cs_file_system.specs.Calls.{Calls, WasCalled, keep, miss, see, sync_folder}
+use Rattle.cs_folders.specs.Paths.{file_at}
+use Rattle.cs_folder_work.specs.declared.record.Change.{Change}
+use Rattle.cs_folder_work.specs.declared.record.Change.TheVariants.{New, Replaces}
 
--- this was called
-abbrev pub WasCalled : Call → Calls → Type 0
-WasCalled call [] = ⊥
-WasCalled call (last ∷ before) = (call ≡ last) ⊎ WasCalled call before
+-- where the old file of a path is kept something was seen if it is replaced, and nothing if it is new
+abbrev pub WasSeen : Change → List ℕ → Calls → Type 0
+WasSeen New kept calls = WasCalled (miss kept) calls
+WasSeen Replaces kept calls = WasCalled (see kept) calls
 
--- more was called
-abbrev pub Extends : (old new : Calls → Type 0) → Type 0
-Extends old new = (calls : Calls) → new calls → (before : Calls) × old before × ((call : Call) → WasCalled call before → WasCalled call calls)
+-- What becomes of a path: what stood there got a second name, and is replaced; or nothing stood there, and it is replaced if
+-- something was kept of it before.
+abbrev pub Becomes : Change → (path kept : List ℕ) → Calls → Type 0
+Becomes change path kept calls = (WasCalled (keep path kept) calls × (change ≡ Replaces)) ⊎ (WasCalled (miss path) calls × WasSeen change kept calls)
 
--- what stood at the path got a second name, or nothing stood there
-abbrev pub IsKept : (path kept : List ℕ) → Calls → Type 0
-IsKept path kept calls = WasCalled (keep path kept) calls ⊎ WasCalled (miss path) calls
+-- what became of what stood in the store under each of these names, of which the folder keeps the old files
+abbrev pub Become : (store folder : List ℕ) → List FileName → List Change → Calls → Type 0
+Become store folder names changes calls = AllZip (λ name change. Becomes change (file_at store name) (file_at folder name) calls) names changes
 
--- the path of a store's file in a folder
-abbrev pub file_at : List ℕ → FileName → List ℕ
-file_at folder name = folder ++ codes "/" ++ file_path name
-
--- what stood in the store under each of the first names is kept in the folder
-abbrev pub AreFirstKept : (store folder : List ℕ) → List FileName → ℕ → Calls → Type 0
-AreFirstKept store folder names count calls = (k : ℕ) (name : FileName) → k < count → slice_get names k ≡ Some name → IsKept (file_at store name) (file_at folder name) calls
-
--- what stood in the store under these names is kept in the folder, and then the names in both were brought to the disk
-pub record AreKept (store folder : List ℕ) (names : List FileName) (calls : Calls) : Type 0 where
+-- the same, and then the names in both were brought to the disk
+pub record AreKept (store folder : List ℕ) (names : List FileName) (changes : List Change) (calls : Calls) : Type 0 where
   pub before : Calls
   pub last : calls ≡ sync_folder store ∷ sync_folder folder ∷ before
-  pub each : (k : ℕ) (name : FileName) → slice_get names k ≡ Some name → IsKept (file_at store name) (file_at folder name) before
+  pub each : Become store folder names changes before

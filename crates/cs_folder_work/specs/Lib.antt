@@ -1,2 +1,4 @@
+pub mod Changing
 pub mod Claims
+pub mod Folders
 pub mod Keeping

@@ -5,7 +5,7 @@ use crate::record::{Change, change_word};
 use crate::sealing::is_long_and_damaged;
 use crate::store_folders::StoreFolders;
 use crate::taking::Taken;
-use cs_file_system::Entry;
+use cs_file_system::{Entry, SystemFiles};
 use cs_folders::{FileLimits, read_bounded};
 use cs_reports::object::{Object, sites};
 use cs_schema::FileName;
@@ -107,7 +107,7 @@ fn change_values<R: Files>(
         return Ok(Value::Array(list));
     };
     for (name, change) in changes {
-        let folder = folders.reach(rt, *name)?;
+        let folder = folders.reach(&mut SystemFiles(rt), *name)?;
         let before = match change {
             Change::New => Value::Null,
             Change::Replaces => {

@@ -1,7 +1,7 @@
 //! Keeping what stands under names that are to change.
-ghost use Rattle.std.specs.Prelude.{OnOk};
-ghost use Rattle.cs_file_system.specs.Calls.{Always};
-ghost use Rattle.cs_folder_work.specs.Keeping.{AreKept, Extends, IsKept};
+ghost use Rattle.std.specs.Prelude.{IfOk, OnOk};
+ghost use Rattle.cs_file_system.specs.Calls.{Always, Extends};
+ghost use Rattle.cs_folder_work.specs.Keeping.{AreKept, Becomes, WasSeen};
 
 use crate::record::Change;
 use cs_file_system::{FileSystem, Standing};
@@ -27,7 +27,7 @@ pub fn make_kept_folder<F: FileSystem>(
 /// Keeps what stands at a path, if anything does, under a second name: a folder is moved, anything else has both names. What
 /// has the second name already stays as it is.
 fn keep_one<F: FileSystem>(files: &mut F, path: &str, kept: &str) -> io::Result<Change>
-    ensures kept { OnOk result (Always (F.made files.new) (IsKept path.now kept.now)) }
+    ensures became { IfOk result (λ change. Always (F.made files.new) (Becomes change path.now kept.now)) }
     ensures more { OnOk result (Extends (F.made files.old) (F.made files.new)) }
 {
     match files.look(path)? {
@@ -40,11 +40,13 @@ fn keep_one<F: FileSystem>(files: &mut F, path: &str, kept: &str) -> io::Result<
 
 /// Whether what stood under a name, where nothing stands, was kept by a call that was stopped: a folder was moved.
 fn kept_before<F: FileSystem>(files: &mut F, kept: &str) -> io::Result<Change>
-    ensures { OnOk result (Extends (F.made files.old) (F.made files.new)) }
+    ensures seen { IfOk result (λ change. Always (F.made files.new) (WasSeen change kept.now)) }
+    ensures more { OnOk result (Extends (F.made files.old) (F.made files.new)) }
 {
     match files.look(kept)? {
         Standing::Nothing => Ok(Change::New),
-        Standing::Folder | Standing::File => Ok(Change::Replaces),
+        Standing::Folder => Ok(Change::Replaces),
+        Standing::File => Ok(Change::Replaces),
     }
 }
 
@@ -57,13 +59,14 @@ pub fn keep_names<F: FileSystem>(
     folder: &str,
     names: &[FileName],
 ) -> io::Result<Vec<Change>>
-    ensures { OnOk result (Always (F.made files.new) (AreKept store.now folder.now names.now)) }
+    ensures { IfOk result (λ changes. Always (F.made files.new) (AreKept store.now folder.now names.now changes.items)) }
 {
     let mut changes = Vec::new(alloc);
     for name in names {
         let path = file_in(alloc, store, *name)?;
         let kept = file_in(alloc, folder, *name)?;
-        changes.push(keep_one(files, path.as_str(), kept.as_str())?)?;
+        let (path, kept) = (path.as_str(), kept.as_str());
+        changes.push(keep_one(files, path, kept)?)?;
     }
     files.sync_folder(folder)?;
     files.sync_folder(store)?;

@@ -6,6 +6,7 @@
 //! is replaced. No contract is told what a folder holds: of what a disk keeps, nothing is proved.
 #![tactic(auto)]
 
+mod changing;
 mod digests;
 mod files;
 mod finishing;
@@ -28,6 +29,6 @@ pub use giving_back::Ended;
 pub use keeping::keep_names;
 pub use record::Change;
 pub use shelf::FolderShelf;
-pub use store_folders::StoreFolders;
+pub use store_folders::{OtherFolder, Places, StoreFolders, find_folder};
 pub use taking::{Taken, resume, take, unfinished_kind};
 pub use undoing::take_undo;

@@ -1,9 +1,9 @@
 //! Moving back what an undo can't copy.
 ghost use Rattle.std.specs.Prelude.{◌≡◌};
 
+use crate::changing::move_name_back;
 use crate::shelf::FolderShelf;
-use cs_file_system::{SystemFiles, move_back};
-use cs_folders::file_in;
+use cs_file_system::SystemFiles;
 use cs_schema::FileName;
 use cs_shelf::Work;
 use std::io;
@@ -28,18 +28,14 @@ impl<R: Files + Copy + Drop> FolderShelf<R> {
         let Work::Undo(number) = taken.record.work else {
             return Ok(());
         };
-        let here = self.folders.reach(&self.rt, name)?;
-        let folder = format!(in self.alloc; "{here}/replaced/{}", taken.record.kept)?;
-        let kept = file_in(self.alloc, folder.as_str(), name)?;
-        let from = format!(in self.alloc; "{here}/replaced/{number}/{name}")?;
-        let to = file_in(self.alloc, here, name)?;
         self.has_changed = true;
-        move_back(
+        move_name_back(
             &mut SystemFiles(&self.rt),
-            from.as_str(),
-            to.as_str(),
-            kept.as_str(),
-            folder.as_str(),
+            self.alloc,
+            &self.folders,
+            &taken.record,
+            name,
+            number,
         )
     }
 }

@@ -3,7 +3,7 @@ ghost use Rattle.std.specs.Prelude.{◌≡◌};
 
 use crate::keeping::{keep_names, make_kept_folder};
 use crate::record::Change;
-use crate::shelf::FolderShelf;
+use crate::shelf::{FolderShelf, only_looked_at};
 use crate::store_folders::Part;
 use cs_file_system::SystemFiles;
 use cs_schema::FileName;
@@ -11,7 +11,6 @@ use std::alloc::{AllocError, Global};
 use std::collections::BTreeMap;
 use std::fs::File;
 use std::io;
-use std::io::ErrorKind;
 use std::rt::Files;
 
 /// Which of these names nothing was written down of. What was stays: those names may have been given new bytes already.
@@ -64,7 +63,10 @@ impl<R: Files + Copy + Drop> FolderShelf<R> {
         names: &[FileName],
         changes: &mut BTreeMap<FileName, Change>,
     ) -> io::Result<()> {
-        for part in self.folders.parts(self.alloc, &self.rt, names)? {
+        for part in self
+            .folders
+            .parts(&mut SystemFiles(&self.rt), self.alloc, names)?
+        {
             let kept = self.keep_part(&part)?;
             add_all(changes, part.names.as_slice(), kept.as_slice())?;
         }
@@ -104,8 +106,7 @@ impl<R: Files<File = File> + Copy + Drop> FolderShelf<R> {
         ensures { self.new.faults ≡ self.old.faults }
     {
         let Some(taken) = &mut self.taken else {
-            // a store that is only looked at
-            return Err(io::Error::from(ErrorKind::PermissionDenied));
+            return Err(only_looked_at());
         };
         let noted = taken.note(self.alloc, &self.rt, self.folders.store(), changes);
         self.has_kept = taken.record.keeps_any();

@@ -1,4 +1,7 @@
 //! What is written down of work on a store: as long as it is not finished, and afterwards, for an undo.
+ghost use Rattle.std.specs.Prelude.{◌↔◌, IsTrue};
+ghost use Rattle.cs_folder_work.specs.Changing.{IsNoted};
+
 use crate::names::name_of;
 use cs_schema::{FileName, Loss};
 use cs_shelf::Work;
@@ -186,6 +189,19 @@ impl Record {
             names.push(*name)?;
         }
         Ok(names)
+    }
+
+    /// Whether nothing stood under a name before the work, by what was written down.
+    pub fn is_new(&self, name: FileName) -> bool
+        ensures { IsTrue result ↔ IsNoted self.now name Change.New }
+    {
+        let Some(changes) = &self.changes else {
+            return false;
+        };
+        match changes.get(&name).copied() {
+            Some(Change::New) => true,
+            _ => false,
+        }
     }
 
     /// Whether what stood under a name is kept.

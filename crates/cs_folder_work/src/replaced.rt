@@ -5,6 +5,7 @@ use crate::recording::{RECORD_LIMIT, record_of};
 use crate::sealing::is_long_and_damaged;
 use crate::store_folders::StoreFolders;
 use crate::taking::failed;
+use cs_file_system::SystemFiles;
 use cs_folders::FileLimits;
 use cs_schema::FileName;
 use cs_shelf::{Undoable, Untaken};
@@ -56,7 +57,7 @@ pub fn last_number<R: Files + Alloc + Clone + Drop>(
     folders: &StoreFolders,
 ) -> io::Result<u32> {
     let mut last = 0;
-    for folder in folders.all(alloc, rt)? {
+    for folder in folders.all(&mut SystemFiles(rt), alloc)? {
         last = last.max(last_number_in(alloc, rt, folder)?);
     }
     Ok(last)
@@ -176,7 +177,7 @@ pub fn read_replaced<R: Files>(
         if kept.undoable.names.push(*name).is_err() {
             return Err(Untaken::Memory);
         }
-        let Ok(folder) = folders.reach(rt, *name) else {
+        let Ok(folder) = folders.reach(&mut SystemFiles(rt), *name) else {
             return Err(Untaken::Away(*name));
         };
         if *change == Change::New {

@@ -2,11 +2,12 @@
 ghost use Rattle.std.specs.Prelude.{◌≡◌, ◌≤◌, ⊤, IsErrOf};
 ghost use Rattle.cs_store.specs.Fault.{CountsFault};
 
+use crate::changing::{replace_name, take_name_away};
 use crate::digests::Digests;
 use crate::sealing::is_long_and_damaged;
 use crate::store_folders::StoreFolders;
 use crate::taking::Taken;
-use cs_file_system::{FileSystem, SystemFiles, put_owned};
+use cs_file_system::{FileSystem, SystemFiles};
 use cs_folders::{FileLimits, StoreFolder, file_in};
 use cs_schema::FileName;
 use cs_shelf::Shelf;
@@ -69,7 +70,11 @@ impl<R: Files + Copy + Drop> FolderShelf<R> {
     /// The first of the names that may change whose folder is away.
     pub fn first_away(&self) -> Option<FileName> {
         for name in self.digests.names() {
-            if self.folders.reach(&self.rt, *name).is_err() {
+            if self
+                .folders
+                .reach(&mut SystemFiles(&self.rt), *name)
+                .is_err()
+            {
                 return Some(*name);
             }
         }
@@ -103,7 +108,7 @@ impl<R: Files + Copy + Drop> FolderShelf<R> {
 
     /// The path of a store's file, whose folder is there.
     fn file(&self, name: FileName) -> io::Result<String> {
-        let folder = self.folders.reach(&self.rt, name)?;
+        let folder = self.folders.reach(&mut SystemFiles(&self.rt), name)?;
         Ok(file_in(self.alloc, folder, name)?)
     }
 
@@ -111,15 +116,16 @@ impl<R: Files + Copy + Drop> FolderShelf<R> {
     fn replace_file(&mut self, name: FileName, bytes: &[u8]) -> io::Result<()>
         ensures { self.new.faults ≡ self.old.faults }
     {
-        let folder = self.folders.reach(&self.rt, name)?;
-        let file = file_in(self.alloc, folder, name)?;
-        let beside = format!(in self.alloc; "{folder}/{name}.restoring")?;
+        let Some(taken) = &self.taken else {
+            return Err(only_looked_at());
+        };
         self.has_changed = true;
-        put_owned(
+        replace_name(
             &mut SystemFiles(&self.rt),
-            folder,
-            beside.as_str(),
-            file.as_str(),
+            self.alloc,
+            &self.folders,
+            &taken.record,
+            name,
             bytes,
         )
     }
@@ -145,9 +151,12 @@ impl<R: Files + Copy + Drop> FolderShelf<R> {
     fn remove_one(&mut self, name: FileName) -> io::Result<()>
         ensures { self.new.faults ≡ self.old.faults }
     {
-        let file = self.file(name)?;
+        let Some(taken) = &self.taken else {
+            return Err(only_looked_at());
+        };
         self.has_changed = true;
-        SystemFiles(&self.rt).remove(file.as_str())
+        let files = &mut SystemFiles(&self.rt);
+        take_name_away(files, self.alloc, &self.folders, &taken.record, name)
     }
 
     /// Counts a fault of the device, or takes the answer.
@@ -171,11 +180,9 @@ impl<R: Files + Copy + Drop> FolderShelf<R> {
             Some(taken) => taken.record.names(self.alloc)?,
             None => Vec::new(self.alloc),
         };
-        for part in self
-            .folders
-            .parts(self.alloc, &self.rt, changed.as_slice())?
-        {
-            SystemFiles(&self.rt).sync_folder(part.folder)?;
+        let files = &mut SystemFiles(&self.rt);
+        for part in self.folders.parts(files, self.alloc, changed.as_slice())? {
+            files.sync_folder(part.folder)?;
         }
         Ok(())
     }
@@ -255,6 +262,11 @@ impl<R: Files<File = File> + Copy + Drop> Shelf for FolderShelf<R> {
         let synced = self.sync_all();
         self.told(synced)
     }
+}
+
+/// The error of a change of a store that is only looked at.
+pub(crate) fn only_looked_at() -> io::Error {
+    io::Error::from(ErrorKind::PermissionDenied)
 }
 
 /// The fault of a call that failed.

@@ -1,28 +1,42 @@
 //! In which folder each file of a store stands.
+ghost use Rattle.std.specs.Prelude.{◌≡◌, IfOk, IfSome, IsTrue, string_bytes};
+ghost use Rattle.std.specs.List.{All};
+ghost use Rattle.cs_file_system.specs.Calls.{IsNoMore};
+ghost use Rattle.cs_folder_work.specs.Folders.{IsFolderOf, IsOther, number_in};
+
+use cs_file_system::{FileSystem, Identity};
 use cs_schema::FileName;
+use cs_sites::Routes;
 use std::alloc::{AllocError, Global};
 use std::collections::BTreeMap;
+use std::io;
 use std::io::ErrorKind;
-use std::os::unix::fs::MetadataExt;
-use std::rt::Files;
-use std::{fs, io};
 
 /// A folder in which files of a store stand, such as one on a disk of its own.
 #[derive(Drop)]
-struct OtherFolder {
-    path: String,
-    /// Its device, and its number there: a disk that is no longer mounted leaves another folder at the same path.
-    identity: (u64, u64),
+pub struct OtherFolder {
+    pub path: String,
+    /// A disk that is no longer mounted leaves another folder at the same path.
+    pub identity: Identity,
+}
+
+/// Which files stand in other folders than the store's, which are numbered from 0.
+#[derive(Drop)]
+pub enum Places {
+    /// Those of each site, in the folder with the number before the site's.
+    Sites(Routes),
+    /// Those of these names, whose links lead to the folders with these numbers.
+    Links(BTreeMap<FileName, usize>),
 }
 
 /// In which folder each file of a store stands: in the store's, or in another one.
 #[derive(Drop)]
 pub struct StoreFolders {
-    store: String,
-    /// The other folders, numbered from 0; none for one that is away.
-    others: Vec<Option<OtherFolder>>,
-    /// The numbers of the folders of those names whose files don't stand in the store's.
-    places: BTreeMap<FileName, usize>,
+    /// The folder of the store, in which the record of unfinished work and the journal stand.
+    pub store: String,
+    /// The other folders; none for one that is away.
+    pub others: Vec<Option<OtherFolder>>,
+    pub places: Places,
 }
 
 /// Names of a store whose files stand in one folder.
@@ -32,82 +46,82 @@ pub struct Part<'a> {
     pub names: Vec<FileName>,
 }
 
-/// What a folder is on this system, whatever its path.
-fn identity<R: Files>(rt: &R, path: &str) -> io::Result<(u64, u64)> {
-    let found = fs::metadata(rt, path)?;
-    Ok((found.dev(), found.ino()))
+/// The folder at a path; none if it can't be found.
+pub fn find_folder<F: FileSystem>(
+    files: &mut F,
+    alloc: Global,
+    path: &str,
+) -> Result<Option<OtherFolder>, AllocError>
+    ensures { IfOk result (λ found. IfSome found (λ other. string_bytes other.path ≡ path.now)) }
+{
+    match files.identity(path) {
+        Ok(identity) => Ok(Some(OtherFolder {
+            path: String::from_str(alloc, path)?,
+            identity,
+        })),
+        Err(_) => Ok(None),
+    }
+}
+
+/// Whether the folder at a path still has this identity.
+fn is_there<F: FileSystem>(files: &mut F, path: &str, identity: Identity) -> bool
+    ensures found { IsTrue result → F.has_identity path.now identity }
+    ensures same { IsNoMore (F.made files.old) (F.made files.new) }
+{
+    match files.identity(path) {
+        Ok(found) => found.device == identity.device && found.number == identity.number,
+        Err(_) => false,
+    }
+}
+
+impl Places {
+    /// The number of the folder of a name's file; none if that is the store's.
+    fn number_of(&self, name: FileName) -> Option<usize>
+        ensures { result ≡ number_in self.now name }
+    {
+        match self {
+            Places::Sites(routes) => match routes.site_of(name) {
+                Some(site) => Some(usize::from(site).saturating_sub(1)),
+                None => None,
+            },
+            Places::Links(numbers) => numbers.get(&name).copied(),
+        }
+    }
 }
 
 impl StoreFolders {
-    /// A store all of whose files stand in its folder.
-    pub fn new(alloc: Global, store: &str) -> Result<Self, AllocError> {
-        Ok(Self {
-            store: String::from_str(alloc, store)?,
-            others: Vec::new(alloc),
-            places: BTreeMap::new(alloc),
-        })
-    }
-
-    /// Adds a folder, and gives its number. One that can't be found is away, as is one of which no path is given.
-    pub fn add<R: Files>(
-        &mut self,
-        alloc: Global,
-        rt: &R,
-        path: Option<&str>,
-    ) -> Result<usize, AllocError> {
-        let number = self.others.len();
-        let mut found = None;
-        if let Some(path) = path {
-            if let Ok(identity) = identity(rt, path) {
-                let path = String::from_str(alloc, path)?;
-                found = Some(OtherFolder { path, identity });
-            }
-        }
-        self.others.push(found)?;
-        Ok(number)
-    }
-
-    /// The number of the folder that was added with this path, if one was.
-    pub fn number_of(&self, path: &str) -> Option<usize> {
-        for (number, folder) in self.others.iter().enumerate() {
-            match folder {
-                Some(folder) if folder.path.as_str() == path => return Some(number),
-                _ => {}
-            }
-        }
-        None
-    }
-
-    /// From now on the file of this name stands in the folder with this number.
-    pub fn place(&mut self, name: FileName, number: usize) -> Result<(), AllocError> {
-        self.places.insert(name, number)?;
-        Ok(())
-    }
-
-    /// The folder of the store, in which the record of unfinished work and the journal stand.
-    pub fn store(&self) -> &str {
+    /// The folder of the store.
+    pub fn store(&self) -> &str
+        ensures { result.now ≡ string_bytes self.now.store }
+    {
         self.store.as_str()
     }
 
     /// Whether the file of a name stands in the folder of the store.
     pub fn is_in_store(&self, name: FileName) -> bool {
-        !self.places.contains_key(&name)
+        self.places.number_of(name).is_none()
     }
 
     /// The folder of a name, as long as it is there. Nothing is written where a disk is no longer mounted.
-    pub fn reach<R: Files>(&self, rt: &R, name: FileName) -> io::Result<&str> {
-        match self.places.get(&name) {
-            Some(number) => self.reach_other(rt, *number),
-            None => Ok(self.store()),
+    pub fn reach<F: FileSystem>(&self, files: &mut F, name: FileName) -> io::Result<&str>
+        ensures folder { IfOk result (λ folder. IsFolderOf F.has_identity self.now name folder.now) }
+        ensures same { IsNoMore (F.made files.old) (F.made files.new) }
+    {
+        match self.places.number_of(name) {
+            Some(number) => self.reach_other(files, number),
+            None => Ok(self.store.as_str()),
         }
     }
 
     /// The folder with this number, as long as it is there.
-    fn reach_other<R: Files>(&self, rt: &R, number: usize) -> io::Result<&str> {
-        if let Some(Some(folder)) = self.others.get(number) {
-            match identity(rt, folder.path.as_str()) {
-                Ok(found) if found == folder.identity => return Ok(folder.path.as_str()),
-                _ => {}
+    pub fn reach_other<F: FileSystem>(&self, files: &mut F, number: usize) -> io::Result<&str>
+        ensures folder { IfOk result (λ folder. IsOther F.has_identity self.now number folder.now) }
+        ensures same { IsNoMore (F.made files.old) (F.made files.new) }
+    {
+        if let Some(Some(other)) = self.others.get(number) {
+            let path = other.path.as_str();
+            if is_there(files, path, other.identity) {
+                return Ok(path);
             }
         }
         Err(io::Error::from(ErrorKind::NotConnected))
@@ -119,10 +133,12 @@ impl StoreFolders {
         alloc: Global,
         names: &[FileName],
         number: Option<usize>,
-    ) -> Result<Vec<FileName>, AllocError> {
+    ) -> Result<Vec<FileName>, AllocError>
+        ensures { IfOk result (λ here. All (λ name. number_in self.now.places name ≡ number) here.items) }
+    {
         let mut here = Vec::new(alloc);
         for name in names {
-            if self.places.get(name).copied() == number {
+            if self.places.number_of(*name) == number {
                 here.push(*name)?;
             }
         }
@@ -131,12 +147,14 @@ impl StoreFolders {
 
     /// These names by their folders: first those of the store's, be there any or not, then those of each other folder that
     /// has any. Each of these folders is there.
-    pub fn parts<R: Files>(
+    pub fn parts<F: FileSystem>(
         &self,
+        files: &mut F,
         alloc: Global,
-        rt: &R,
         names: &[FileName],
-    ) -> io::Result<Vec<Part<'_>>> {
+    ) -> io::Result<Vec<Part<'_>>>
+        ensures { IfOk result (λ parts. All (λ part. All (λ name. IsFolderOf F.has_identity self.now name part.folder.now) part.names.items) parts.items) }
+    {
         let mut parts = Vec::new(alloc);
         parts.push(Part {
             folder: self.store(),
@@ -145,7 +163,7 @@ impl StoreFolders {
         for number in 0..self.others.len() {
             let names = self.names_at(alloc, names, Some(number))?;
             if !names.is_empty() {
-                let folder = self.reach_other(rt, number)?;
+                let folder = self.reach_other(files, number)?;
                 parts.push(Part { folder, names })?;
             }
         }
@@ -153,11 +171,15 @@ impl StoreFolders {
     }
 
     /// The folders that are there, the store's first.
-    pub fn all<R: Files>(&self, alloc: Global, rt: &R) -> Result<Vec<&str>, AllocError> {
+    pub fn all<F: FileSystem>(
+        &self,
+        files: &mut F,
+        alloc: Global,
+    ) -> Result<Vec<&str>, AllocError> {
         let mut all = Vec::new(alloc);
         all.push(self.store())?;
         for number in 0..self.others.len() {
-            if let Ok(folder) = self.reach_other(rt, number) {
+            if let Ok(folder) = self.reach_other(files, number) {
                 all.push(folder)?;
             }
         }

@@ -208,7 +208,7 @@ fn moved_name<R: Files>(
         if folders.is_in_store(name) {
             continue;
         }
-        let Ok(folder) = folders.reach(rt, name) else {
+        let Ok(folder) = folders.reach(&mut SystemFiles(rt), name) else {
             return Ok(Some(name));
         };
         if !has_kept_folder(alloc, rt, folder, record.kept)? {

@@ -15,7 +15,6 @@ mod store;
 mod texts;
 
 pub use limits::{CATALOG_LIMIT, FileLimits};
-pub use naming::name_sites;
 pub use new_site::{BEGUN, NewSite};
 pub use new_store::{NewStoreFolder, Way, partial_path, way_to};
 pub use output::OutputFolder;

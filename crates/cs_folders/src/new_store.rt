@@ -1,14 +1,14 @@
 //! A new store in one folder, which gets its name when all of it is on the disk.
-ghost use Rattle.std.specs.Prelude.{◌≡◌, ◌≤◌, ⊤, IsErrOf};
-ghost use Rattle.cs_store.specs.Fault.{CountsFault};
-
+use crate::naming::name_store;
+use crate::new_site::NewSite;
 use crate::output::failed;
 use crate::paths::{file_in, no_memory, path_in};
 use crate::reading::read_file;
-use cs_file_system::{SystemFiles, put_folder, write_synced};
+use cs_file_system::{SystemFiles, write_synced};
 use cs_schema::FileName;
-use cs_store::{Sink, StoreFault};
+use cs_store::StoreFault;
 use std::alloc::{AllocError, Global};
+use std::io::ErrorKind;
 use std::rt::Files;
 use std::{fs, io};
 
@@ -50,7 +50,7 @@ pub(crate) fn write_checked<R: Files>(
 pub(crate) fn is_there<R: Files>(rt: &R, path: &str) -> Result<bool, StoreFault> {
     match fs::symlink_metadata(rt, path) {
         Ok(_) => Ok(true),
-        Err(e) if e.kind() == io::ErrorKind::NotFound => Ok(false),
+        Err(e) if e.kind() == ErrorKind::NotFound => Ok(false),
         Err(_) => Err(StoreFault::Device),
     }
 }
@@ -67,7 +67,7 @@ pub fn way_to<R: Files>(alloc: Global, rt: &R, path: &str) -> Result<Way, StoreF
     Ok(Way::Free)
 }
 
-/// A new store that is made beside its path, with the number of faults that were met up to its last write.
+/// A new store that is made beside its path.
 #[derive(Drop)]
 pub struct NewStoreFolder<R> {
     alloc: Global,
@@ -75,7 +75,6 @@ pub struct NewStoreFolder<R> {
     path: String,
     partial: String,
     catalog: Vec<u8>,
-    faults: u64,
 }
 
 impl<R: Files + Drop> NewStoreFolder<R> {
@@ -89,7 +88,6 @@ impl<R: Files + Drop> NewStoreFolder<R> {
             path: String::from_str(alloc, path.trim_end_matches('/')).map_err(no_memory)?,
             partial: partial_path(alloc, path).map_err(no_memory)?,
             catalog: bytes,
-            faults: 0,
         };
         match store.begin() {
             Ok(()) => Ok(store),
@@ -101,7 +99,7 @@ impl<R: Files + Drop> NewStoreFolder<R> {
     fn begin(&self) -> io::Result<()> {
         match self.rt.remove_dir_all(self.alloc, self.partial.as_str()) {
             Ok(()) => {}
-            Err(e) if e.kind() == io::ErrorKind::NotFound => {}
+            Err(e) if e.kind() == ErrorKind::NotFound => {}
             Err(e) => return Err(e),
         }
         fs::create_dir(&self.rt, self.partial.as_str())
@@ -109,63 +107,29 @@ impl<R: Files + Drop> NewStoreFolder<R> {
 }
 
 impl<R: Files> NewStoreFolder<R> {
-    /// Counts a fault of the device, or takes the answer.
-    fn told(&mut self, answer: Result<(), StoreFault>) -> Result<(), StoreFault>
-        ensures device { IsErrOf result StoreFault.Device → CountsFault self.old.faults self.new.faults }
-        ensures counted { self.old.faults ≤ self.new.faults }
-    {
-        match answer {
-            Err(StoreFault::Device) => {
-                self.faults = self.faults.saturating_add(1);
-                Err(StoreFault::Device)
-            }
-            other => other,
-        }
+    /// Writes a file into the folder, brings it to the disk, and reads it back.
+    pub fn put(&self, name: FileName, bytes: &[u8]) -> Result<(), StoreFault> {
+        let path = file_in(self.alloc, self.partial.as_str(), name).map_err(no_memory)?;
+        write_checked(self.alloc, &self.rt, path.as_str(), bytes)
     }
 
-    /// Writes the catalog and gives the folder its name.
-    fn finish(&self) -> Result<(), StoreFault> {
-        let catalog = path_in(self.alloc, self.partial.as_str(), "catalog.toml").map_err(
-            no_memory,
-        )?;
-        let parent = path_in(self.alloc, self.path.as_str(), "..").map_err(no_memory)?;
+    /// Writes the catalog, and then gives the store its name: last of all, after the files of these sites, if there are any,
+    /// and the copies of the catalog there. `named` is the number of folders of sites in which all files have their names, also
+    /// after an error.
+    pub fn finish(&self, sites: &[NewSite], named: &mut usize) -> Result<(), StoreFault> {
+        let partial = self.partial.as_str();
+        let catalog = path_in(self.alloc, partial, "catalog.toml").map_err(no_memory)?;
         write_checked(
             self.alloc,
             &self.rt,
             catalog.as_str(),
             self.catalog.as_slice(),
         )?;
-        let named = put_folder(
-            &mut SystemFiles(&self.rt),
-            self.partial.as_str(),
-            self.path.as_str(),
-            parent.as_str(),
-        );
-        named.map_err(failed)
-    }
-}
-
-impl<R: Files> Sink for NewStoreFolder<R> {
-    ghost takes = { λ s name bytes t. ⊤ };
-
-    ghost marks = { λ s files t. ⊤ };
-
-    ghost refuses = { λ s at fault t. ⊤ };
-
-    ghost fault_count = { λ s. s.faults };
-
-    fn put(&mut self, name: FileName, bytes: &[u8]) -> Result<(), StoreFault> {
-        let path = file_in(self.alloc, self.partial.as_str(), name).map_err(no_memory)?;
-        let written = write_checked(self.alloc, &self.rt, path.as_str(), bytes);
-        self.told(written)
-    }
-
-    fn mark(&mut self, _files: u64) -> Result<(), StoreFault> {
-        let finished = self.finish();
-        self.told(finished)
-    }
-
-    fn faults(&self) -> u64 {
-        self.faults
+        let files = &mut SystemFiles(&self.rt);
+        match name_store(files, self.alloc, sites, named, partial, self.path.as_str()) {
+            Ok(()) => Ok(()),
+            Err(e) if e.kind() == ErrorKind::OutOfMemory => Err(StoreFault::Memory),
+            Err(_) => Err(StoreFault::Device),
+        }
     }
 }

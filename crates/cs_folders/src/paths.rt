@@ -1,6 +1,6 @@
 //! The paths of files in a folder.
 ghost use Rattle.std.specs.Prelude.{◌≡◌, ◌++◌, IfOk, codes, string_bytes};
-ghost use Rattle.cs_schema.specs.FileNames.{file_path};
+ghost use Rattle.cs_folders.specs.Paths.{file_at};
 
 use cs_schema::FileName;
 use cs_store::StoreFault;
@@ -15,7 +15,7 @@ pub fn path_in(alloc: Global, folder: &str, name: &str) -> Result<String, AllocE
 
 /// The path of a store's file in a folder.
 pub fn file_in(alloc: Global, folder: &str, name: FileName) -> Result<String, AllocError>
-    ensures { IfOk result (λ path. string_bytes path ≡ folder.now ++ codes "/" ++ file_path name) }
+    ensures { IfOk result (λ path. string_bytes path ≡ file_at folder.now name) }
 {
     let name = name.path();
     path_in(alloc, folder, name.as_str())

@@ -1,12 +1,12 @@
 //! A file system in memory.
-ghost use Rattle.std.specs.Prelude.{◌≡◌, IfOk, OnErr, OnOk, string_bytes};
+ghost use Rattle.std.specs.Prelude.{◌≡◌, ⊤, IfOk, OnErr, OnOk, string_bytes};
 ghost use Rattle.cs_file_system.specs.Calls.{Adds, MayAdd};
 ghost use Rattle.file_system_tests.specs.History.{call_of, calls_of};
 
 use crate::events::What;
 use crate::failing::Failing;
 use crate::log::Log;
-use cs_file_system::{FileSystem, Standing, TryLock};
+use cs_file_system::{FileSystem, Identity, Standing, TryLock};
 use std::alloc::Global;
 use std::collections::BTreeMap;
 use std::io;
@@ -102,6 +102,21 @@ impl FileSystem for MemoryFiles {
 
     ghost is_at = { λ file path. string_bytes file.path ≡ path };
 
+    ghost has_identity = { λ path identity. identity.number ≡ 0 };
+
+    ghost has_no_link = { λ path. ⊤ };
+
+    fn identity(&mut self, _path: &str) -> io::Result<Identity> {
+        Ok(Identity {
+            device: 0,
+            number: 0,
+        })
+    }
+
+    fn is_link(&mut self, _path: &str) -> bool {
+        false
+    }
+
     fn look(&mut self, path: &str) -> io::Result<Standing> {
         match self.at(path) {
             Standing::Nothing => {
@@ -165,6 +180,10 @@ impl FileSystem for MemoryFiles {
     }
 
     fn rename(&mut self, from: &str, to: &str) -> io::Result<()> {
+        self.move_to(What::Rename, from, to)
+    }
+
+    fn replace(&mut self, from: &str, to: &str, _kept: &str, _folder: &str) -> io::Result<()> {
         self.move_to(What::Rename, from, to)
     }
 

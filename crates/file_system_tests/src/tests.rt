@@ -1,8 +1,8 @@
 //! The calls of each step, and where it stops if one fails.
 use crate::memory::MemoryFiles;
 use cs_file_system::{
-    EndOfWork, Entry, FileSystem, Standing, begin_record, end_recorded, end_work, mark, move_back,
-    put, put_folder, put_owned, rewrite_record, unmark,
+    EndOfWork, Entry, FileSystem, Replacement, Standing, begin_record, end_recorded, end_work,
+    mark, move_back, put, put_folder, put_owned, replace_kept, rewrite_record, take_away, unmark,
 };
 use std::alloc::{AllocError, Global};
 use std::io;
@@ -106,12 +106,13 @@ fn rewrites_a_record(rt: HostRuntime) {
 }
 
 /// The calls by which work ends.
-const ENDED: [&str; 8] = [
+const ENDED: [&str; 9] = [
     "create s/log; ",
     "write s/log; ",
     "sync s/log; ",
     "sync folder s; ",
     "keep s/R s/replaced/1/R; ",
+    "sync folder d; ",
     "sync folder s/replaced/1; ",
     "sync folder s; ",
     "finish s/R; ",
@@ -132,8 +133,11 @@ fn first_of_ended(alloc: Global, count: u64) -> Result<String, AllocError> {
 }
 
 fn work(alloc: Global) -> Result<EndOfWork, AllocError> {
+    let mut changed = Vec::new(alloc);
+    changed.push(String::from_str(alloc, "d")?)?;
     Ok(EndOfWork {
         folder: String::from_str(alloc, "s")?,
+        changed,
         log: String::from_str(alloc, "s/log")?,
         mark: String::from_str(alloc, "s/R")?,
         kept: String::from_str(alloc, "s/replaced/1")?,
@@ -149,16 +153,16 @@ fn ends_work(rt: HostRuntime) {
         cut: None,
         text: String::from_str(alloc, "1").expect(&rt, "memory"),
     };
-    for before_failure in 0..9 {
+    for before_failure in 0..10 {
         let mut files = MemoryFiles::new(alloc, Some(before_failure));
         let ended = end_work(&mut files, &work, &entry);
-        assert_eq!(rt; ended.is_ok(), before_failure == 8);
+        assert_eq!(rt; ended.is_ok(), before_failure == 9);
         let want = first_of_ended(alloc, before_failure).expect(&rt, "memory");
         expect_calls(&rt, alloc, &files, want.as_str());
     }
     let mut files = empty(alloc);
     let done = end_recorded(&mut files, &work);
-    let want = "sync folder s/replaced/1; sync folder s; finish s/R; ";
+    let want = "sync folder d; sync folder s/replaced/1; sync folder s; finish s/R; ";
     expect(&rt, alloc, &files, done, want);
 }
 
@@ -189,4 +193,45 @@ fn moves_back(rt: HostRuntime) {
     files.log.events.clear();
     assert!(rt; move_back(&mut files, "k/1/c", "c", "k/2/c", "k/2").is_err());
     expect_calls(&rt, alloc, &files, "see k/1/c; miss k/2/c; see c; ");
+}
+
+const REPLACED: &str =
+    "remove a.new; create a.new; write a.new; sync a.new; see k/a; sync folder k; \
+rename a.new a; ";
+
+/// The paths of a file that is kept in the folder `k`.
+fn replacement(alloc: Global, path: &str) -> Result<Replacement, AllocError> {
+    Ok(Replacement {
+        folder: String::from_str(alloc, ".")?,
+        path: String::from_str(alloc, path)?,
+        beside: format!(in alloc; "{path}.new")?,
+        kept: format!(in alloc; "k/{path}")?,
+        kept_folder: String::from_str(alloc, "k")?,
+    })
+}
+
+#[test]
+fn replaces_what_is_kept(rt: HostRuntime) {
+    let alloc = rt.alloc();
+    let mut files = empty(alloc);
+    for file in ["a", "k/a", "b"] {
+        files.let_stand(file, Standing::File).expect(&rt, "memory");
+    }
+    let paths = replacement(alloc, "a").expect(&rt, "memory");
+    let done = replace_kept(&mut files, &paths, b"1");
+    expect(&rt, alloc, &files, done, REPLACED);
+    files.log.events.clear();
+    let done = take_away(&mut files, &paths);
+    expect(
+        &rt,
+        alloc,
+        &files,
+        done,
+        "see k/a; sync folder k; remove a; ",
+    );
+    // what stands there is not kept
+    files.log.events.clear();
+    let paths = replacement(alloc, "b").expect(&rt, "memory");
+    assert!(rt; take_away(&mut files, &paths).is_err());
+    expect_calls(&rt, alloc, &files, "miss k/b; see b; ");
 }

@@ -1,1 +1,2 @@
 pub mod Exits
+pub mod Paths

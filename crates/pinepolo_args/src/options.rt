@@ -3,6 +3,7 @@ ghost use Rattle.std.specs.Prelude.{◌≡◌, ◌≤◌, IfSome};
 ghost use Rattle.std.proofs.Props.{props};
 
 use crate::new_folders::{NewFolders, new_folders_of};
+use crate::paths::{file_path_of, path_of};
 use crate::sites::sites_of;
 use clap::ArgMatches;
 use cs_schema::Loss;
@@ -15,6 +16,10 @@ const WORKER_LIMIT: u32 = 64;
 
 /// The greatest number of a site.
 const SITE_LIMIT: u8 = 16;
+
+/// What is wrong with folders that are to take the places of those of sites.
+pub const NEW_FOLDERS: &str =
+    "error: --to needs --sites, and SITE=FOLDER with a site from 1 to 16, each once\n";
 
 /// The values of all arguments. One that was not given, or that the verb does not take, is absent, false or empty.
 #[derive(Clone, Copy)]
@@ -72,34 +77,38 @@ fn at_most_of(found: &ArgMatches<'_>) -> Option<u8>
 }
 
 impl<'a> Options<'a> {
-    /// Reads the arguments of a verb; none if a site is out of range, or has two new folders. Without a number of workers
-    /// there are as many as processors, within the limit.
-    pub fn read(found: &ArgMatches<'a>, processors: u32) -> Option<Options<'a>> {
-        let lost = sites_of(found, "lost")?;
-        let to = new_folders_of(found)?;
-        Some(Options {
+    /// Reads the arguments of a verb, or says what is wrong with them. Without a number of workers there are as many as
+    /// processors, within the limit.
+    pub fn read(found: &ArgMatches<'a>, processors: u32) -> Result<Options<'a>, &'static str> {
+        let Some(lost) = sites_of(found, "lost") else {
+            return Err("error: a SITE is a number from 1 to 16\n");
+        };
+        let Some(to) = new_folders_of(found) else {
+            return Err(NEW_FOLDERS);
+        };
+        Ok(Options {
             accepts_loss: found.get_flag("accept-loss"),
             at_most: at_most_of(found),
-            catalog: found.get_str("catalog"),
+            catalog: path_of(found, "catalog")?,
             disputes: found.get_one::<u32>("disputes").unwrap_or(DISPUTES),
-            file: found.get_str("file"),
+            file: path_of(found, "file")?,
             is_dry_run: found.get_flag("dry-run"),
             json: found.get_flag("json"),
             k: found.get_one::<u8>("k"),
             kept: found.get_one::<u32>("kept"),
             lost,
-            manifest: found.get_str("manifest"),
-            new: found.get_str("new"),
-            new_sites: found.get_str("new-sites"),
-            output: found.get_str("output"),
+            manifest: path_of(found, "manifest")?,
+            new: path_of(found, "new")?,
+            new_sites: path_of(found, "new-sites")?,
+            output: path_of(found, "output")?,
             quiet: found.get_flag("quiet"),
             replaces: found.get_flag("replace-partial"),
             resumes: found.get_flag("resume"),
             site: found.get_one::<u8>("site"),
-            sites: found.get_str("sites"),
-            store: found.get_str("store"),
-            svg: found.get_str("svg"),
-            table: found.get_str("table"),
+            sites: path_of(found, "sites")?,
+            store: path_of(found, "store")?,
+            svg: file_path_of(found, "svg")?,
+            table: file_path_of(found, "table")?,
             to,
             workers: workers_of(found, processors),
         })

@@ -4,8 +4,7 @@ ghost use Rattle.clap.specs.Values.{kind_of};
 ghost use Rattle.pinepolo_args.specs.Exits.{AsksForHelp, IsHelp};
 
 use crate::commands;
-use crate::options::Options;
-use crate::paths::path_problem;
+use crate::options::{NEW_FOLDERS, Options};
 use crate::request::{Request, Verb};
 use crate::verbs::verb_of;
 use clap::error::ErrorKind;
@@ -22,6 +21,9 @@ pub enum ParseExit {
     /// What is wrong with the words, and the usage of their verb.
     Usage(String),
 }
+
+/// What is wrong with words that name no verb.
+const NO_COMMAND: &str = "error: no command given\n";
 
 /// What the words ask for, which do not begin with the program's name. If they give no number of workers, there are as
 /// many as `processors`, at most 64.
@@ -65,32 +67,36 @@ fn request_of<'a>(
     ensures { IfErr result (λ exit. ¬ IsHelp exit) }
 {
     match requested(matches, processors) {
-        Some(request) => Ok(request),
-        None => Err(nothing_asked(alloc, matches)),
+        Ok(request) => Ok(request),
+        Err(problem) => Err(usage_error(alloc, problem)),
     }
 }
 
-/// The request of the matches, if they are those of a verb with its arguments.
-fn requested<'a>(matches: &ArgMatches<'a>, processors: u32) -> Option<Request<'a>> {
-    let (name, found) = matches.subcommand()?;
-    if path_problem(found).is_some() {
-        return None;
+/// The request of the matches, or what is wrong with them.
+fn requested<'a>(matches: &ArgMatches<'a>, processors: u32) -> Result<Request<'a>, &'static str> {
+    let Some((name, found)) = matches.subcommand() else {
+        return Err(NO_COMMAND);
+    };
+    let options = match Options::read(found, processors) {
+        Ok(options) => options,
+        Err(problem) => return Err(problem),
+    };
+    // a loss is accepted site by site
+    if options.accepts_loss && !options.resumes && options.lost.count() == 0 {
+        return Err("error: --accept-loss needs each SITE that is known to be gone\n");
     }
-    let Some(options) = Options::read(found, processors) else {
-        return None;
-    };
-    let Some(verb) = verb_of(name, &options) else {
-        return None;
-    };
     if options.sites.is_none() && options.to.has_any() {
-        return None;
+        return Err(NEW_FOLDERS);
     }
+    let Some(verb) = verb_of(name, &options) else {
+        return Err(NO_COMMAND);
+    };
     // the store of `load` is the one that it makes
     let (sites, new_sites) = match verb {
         Verb::Load(_) => (None, options.sites),
         _ => (options.sites, options.new_sites),
     };
-    Some(Request {
+    Ok(Request {
         verb,
         workers: options.workers,
         json: options.json,
@@ -120,28 +126,11 @@ fn exit_of(alloc: Global, error: &Error) -> ParseExit
     }
 }
 
-/// What is wrong with words that clap accepts, but that are no verb with its arguments.
-fn problem_of(matches: &ArgMatches<'_>) -> &'static str {
-    let Some((_name, found)) = matches.subcommand() else {
-        return "error: no command given\n";
-    };
-    match path_problem(found) {
-        Some(problem) => problem,
-        None if found.get_flag("accept-loss") && !found.contains_id("lost") => {
-            "error: --accept-loss needs each SITE that is known to be gone\n"
-        }
-        None if found.contains_id("to") => {
-            "error: --to needs --sites, and SITE=FOLDER with a site from 1 to 16, each once\n"
-        }
-        None => "error: no command given\n",
-    }
-}
-
-/// The error for words that clap accepts, but that are no verb with its arguments.
-fn nothing_asked(alloc: Global, matches: &ArgMatches<'_>) -> ParseExit
+/// A usage error with this text.
+fn usage_error(alloc: Global, text: &str) -> ParseExit
     ensures { ¬ IsHelp result }
 {
-    match String::from_str(alloc, problem_of(matches)) {
+    match String::from_str(alloc, text) {
         Ok(text) => ParseExit::Usage(text),
         Err(_) => ParseExit::OutOfMemory,
     }

@@ -80,8 +80,6 @@ fn verb_on_store<'a>(name: &str, options: &Options<'a>) -> Option<Verb<'a>> {
 /// The verb of this name that changes a store in place.
 fn verb_in_place<'a>(name: &str, options: &Options<'a>, store: &'a str) -> Option<Verb<'a>> {
     match name {
-        // a loss is accepted site by site
-        "restore" if options.accepts_loss && !options.resumes && options.lost.count() == 0 => None,
         "restore" => Some(Verb::Restore(RestoreArgs {
             is_dry_run: options.is_dry_run,
             accepts_loss: options.accepts_loss,

@@ -72,7 +72,7 @@ fn way_among(names: &[String]) -> Way {
     way
 }
 
-/// What stands where a site of a new store is to have its folder.
+/// What stands where a site of a new store is to have its folder; a fault if a folder cannot be listed.
 fn way_to_folder<R: Files + Alloc + Clone + Drop>(
     alloc: Global,
     rt: &R,
@@ -80,13 +80,11 @@ fn way_to_folder<R: Files + Alloc + Clone + Drop>(
 ) -> Result<Way, StoreFault> {
     match fs::symlink_metadata(rt, folder) {
         Err(e) if e.kind() == ErrorKind::NotFound => return Ok(Way::Free),
+        Ok(found) if !found.is_dir() && !found.is_symlink() => return Ok(Way::Taken),
         _ => {}
     }
-    match names_in(alloc, rt, folder) {
-        Ok(names) => Ok(way_among(names.as_slice())),
-        Err(StoreFault::Memory) => Err(StoreFault::Memory),
-        Err(StoreFault::Device) => Ok(Way::Taken),
-    }
+    let names = names_in(alloc, rt, folder)?;
+    Ok(way_among(names.as_slice()))
 }
 
 /// Removes what a run left in a folder that was stopped, but for what tells so.
@@ -130,18 +128,17 @@ fn not_free<R: Files + Alloc + Clone + Drop>(
     folder: &str,
     replaces: bool,
 ) -> Option<SitesError> {
-    let way = match way_to_folder(alloc, rt, folder) {
-        Ok(way) => way,
-        Err(_) => return Some(SitesError::OutOfMemory),
-    };
+    let way = way_to_folder(alloc, rt, folder);
     let Ok(path) = String::from_str(alloc, folder) else {
         return Some(SitesError::OutOfMemory);
     };
     match way {
-        Way::Free if identity(rt, folder).is_some() => None,
-        Way::Begun if replaces => None,
-        Way::Begun => Some(SitesError::Begun(path)),
-        _ => Some(SitesError::NotFree(path)),
+        Ok(Way::Free) if identity(rt, folder).is_some() => None,
+        Ok(Way::Begun) if replaces => None,
+        Ok(Way::Begun) => Some(SitesError::Begun(path)),
+        Ok(_) => Some(SitesError::NotFree(path)),
+        Err(StoreFault::Device) => Some(SitesError::NoFolder(path)),
+        Err(StoreFault::Memory) => Some(SitesError::OutOfMemory),
     }
 }
 

@@ -4,14 +4,12 @@ ghost use Rattle.cs_store.specs.Fault.{CountsFault};
 
 use crate::new_sites::clear_folder;
 use cs_catalog::{CatalogFault, read_catalog};
-use cs_file_system::SystemFiles;
-use cs_folders::{NewSite, NewStoreFolder, file_in, name_sites, partial_path};
+use cs_folders::{NewSite, NewStoreFolder, file_in, partial_path};
 use cs_schema::FileName;
 use cs_sites::Routes;
 use cs_store::{Sink, StoreFault};
 use pinepolo_places::NewFiles;
 use std::alloc::{AllocError, Global};
-use std::io::ErrorKind;
 use std::rt::Files;
 
 /// The folders of the sites of a new store.
@@ -92,16 +90,6 @@ impl<R: Files> NewSites<R> {
         }
     }
 
-    /// Gives all files their names, and then the copies of the catalog theirs.
-    fn name_all(&mut self) -> Result<(), StoreFault> {
-        let files = &mut SystemFiles(&self.rt);
-        match name_sites(files, self.alloc, self.sites.as_slice(), &mut self.named) {
-            Ok(()) => Ok(()),
-            Err(e) if e.kind() == ErrorKind::OutOfMemory => Err(StoreFault::Memory),
-            Err(_) => Err(StoreFault::Device),
-        }
-    }
-
     /// The path of a file before it has its name.
     fn partial(&self, name: FileName) -> Result<String, AllocError> {
         match self.sites.get(self.place_of(name)) {
@@ -160,13 +148,16 @@ impl<R: Files> SystemStore<R> {
     }
 
     /// Gives the files of the sites their names, if there are any, and then the store its own.
-    fn finish(&mut self, files: u64) -> Result<(), StoreFault>
+    fn finish(&mut self) -> Result<(), StoreFault>
         ensures { self.new.faults ≡ self.old.faults }
     {
-        if let Some(sites) = &mut self.sites {
-            sites.name_all()?;
+        match &mut self.sites {
+            Some(sites) => self.store.finish(sites.sites.as_slice(), &mut sites.named),
+            None => {
+                let mut named = 0;
+                self.store.finish(&[], &mut named)
+            }
         }
-        self.store.mark(files)
     }
 }
 
@@ -187,8 +178,8 @@ impl<R: Files> Sink for SystemStore<R> {
         self.told(written)
     }
 
-    fn mark(&mut self, files: u64) -> Result<(), StoreFault> {
-        let finished = self.finish(files);
+    fn mark(&mut self, _files: u64) -> Result<(), StoreFault> {
+        let finished = self.finish();
         self.told(finished)
     }
 

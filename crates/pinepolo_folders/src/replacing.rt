@@ -3,6 +3,8 @@ use crate::folders::Folders;
 use crate::listing::names_in;
 use crate::sites_error::SitesError;
 use cs_file_system::{FileSystem, SystemFiles, put_owned};
+use cs_folder_work::StoreFolders;
+use cs_schema::Loss;
 use cs_sites::{SiteFolder, with_folders};
 use cs_store::StoreFault;
 use pinepolo_args::NewFolders;
@@ -24,8 +26,8 @@ pub struct Adoption {
     file: String,
     /// Its text with the new folders.
     text: String,
-    /// The paths of the new folders.
-    folders: Vec<String>,
+    /// The sites with new folders.
+    sites: Loss,
 }
 
 /// Whether what stands in a folder is nothing, or what a restore left there that was stopped.
@@ -92,26 +94,19 @@ pub fn with_new_folders<R: Files + Alloc + Clone + Drop>(
     Ok(sites)
 }
 
-/// The new folders of sites, if there are any.
-fn new_folders(
-    alloc: Global,
-    sites: &[SiteFolder],
-    to: &NewFolders<'_>,
-) -> Result<Vec<String>, SitesError> {
-    let mut folders = Vec::new(alloc);
+/// The sites that get new folders, each of which has to be among these.
+fn adopted_sites(sites: &[SiteFolder], to: &NewFolders<'_>) -> Result<Loss, SitesError> {
+    let mut adopted = Loss::none();
     for number in 1..17u8 {
         if to.folder(number).is_none() {
             continue;
         }
-        let Some(site) = sites.iter().find(|site| site.number == number) else {
+        if !sites.iter().any(|site| site.number == number) {
             return Err(SitesError::NoSite(number));
-        };
-        let folder = owned(alloc, site.folder.as_str())?;
-        if folders.push(folder).is_err() {
-            return Err(SitesError::OutOfMemory);
         }
+        adopted = adopted.with(number);
     }
-    Ok(folders)
+    Ok(adopted)
 }
 
 impl Adoption {
@@ -125,26 +120,33 @@ impl Adoption {
         new: &[SiteFolder],
         to: &NewFolders<'_>,
     ) -> Result<Option<Self>, SitesError> {
-        let folders = new_folders(alloc, new, to)?;
-        if folders.is_empty() {
+        if !to.has_any() {
             return Ok(None);
         }
+        let sites = adopted_sites(new, to)?;
         let file = owned(alloc, file)?;
         match with_folders(alloc, text, old, new) {
-            Ok(Some(text)) => Ok(Some(Self {
-                file,
-                text,
-                folders,
-            })),
+            Ok(Some(text)) => Ok(Some(Self { file, text, sites })),
             Ok(None) => Err(SitesError::NotRewritable(file)),
             Err(_) => Err(SitesError::OutOfMemory),
         }
     }
 
-    /// Gives the new folders their copies of the catalog, and then writes the SITES file with them: whole or not at all.
-    fn adopt<R: Files>(&self, alloc: Global, rt: &R, catalog: &[u8]) -> io::Result<()> {
-        for folder in &self.folders {
-            put_in(alloc, rt, folder.as_str(), "catalog.toml", catalog)?;
+    /// Gives the new folders their copies of the catalog, as long as they are there, and then writes the SITES file with them:
+    /// whole or not at all.
+    fn adopt<R: Files>(
+        &self,
+        alloc: Global,
+        rt: &R,
+        folders: &StoreFolders,
+        catalog: &[u8],
+    ) -> io::Result<()> {
+        for site in 1..17u8 {
+            if self.sites.has(site) {
+                let number = usize::from(site - 1);
+                let folder = folders.reach_other(&mut SystemFiles(rt), number)?;
+                put_in(alloc, rt, folder, "catalog.toml", catalog)?;
+            }
         }
         let file = rt.canonicalize(alloc, self.file.as_str())?;
         match file.as_str().rsplit_once('/') {
@@ -171,15 +173,16 @@ fn put_in<R: Files>(
 }
 
 impl<R: Files> Folders<R> {
-    /// From now on the SITES file names the new folders of the sites that were restored into them, if there are any.
-    pub(crate) fn adopt(&self) -> Result<(), StoreFault> {
+    /// From now on the SITES file names the new folders of the sites that were restored into them, if there are any: they are
+    /// among these.
+    pub(crate) fn adopt(&self, folders: &StoreFolders) -> Result<(), StoreFault> {
         let Some(sites) = &self.sites else {
             return Ok(());
         };
         let (Some(adoption), Some(catalog)) = (sites.adoption(), sites.catalog()) else {
             return Ok(());
         };
-        match adoption.adopt(self.alloc, &self.rt, catalog) {
+        match adoption.adopt(self.alloc, &self.rt, folders, catalog) {
             Ok(()) => Ok(()),
             Err(e) if e.kind() == ErrorKind::OutOfMemory => Err(StoreFault::Memory),
             Err(_) => Err(StoreFault::Device),

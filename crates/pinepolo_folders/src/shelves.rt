@@ -158,7 +158,7 @@ impl<R: Files<File = File> + Alloc + Clock + Copy + Drop + Sync> Shelves for Fol
     ) -> Result<GivenBack, StoreFault> {
         let is_unfinished = store.has_changed() && !is_finished;
         if is_finished {
-            match self.adopt() {
+            match self.adopt(store.folders()) {
                 Ok(()) => {}
                 Err(fault) => return Err(fault),
             }

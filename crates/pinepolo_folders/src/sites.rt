@@ -1,4 +1,8 @@
 //! The folders of a store's sites.
+ghost use Rattle.std.specs.Prelude.{◌≡◌, ◌≤◌, IfSome};
+ghost use Rattle.cs_schema.specs.Lists.{member};
+ghost use Rattle.pinepolo_folders.specs.Folders.{IsSiteFolder};
+
 use crate::copies::{differing, read_copies};
 use crate::distinct::one_folder;
 use crate::folders::Folders;
@@ -30,7 +34,9 @@ pub struct SiteFolders {
 }
 
 /// Whether a loss has a site.
-fn has(loss: Loss, site: u8) -> bool {
+fn has(loss: Loss, site: u8) -> bool
+    ensures { 1 ≤ site → site ≤ 16 → result ≡ member loss site }
+{
     (1..=16).contains(&site) && loss.has(site)
 }
 
@@ -200,7 +206,9 @@ impl SiteFolders {
     }
 
     /// The folder of a site, if it is not away.
-    pub fn folder(&self, site: u8) -> Option<&str> {
+    pub fn folder(&self, site: u8) -> Option<&str>
+        ensures { IfSome result (λ folder. IsSiteFolder self.now site folder.now) }
+    {
         if has(self.away, site) {
             return None;
         }

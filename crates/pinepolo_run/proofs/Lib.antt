@@ -1,2 +1,4 @@
+mod AloneFile
+mod ChangedNames
 mod LowStatuses
 mod NoneFailed

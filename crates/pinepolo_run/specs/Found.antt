@@ -1,16 +1,14 @@
 -- What a restore does that finds by itself what was lost.
-use Rattle.std.specs.Prelude.{◌≡◌, ◌≢◌, ◌==◌, ◌||◌, ◌⊎◌, ℕ, Bool, not, false, List, [], ◌∷◌, length, Option, MatchOption, None, Some}
+use Rattle.std.specs.Prelude.{◌≡◌, ◌==◌, ◌||◌, ℕ, Bool, not, false, List, length, Option, MatchOption, None, Some}
 use Rattle.cs_schema.specs.CatalogData.{CatalogData}
 use Rattle.cs_schema.specs.Losses.{Sites}
 use Rattle.cs_schema.specs.declared.file_name.FileName.{FileName}
 use Rattle.cs_shelf.specs.declared.work.WorkKind.{WorkKind}
 use Rattle.cs_store.specs.FileSet.{Files}
 use Rattle.cs_store.specs.declared.fault.StoreFault.{StoreFault}
-use Rattle.cs_diagnosis.specs.declared.diagnosing.Diagnosis.{Diagnosis}
-use Rattle.cs_diagnosis.specs.declared.findings.Explanation.{Explanation}
-use Rattle.cs_diagnosis.specs.declared.findings.Verdict.TheVariants.{OneTable}
 use Rattle.cs_restoring.specs.Restores.{DoesRestore}
 use Rattle.pinepolo_places.specs.declared.shelves.RestoreOf.{RestoreOf}
+use Rattle.pinepolo_text.specs.OnlyLoss.{IsOnlyLoss}
 use Rattle.pinepolo_text.specs.declared.found_restore.FoundRestore.{FoundRestore}
 use Rattle.pinepolo_text.specs.declared.restoration.Restoration.{Restoration}
 use Rattle.pinepolo_run.specs.Promises.{DiagnosesStore}
@@ -18,18 +16,6 @@ use Rattle.pinepolo_run.specs.Promises.{DiagnosesStore}
 -- a restore is told what was lost: sites are named, or the restore that it resumes knows them
 abbrev pub knows_loss : Bool → Sites → Bool
 knows_loss resumes L = resumes || not (length L == 0)
-
--- one table explains the store, and this is its first explanation
-pub record IsFirstOfOne (d : Diagnosis) (L : Sites) : Type 0 where
-  pub first : Explanation
-  pub others : List Explanation
-  pub verdict : d.verdict ≡ OneTable
-  pub explanations : d.explanations.items ≡ first ∷ others
-  pub loss : L ≡ first.loss
-
--- the loss to restore: the first explanation if one table explains the store, else none
-abbrev pub IsOnlyLoss : Diagnosis → Option Sites → Type 0
-IsOnlyLoss d loss = MatchOption loss ((d.verdict ≢ OneTable) ⊎ (d.explanations.items ≡ [])) (IsFirstOfOne d)
 
 module _ {P S K : Type 0} (reads : P → List ℕ → List ℕ → P → Type 0) (opens : P → List ℕ → CatalogData → S → Type 0) (gives : S → FileName → Option (List ℕ) → S → Type 0) (refuses : S → FileName → StoreFault → S → Type 0) where
   -- The store was diagnosed, by losses of as many sites as are certain to tell. If one table explains it, its first explanation was

@@ -1,3 +1,4 @@
+pub mod Changed
 pub mod Found
 pub mod Promises
 pub mod Requests

@@ -13,6 +13,7 @@ use Rattle.cs_store.specs.declared.fault.StoreFault.{StoreFault}
 use Rattle.cs_recovery.specs.Claims.{IsRebuildAnswer}
 use Rattle.cs_diagnosis.specs.Diagnoses.{IsDiagnosis}
 use Rattle.cs_diagnosis.specs.Disputed.{AreAllDisputes}
+use Rattle.pinepolo_text.specs.OnlyLoss.{AreFatalBeside}
 use Rattle.pinepolo_text.specs.declared.diagnosed.Diagnosed.{Diagnosed}
 use Rattle.cs_reports.specs.Design.{IsDesign}
 use Rattle.cs_reports.specs.declared.design.Design.{Design}
@@ -21,6 +22,7 @@ use Rattle.cs_manifest.specs.declared.manifest.Manifest.{Manifest}
 use Rattle.pinepolo_places.specs.Finding.{FindsCatalog, FindsStore, FindsStoreText, LooksUp}
 use Rattle.cs_verifying.specs.Trust.{is_changed, gives_trusted, refuses_trusted, MayReadManifest}
 use Rattle.cs_shelf.specs.declared.work.WorkKind.{WorkKind}
+use Rattle.pinepolo_run.specs.Changed.{AreChanged}
 
 -- the store at this path was found, and the manifest says no other digest of its catalog
 pub record FindsTrusted {P S : Type 0} (reads : P → List ℕ → List ℕ → P → Type 0) (opens : P → List ℕ → CatalogData → S → Type 0) (m : Manifest) (s : P) (path : List ℕ) (C : CatalogData) (store : S) (t : P) : Type 0 where
@@ -30,7 +32,7 @@ pub record FindsTrusted {P S : Type 0} (reads : P → List ℕ → List ℕ → 
 
 module _ {P S : Type 0} (reads : P → List ℕ → List ℕ → P → Type 0) (opens : P → List ℕ → CatalogData → S → Type 0) (gives : S → FileName → Option (List ℕ) → S → Type 0) where
   -- The manifest was read, if one was asked for. The store at this path was found, and each of its files read that the manifest trusts; this is the diagnosis of what could be
-  -- read and is trusted, and where each two of its tables differ.
+  -- read and is trusted, where each two of its tables differ, what is fatal beside its only loss, and which of the files that could not be read are changed.
   pub record DiagnosesStore {I : Type 0} (refuses : S → FileName → StoreFault → S → Type 0) (opens_table : P → List ℕ → I → P → Type 0) (remaining : I → Option (List ℕ)) (leaves : P → List ℕ → Option WorkKind → Type 0)
       (s : P) (path : List ℕ) (manifest_path : Option (List ℕ)) (at_most : Option ℕ) (disputes : ℕ) (diagnosed : Diagnosed) (t : P) : Type 0 where
     pub catalog : CatalogData
@@ -45,6 +47,9 @@ module _ {P S : Type 0} (reads : P → List ℕ → List ℕ → P → Type 0) (
     pub loads : LoadsReadable (gives_trusted manifest gives) (refuses_trusted manifest gives refuses) (surviving catalog []) store files unreadable left
     pub diagnosis : IsDiagnosis catalog (contents_of files) unreadable at_most diagnosed.diagnosis
     pub disputed : AreAllDisputes catalog diagnosed.diagnosis.tables.items disputes diagnosed.disputes.items
+    pub same_catalog : diagnosed.catalog ≡ catalog
+    pub fatal : AreFatalBeside catalog diagnosed.diagnosis diagnosed.fatal.items
+    pub changed : AreChanged catalog manifest gives refuses left unreadable diagnosed.changed.items
     pub unfinished : leaves t path diagnosed.unfinished
 
   -- the store at this path was loaded without the lost sites, and its rebuild answered these files

@@ -15,6 +15,8 @@ use Rattle.cs_tables.specs.Loading.{LoadsTable}
 use Rattle.cs_tables.specs.declared.loading.Loaded.{Loaded}
 use Rattle.cs_tables.specs.Relayout.{IsLaidOut}
 use Rattle.cs_tables.specs.declared.laying.Relaid.{Relaid}
+use Rattle.cs_checking.specs.Checks.{IsFirstFatal}
+use Rattle.cs_restoring.specs.Restores.{IsKOrZero}
 use Rattle.pinepolo_places.specs.Finding.{FindsStore}
 use Rattle.pinepolo_text.specs.declared.dumped.Dumped.{Dumped}
 use Rattle.pinepolo_text.specs.declared.new_store.NewStore.{NewStore}
@@ -27,6 +29,14 @@ module _ {P I : Type 0} (opens_table : P → List ℕ → I → P → Type 0) (r
     pub opened : opens_table s path input t
     pub loads : LoadsTable C (remaining input) (Ok loaded)
 
+-- what is answered has this catalog, these files and so many rows, and tells how many sites may fail and which loss is fatal first
+pub record IsNewStore (C : CatalogData) (files : Files) (rows : ℕ) (store : NewStore) : Type 0 where
+  pub same_catalog : store.catalog ≡ C
+  pub same_files : store.files ≡ files
+  pub same_rows : store.rows ≡ rows
+  pub safe : IsKOrZero C store.k
+  pub fatal : IsFirstFatal C store.fatal
+
 module _ {P K : Type 0} (begins : P → List ℕ → List ℕ → K → P → Type 0) (takes : K → FileName → List ℕ → K → Type 0) (marks : K → ℕ → K → Type 0) where
   -- a new store of this catalog was begun, and the files were put there in order and marked
   pub record WritesStore (s : P) (path catalog : List ℕ) (files : Files) (t : P) : Type 0 where
@@ -35,12 +45,10 @@ module _ {P K : Type 0} (begins : P → List ℕ → List ℕ → K → P → Ty
     pub begun : begins s path catalog sink t
     pub saved : Saves takes marks (entries files) sink marked
 
-  -- that was done, and what is answered has this catalog, these files and so many rows
+  -- that was done, and is what is answered
   pub record MakesStore (s : P) (path : List ℕ) (C : CatalogData) (catalog : List ℕ) (files : Files) (rows : ℕ) (store : NewStore) (t : P) : Type 0 where
     pub written : WritesStore s path catalog files t
-    pub same_catalog : store.catalog ≡ C
-    pub same_files : store.files ≡ files
-    pub same_rows : store.rows ≡ rows
+    pub is : IsNewStore C files rows store
 
 module _ {P I K : Type 0} (reads : P → List ℕ → List ℕ → P → Type 0) (opens_table : P → List ℕ → I → P → Type 0) (remaining : I → Option (List ℕ)) (begins : P → List ℕ → List ℕ → K → P → Type 0) (takes : K → FileName → List ℕ → K → Type 0) (marks : K → ℕ → K → Type 0) where
   -- The catalog was read, and then the CSV: its rows make these files. Then a store with the catalog's bytes was begun, and

@@ -1,6 +1,6 @@
 //! New stores, whatever their rows come from.
-ghost use Rattle.std.specs.Prelude.{◌≡◌, IfOk, OnOk};
-ghost use Rattle.pinepolo_run.specs.TablePromises.{MakesStore, WritesStore};
+ghost use Rattle.std.specs.Prelude.{IfOk, OnOk};
+ghost use Rattle.pinepolo_run.specs.TablePromises.{IsNewStore, MakesStore, WritesStore};
 
 use cs_design::{fatal_losses, greatest_k};
 use cs_schema::{Catalog, Loss};
@@ -74,21 +74,20 @@ fn finish(
     files: FileSet,
     rows: usize,
 ) -> Result<NewStore, VerbError>
-    ensures { IfOk result (λ store. (store.catalog ≡ catalog) × (store.files ≡ files) × (store.rows ≡ rows)) }
+    ensures { IfOk result (IsNewStore catalog files rows) }
 {
     let k = greatest_k(&catalog, Loss::none()).unwrap_or(0);
     let Ok(fatal) = fatal_losses(alloc, &catalog, Loss::none()) else {
         return Err(VerbError::OutOfMemory);
     };
-    let fatal = match fatal.first() {
-        Some(loss) => *loss,
-        None => Loss::none(),
-    };
-    Ok(NewStore {
-        catalog,
-        rows,
-        files,
-        k,
-        fatal,
-    })
+    match fatal.first() {
+        Some(first) => Ok(NewStore {
+            catalog,
+            rows,
+            files,
+            k,
+            fatal: *first,
+        }),
+        None => unreachable!(),
+    }
 }

@@ -1,17 +1,15 @@
 //! The verb `restore`, if it has to find by itself what was lost.
 ghost use Rattle.std.specs.Prelude.{◌≡◌, IfOk};
 ghost use Rattle.cs_parallel_io.specs.Standing.{standing};
-ghost use Rattle.pinepolo_run.specs.Found.{IsOnlyLoss, RestoresFound, knows_loss};
+ghost use Rattle.pinepolo_run.specs.Found.{RestoresFound, knows_loss};
 
 use crate::diagnosing::diagnose;
-use cs_diagnosis::{Diagnosis, Verdict};
 use cs_rebuild::Run;
 use cs_restoring::restore;
-use cs_schema::Loss;
 use pinepolo_args::{DiagnoseArgs, RestoreArgs};
 use pinepolo_places::{Listings, Shelves, Tables, VerbError};
 use pinepolo_progress::Progress;
-use pinepolo_text::FoundRestore;
+use pinepolo_text::{FoundRestore, only_loss};
 use std::marker::Sync;
 use std::thread::Threads;
 
@@ -23,19 +21,6 @@ pub fn knows_loss(request: &RestoreArgs<'_>) -> bool
     ensures { result ≡ knows_loss request.now.resumes request.now.lost }
 {
     request.resumes || request.lost.count() != 0
-}
-
-/// The first explanation, if one table explains the store.
-fn only_loss(diagnosis: &Diagnosis) -> Option<Loss>
-    ensures { IsOnlyLoss diagnosis.now result }
-{
-    match diagnosis.verdict {
-        Verdict::OneTable => match diagnosis.explanations.first() {
-            Some(first) => Some(first.loss),
-            None => None,
-        },
-        _ => None,
-    }
 }
 
 /// Diagnoses a store, and restores the first explanation if one table explains it: as if its sites were named. Otherwise

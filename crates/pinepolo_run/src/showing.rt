@@ -34,7 +34,7 @@ fn look_over<R: Threads + Sync, G: Progress + Sync, S: SharedSource>(
     catalog: &Catalog,
     source: &S,
 ) -> Result<Seen, VerbError>
-    ensures { IfOk result (λ seen. LooksOver (standing S.answers) (standing S.fails) catalog.now source.now seen.bad.items source.now) }
+    ensures { IfOk result (λ seen. LooksOver (standing S.answers) (standing S.fails) catalog.now source.now seen.bad.items seen.lines.items source.now) }
 {
     let alloc = run.alloc;
     let Ok(found) = load_readable_side_by_side(run.rt, alloc, catalog, Loss::none(), source) else {

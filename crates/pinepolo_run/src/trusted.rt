@@ -1,5 +1,5 @@
 //! The files of a store, of which a manifest may say that some are not to be trusted.
-ghost use Rattle.std.specs.Prelude.{◌≡◌, [], None, IfOk, OnErr};
+ghost use Rattle.std.specs.Prelude.{◌≡◌, [], None, IfOk, MatchOption, OnErr};
 ghost use Rattle.std.specs.List.{AllByRecursion};
 ghost use Rattle.cs_schema.specs.FileNames.{surviving};
 ghost use Rattle.cs_store.specs.FileSet.{contents_of};
@@ -7,6 +7,7 @@ ghost use Rattle.cs_store.specs.LoadReadable.{LoadsReadable};
 ghost use Rattle.pinepolo_places.specs.Finding.{LooksUp};
 ghost use Rattle.cs_parallel_io.specs.Standing.{standing};
 ghost use Rattle.cs_verifying.specs.Trust.{gives_trusted, refuses_trusted};
+ghost use Rattle.pinepolo_run.specs.Changed.{AreChanged, IsChanged, IsUnchanged, TellsDamage};
 ghost use Rattle.pinepolo_run.specs.Promises.{FindsTrusted};
 
 use cs_inspection::bad_files;
@@ -18,7 +19,7 @@ use cs_store::{FileSet, Readable};
 use cs_verifying::{Trusted, is_changed};
 use pinepolo_places::{Places, Refusal, VerbError, find_store_text};
 use pinepolo_progress::Progress;
-use pinepolo_text::ChangedFile;
+use pinepolo_text::{ChangedFile, badness_of};
 use std::alloc::{AllocError, Global};
 use std::marker::Sync;
 use std::thread::Threads;
@@ -64,34 +65,56 @@ fn is_damaged<R: Threads + Sync, G: Progress + Sync>(
     catalog: &Catalog,
     name: FileName,
     bytes: Vec<u8>,
-) -> Result<bool, AllocError> {
+) -> Result<bool, AllocError>
+    ensures { IfOk result (TellsDamage catalog.now name bytes.items) }
+{
     let mut alone = FileSet::new(run.alloc)?;
     alone.put(name, bytes)?;
-    for (bad, _) in bad_files(run.rt, run.alloc, catalog, &alone, &[])? {
-        if bad == name {
-            return Ok(true);
-        }
-    }
-    Ok(false)
+    let bad = bad_files(run.rt, run.alloc, catalog, &alone, &[])?;
+    Ok(badness_of(bad.as_slice(), name).is_some())
 }
 
-/// Which files could not be read because the manifest says another digest of them. Each is read once more.
+/// The file of this name, if it can be read and the manifest says another digest of it.
+fn changed_file<R: Threads + Sync, G: Progress + Sync, S: SharedSource>(
+    run: &Run<'_, R, G>,
+    catalog: &Catalog,
+    source: &S,
+    manifest: &Manifest,
+    name: FileName,
+) -> Result<Option<ChangedFile>, AllocError>
+    ensures { IfOk result (λ found. MatchOption found
+        (IsUnchanged catalog.now manifest.now (standing S.answers) (standing S.fails) source.now name)
+        (IsChanged catalog.now manifest.now (standing S.answers) (standing S.fails) source.now name)) }
+{
+    let bytes = match source.read_shared(name) {
+        Ok(Some(bytes)) => bytes,
+        Ok(None) => return Ok(None),
+        Err(_) => return Ok(None),
+    };
+    if !is_changed(manifest, name.path().as_str(), bytes.as_slice()) {
+        return Ok(None);
+    }
+    match is_damaged(run, catalog, name, bytes) {
+        Ok(is_damaged) => Ok(Some(ChangedFile { name, is_damaged })),
+        Err(refused) => Err(refused),
+    }
+}
+
+/// Those of these files that can be read and of which the manifest says another digest. Each is read once more.
 pub fn changed_files<R: Threads + Sync, G: Progress + Sync, S: SharedSource>(
     run: &Run<'_, R, G>,
     catalog: &Catalog,
     source: &S,
     manifest: &Manifest,
     unreadable: &[FileName],
-) -> Result<Vec<ChangedFile>, AllocError> {
+) -> Result<Vec<ChangedFile>, AllocError>
+    ensures { IfOk result (λ changed. AreChanged catalog.now manifest.now (standing S.answers) (standing S.fails) source.now
+        unreadable.now changed.items) }
+{
     let mut changed = Vec::new(run.alloc);
     for name in unreadable {
-        if let Ok(Some(bytes)) = source.read_shared(*name) {
-            if is_changed(manifest, name.path().as_str(), bytes.as_slice()) {
-                changed.push(ChangedFile {
-                    name: *name,
-                    is_damaged: is_damaged(run, catalog, *name, bytes)?,
-                })?;
-            }
+        if let Some(file) = changed_file(run, catalog, source, manifest, *name)? {
+            changed.push(file)?;
         }
     }
     Ok(changed)

@@ -1,1 +1,5 @@
+pub mod FileLines
+pub mod Named
+pub mod OnlyLoss
+pub mod Spare
 pub mod Statuses

@@ -1,12 +1,12 @@
 //! What a check answers.
-ghost use Rattle.std.specs.Prelude.{◌≡◌};
-ghost use Rattle.pinepolo_text.specs.Statuses.{checked_status};
+ghost use Rattle.pinepolo_text.specs.Named.{AreNamed, AreNamed-prop};
 
 use crate::Unfinished;
 use crate::bad_files::BadLines;
 use crate::sited::{AwayLines, Sited, ToWords, away_sites, store_words};
+use cs_diagnosis::bad_sites;
 use cs_inspection::Badness;
-use cs_reports::{FaultWords, Next, SiteWords, site_of, with_site};
+use cs_reports::{FaultWords, Next, SiteWords};
 use cs_safety::safe;
 use cs_schema::{Catalog, FileName, Loss};
 use cs_store::Fault;
@@ -39,9 +39,15 @@ pub struct Checked {
     pub verdict: Verdict,
     /// Which kind of work on it was left unfinished.
     pub unfinished: Option<WorkKind>,
+    pub ghost named: { AreNamed catalog bad.items } by { AreNamed-prop catalog bad.items },
 }
 
 impl Checked {
+    ghost use Rattle.std.specs.Prelude.{◌≡◌, ◌↔◌, ℕ, IsTrue};
+    ghost use Rattle.cs_schema.specs.Lists.{member};
+    ghost use Rattle.cs_diagnosis.specs.Forced.{IsBadSite};
+    ghost use Rattle.pinepolo_text.specs.Statuses.{checked_status};
+
     /// The status that tells it: 0 where the store is sound, 4 where a file could not be read, else 1.
     pub fn status(&self) -> u8
         ensures { result ≡ checked_status self.now.verdict self.now.is_unreadable }
@@ -53,14 +59,10 @@ impl Checked {
     }
 
     /// The sites of the bad files.
-    pub fn bad_sites(&self) -> Loss {
-        let catalog = &self.catalog;
-        let mut loss = Loss::none();
-        for (name, _) in &self.bad {
-            let site = site_of(catalog, name.projection(), name.segment());
-            loss = with_site(loss, site);
-        }
-        loss
+    pub fn bad_sites(&self) -> Loss
+        ensures { (x : ℕ) → IsTrue (member result x) ↔ IsBadSite self.now.catalog self.now.bad.items x }
+    {
+        bad_sites(&self.catalog, self.bad.as_slice())
     }
 }
 

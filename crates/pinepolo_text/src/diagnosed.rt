@@ -1,12 +1,13 @@
 //! What a diagnosis answers.
 ghost use Rattle.std.specs.Prelude.{◌≡◌, IfOk};
+ghost use Rattle.pinepolo_text.specs.OnlyLoss.{AreFatalBeside};
 ghost use Rattle.pinepolo_text.specs.Statuses.{diagnosed_status};
 
 use crate::Unfinished;
 use crate::bad_files::BadLines;
 use crate::changed::{ChangedFile, reads_well};
 use crate::disputed::DisputeLines;
-use crate::explained::{ExplanationLines, VerdictLine};
+use crate::explained::{ExplanationLines, VerdictLine, only_loss};
 use crate::sited::{AwayLines, Sited, ToWords, away_sites, store_words};
 use crate::unrecoverable::BringBack;
 use cs_design::fatal_losses;
@@ -30,7 +31,7 @@ pub struct Diagnosed {
     pub catalog: Catalog,
     /// What is wrong with the store.
     pub diagnosis: Diagnosis,
-    /// The least losses that must not come beside the first explanation, where all explanations have one table.
+    /// The least losses that must not come beside the first explanation, if one table explains the store.
     pub fatal: Vec<Loss>,
     /// Where each two tables differ, where they were compared.
     pub disputes: Vec<TableDisputes>,
@@ -40,15 +41,17 @@ pub struct Diagnosed {
     pub unfinished: Option<WorkKind>,
 }
 
-/// The losses that must not come beside the first explanation, where one table explains a store.
+/// The least losses that must not come beside the first explanation, if one table explains a store.
 fn fatal_beside(
     alloc: Global,
     catalog: &Catalog,
     diagnosis: &Diagnosis,
-) -> Result<Vec<Loss>, AllocError> {
-    match (diagnosis.verdict, diagnosis.explanations.first()) {
-        (Verdict::OneTable, Some(first)) => fatal_losses(alloc, catalog, first.loss),
-        _ => Ok(Vec::new(alloc)),
+) -> Result<Vec<Loss>, AllocError>
+    ensures { IfOk result (λ fatal. AreFatalBeside catalog.now diagnosis.now fatal.items) }
+{
+    match only_loss(diagnosis) {
+        Some(loss) => fatal_losses(alloc, catalog, loss),
+        None => Ok(Vec::new(alloc)),
     }
 }
 
@@ -64,7 +67,8 @@ impl Diagnosed {
         unfinished: Option<WorkKind>,
     ) -> Result<Self, AllocError>
         ensures found { IfOk result (λ found. (found.catalog ≡ catalog) × (found.diagnosis ≡ diagnosis)) }
-        ensures compared { IfOk result (λ found. (found.disputes ≡ disputes) × (found.unfinished ≡ unfinished)) }
+        ensures compared { IfOk result (λ found. (found.disputes ≡ disputes) × (found.changed ≡ changed) × (found.unfinished ≡ unfinished)) }
+        ensures fatal { IfOk result (λ found. AreFatalBeside catalog diagnosis found.fatal.items) }
     {
         match fatal_beside(alloc, &catalog, &diagnosis) {
             Ok(fatal) => Ok(Self {
@@ -125,10 +129,10 @@ impl DiagnosedText<'_> {
 
     /// The restoring that one table allows, and what must not be lost after the first explanation.
     fn write_restoring<W: fmt::Write>(&self, f: &mut fmt::Formatter<W>) -> fmt::Result {
-        let Some(first) = self.diagnosed.diagnosis.explanations.first() else {
+        let Some(loss) = only_loss(&self.diagnosed.diagnosis) else {
             return Ok(());
         };
-        let (store, sites) = (store_words(self.store, self.sites), SiteWords(first.loss));
+        let (store, sites) = (store_words(self.store, self.sites), SiteWords(loss));
         // (a restore finds nothing wrong with what a manifest alone says is changed)
         let option = if reads_well(self.diagnosed.changed.as_slice()) {
             " --accept-loss"
@@ -137,7 +141,7 @@ impl DiagnosedText<'_> {
         };
         let to = ToWords {
             sites: self.sites,
-            loss: first.loss,
+            loss,
         };
         writeln!(f, "next: pinepolo restore{option} {to}{store}{sites}")?;
         if self.diagnosed.fatal.is_empty() {

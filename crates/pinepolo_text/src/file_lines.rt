@@ -1,5 +1,9 @@
 //! What is said of each file of a store.
-ghost use Rattle.std.specs.Prelude.{◌<◌, length};
+ghost use Rattle.std.specs.Prelude.{◌≡◌, IfOk, MatchOption};
+ghost use Rattle.cs_schema.specs.Lists.{IsIn};
+ghost use Rattle.cs_store.specs.FileSet.{contents_of};
+ghost use Rattle.cs_inspection.specs.BadFiles.{IsListed};
+ghost use Rattle.pinepolo_text.specs.FileLines.{AreInOrder, AreLines, IsLine};
 
 use cs_delta::{Layer, read_delta};
 use cs_file_decode::head_count;
@@ -52,13 +56,13 @@ fn count_of(
     }
 }
 
-/// What is wrong with a file, if it is among the bad ones.
-fn badness_of(bad: &[(FileName, Badness)], name: FileName) -> Option<Badness> {
+/// What is wrong with a file, if it is among the bad ones, which are in the order of their names.
+pub fn badness_of(bad: &[(FileName, Badness)], name: FileName) -> Option<Badness>
+    requires { AreInOrder bad.now }
+    ensures { MatchOption result (¬ IsListed name bad.now) (λ why. IsIn (name, why) bad.now) }
+{
     match bad.binary_search_by_key(&name, |file| file.0) {
-        Ok(at) => match bad.get(at) {
-            Some(file) => Some(file.1),
-            None => None,
-        },
+        Ok(at) => Some(bad[at].1),
         Err(_) => None,
     }
 }
@@ -70,7 +74,10 @@ fn line_of(
     files: &FileSet,
     bad: &[(FileName, Badness)],
     name: FileName,
-) -> Result<FileLine, AllocError> {
+) -> Result<FileLine, AllocError>
+    requires { AreInOrder bad.now }
+    ensures { IfOk result (λ line. (line.name ≡ name) × IsLine (contents_of files.now) bad.now line) }
+{
     let badness = badness_of(bad, name);
     let Some(bytes) = files.get(name) else {
         return Ok(FileLine {
@@ -98,7 +105,10 @@ pub fn lines_of(
     catalog: &Catalog,
     files: &FileSet,
     bad: &[(FileName, Badness)],
-) -> Result<Vec<FileLine>, AllocError> {
+) -> Result<Vec<FileLine>, AllocError>
+    requires { AreInOrder bad.now }
+    ensures { IfOk result (λ lines. AreLines catalog.now (contents_of files.now) bad.now lines.items) }
+{
     let names = catalog.surviving(alloc, Loss::none())?;
     let mut lines = Vec::new(alloc);
     for name in &names {

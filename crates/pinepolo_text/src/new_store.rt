@@ -14,7 +14,7 @@ pub struct NewStore {
     pub files: FileSet,
     /// The greatest number of sites of which any may fail.
     pub k: u8,
-    /// Where no site may fail, the first of those that must not.
+    /// The first of the least losses that must not come.
     pub fatal: Loss,
 }
 

@@ -21,3 +21,6 @@ returns-in-Ok-judge-clause-ok g c =
       is_unreadable = ap not (c.is_empty-is_unreadable.ensures ∙ ap (λ (names : List FileName). length names == 0) read);
       unfinished = c.in-Ok-unfinished.ensures;
     }
+
+pub invariant_of-result : goal.invariant_of-result
+invariant_of-result g c = record { named = λ b is. (c.in-Ok-judge.ensures.inspected.each b.0 b.1 is).0 }

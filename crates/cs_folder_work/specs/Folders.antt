@@ -1,0 +1,29 @@
+-- In which folder each file of a store stands.
+use Rattle.std.specs.Prelude.{◌≡◌, ◌-◌, ℕ, List, Option, IsSomeAnd, MatchOption, option_and_then, option_map, slice_get, string_bytes}
+use Rattle.std.specs.BTreeMap.{get}
+use Rattle.cs_schema.specs.FileNames.{name_cmp}
+use Rattle.cs_schema.specs.declared.file_name.FileName.{FileName}
+use Rattle.cs_file_system.specs.declared.identity.Identity.{Identity}
+use Rattle.cs_sites.specs.Routing.{site_of}
+use Rattle.cs_folder_work.specs.declared.store_folders.OtherFolder.{OtherFolder}
+use Rattle.cs_folder_work.specs.declared.store_folders.Places.{Places}
+use Rattle.cs_folder_work.specs.declared.store_folders.Places.TheVariants.{Links, Sites}
+use Rattle.cs_folder_work.specs.declared.store_folders.StoreFolders.{StoreFolders}
+
+-- the number of the folder of a name's file; none if that is the store's
+abbrev pub number_in : Places → FileName → Option ℕ
+number_in (Sites routes) name = option_map (λ site. site - 1) (site_of routes name)
+number_in (Links numbers) name = get name_cmp numbers name
+
+-- the folder with this number, if it is not away
+abbrev pub other_at : StoreFolders → ℕ → Option OtherFolder
+other_at folders number = option_and_then (λ other. other) (slice_get folders.others.items number)
+
+module _ (has_identity : List ℕ → Identity → Type 0) (folders : StoreFolders) where
+  -- the folder with this number is at this path, and was found there again
+  abbrev pub IsOther : ℕ → List ℕ → Type 0
+  IsOther number path = IsSomeAnd (other_at folders number) (λ other. (path ≡ string_bytes other.path) × has_identity path other.identity)
+
+  -- the folder of a name's file is at this path: the store's, or another one, which was found there again
+  abbrev pub IsFolderOf : FileName → List ℕ → Type 0
+  IsFolderOf name path = MatchOption (number_in folders.places name) (path ≡ string_bytes folders.store) (λ number. IsOther number path)

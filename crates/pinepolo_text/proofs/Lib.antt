@@ -1,0 +1,2 @@
+mod NamesFound
+mod SitesBelow
