@@ -30,9 +30,19 @@ pub record FindsTrusted {P S : Type 0} (reads : P → List ℕ → List ℕ → 
   pub finds : FindsStoreText reads opens s path C catalog store t
   pub same : is_changed m catalog_path catalog ≡ false
 
+-- the diagnosis of these files of a store, where each two of its tables differ, what is fatal beside its only loss, and which of
+-- the files that could not be read the manifest shows to be changed
+pub record IsDiagnosed {S : Type 0} (C : CatalogData) (m : Manifest) (gives : S → FileName → Option (List ℕ) → S → Type 0) (refuses : S → FileName → StoreFault → S → Type 0)
+    (store : S) (files : Files) (unreadable : List FileName) (at_most : Option ℕ) (disputes : ℕ) (diagnosed : Diagnosed) : Type 0 where
+  pub catalog : diagnosed.catalog ≡ C
+  pub diagnosis : IsDiagnosis C (contents_of files) unreadable at_most diagnosed.diagnosis
+  pub disputed : AreAllDisputes C diagnosed.diagnosis.tables.items disputes diagnosed.disputes.items
+  pub fatal : AreFatalBeside C diagnosed.diagnosis diagnosed.fatal.items
+  pub changed : AreChanged C m gives refuses store unreadable diagnosed.changed.items
+
 module _ {P S : Type 0} (reads : P → List ℕ → List ℕ → P → Type 0) (opens : P → List ℕ → CatalogData → S → Type 0) (gives : S → FileName → Option (List ℕ) → S → Type 0) where
-  -- The manifest was read, if one was asked for. The store at this path was found, and each of its files read that the manifest trusts; this is the diagnosis of what could be
-  -- read and is trusted, where each two of its tables differ, what is fatal beside its only loss, and which of the files that could not be read are changed.
+  -- The manifest was read, if one was asked for. The store at this path was found, and each of its files read that the manifest
+  -- trusts; this is what is said of what could be read and is trusted.
   pub record DiagnosesStore {I : Type 0} (refuses : S → FileName → StoreFault → S → Type 0) (opens_table : P → List ℕ → I → P → Type 0) (remaining : I → Option (List ℕ)) (leaves : P → List ℕ → Option WorkKind → Type 0)
       (s : P) (path : List ℕ) (manifest_path : Option (List ℕ)) (at_most : Option ℕ) (disputes : ℕ) (diagnosed : Diagnosed) (t : P) : Type 0 where
     pub catalog : CatalogData
@@ -45,11 +55,7 @@ module _ {P S : Type 0} (reads : P → List ℕ → List ℕ → P → Type 0) (
     pub reads_manifest : MayReadManifest opens_table remaining s manifest_path manifest reached
     pub finds : FindsTrusted reads opens manifest reached path catalog store t
     pub loads : LoadsReadable (gives_trusted manifest gives) (refuses_trusted manifest gives refuses) (surviving catalog []) store files unreadable left
-    pub diagnosis : IsDiagnosis catalog (contents_of files) unreadable at_most diagnosed.diagnosis
-    pub disputed : AreAllDisputes catalog diagnosed.diagnosis.tables.items disputes diagnosed.disputes.items
-    pub same_catalog : diagnosed.catalog ≡ catalog
-    pub fatal : AreFatalBeside catalog diagnosed.diagnosis diagnosed.fatal.items
-    pub changed : AreChanged catalog manifest gives refuses left unreadable diagnosed.changed.items
+    pub is : IsDiagnosed catalog manifest gives refuses left files unreadable at_most disputes diagnosed
     pub unfinished : leaves t path diagnosed.unfinished
 
   -- the store at this path was loaded without the lost sites, and its rebuild answered these files

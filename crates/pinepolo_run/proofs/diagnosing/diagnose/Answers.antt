@@ -33,13 +33,15 @@ returns-in-Ok-new-clause-ok g c =
       reads_manifest = c.in-Ok.ensures.ok;
       finds = c.in-Ok-find_trusted.ensures.ok;
       loads = c.in-Ok-read_trusted.ensures.loads;
-      diagnosis = subst (IsDiagnosis catalog (contents_of found.files) found.unreadable.items c.args.request.now.at_most) (sym c.in-Ok-new.ensures.found.1)
-          (subst (λ (U : List FileName). IsDiagnosis catalog (contents_of found.files) U c.args.request.now.at_most c.in-Ok-diagnose_files.diagnosis) c.as_slice-unreadable.ensures.value c.in-Ok-diagnose_files.ensures);
-      disputed = subst (λ d. AreAllDisputes catalog d.tables.items c.args.request.now.disputes c.in-Ok-new.diagnosed.disputes.items) (sym c.in-Ok-new.ensures.found.1)
-          (subst (λ v. AreAllDisputes catalog c.in-Ok-diagnose_files.diagnosis.tables.items c.args.request.now.disputes v.items) (sym c.in-Ok-new.ensures.compared.0) c.in-Ok-disputed_rows.ensures);
-      same_catalog = c.in-Ok-new.ensures.found.0;
-      fatal = subst (λ d. AreFatalBeside catalog d c.in-Ok-new.diagnosed.fatal.items) (sym c.in-Ok-new.ensures.found.1) c.in-Ok-new.ensures.fatal;
-      changed = subst (λ v. AreChanged catalog c.in-Ok.manifest (standing g.P.Store.SharedSource.answers) (standing g.P.Store.SharedSource.fails) c.in-Ok-find_trusted.found.1 found.unreadable.items v.items) (sym c.in-Ok-new.ensures.compared.1)
-          (subst (λ (U : List FileName). AreChanged catalog c.in-Ok.manifest (standing g.P.Store.SharedSource.answers) (standing g.P.Store.SharedSource.fails) c.in-Ok-find_trusted.found.1 U c.in-Ok-changed_files.changed.items) c.as_slice-unreadable.ensures.value c.in-Ok-changed_files.ensures);
+      is = record {
+        catalog = c.in-Ok-new.ensures.found.0;
+        diagnosis = subst (IsDiagnosis catalog (contents_of found.files) found.unreadable.items c.args.request.now.at_most) (sym c.in-Ok-new.ensures.found.1)
+            (subst (λ (U : List FileName). IsDiagnosis catalog (contents_of found.files) U c.args.request.now.at_most c.in-Ok-diagnose_files.diagnosis) c.as_slice-unreadable.ensures.value c.in-Ok-diagnose_files.ensures);
+        disputed = subst (λ d. AreAllDisputes catalog d.tables.items c.args.request.now.disputes c.in-Ok-new.diagnosed.disputes.items) (sym c.in-Ok-new.ensures.found.1)
+            (subst (λ v. AreAllDisputes catalog c.in-Ok-diagnose_files.diagnosis.tables.items c.args.request.now.disputes v.items) (sym c.in-Ok-new.ensures.compared.0) c.in-Ok-disputed_rows.ensures);
+        fatal = subst (λ d. AreFatalBeside catalog d c.in-Ok-new.diagnosed.fatal.items) (sym c.in-Ok-new.ensures.found.1) c.in-Ok-new.ensures.fatal;
+        changed = subst (λ v. AreChanged catalog c.in-Ok.manifest (standing g.P.Store.SharedSource.answers) (standing g.P.Store.SharedSource.fails) c.in-Ok-find_trusted.found.1 found.unreadable.items v.items) (sym c.in-Ok-new.ensures.compared.1)
+            (subst (λ (U : List FileName). AreChanged catalog c.in-Ok.manifest (standing g.P.Store.SharedSource.answers) (standing g.P.Store.SharedSource.fails) c.in-Ok-find_trusted.found.1 U c.in-Ok-changed_files.changed.items) c.as_slice-unreadable.ensures.value c.in-Ok-changed_files.ensures);
+      };
       unfinished = rw c.in-Ok-new.ensures.compared.2 c.in-Ok-unfinished.ensures;
     }
