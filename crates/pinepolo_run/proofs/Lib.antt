@@ -1,4 +1,5 @@
 mod AloneFile
 mod ChangedNames
 mod LowStatuses
+mod Mapped
 mod NoneFailed
