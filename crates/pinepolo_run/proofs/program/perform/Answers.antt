@@ -6,5 +6,5 @@ use Rattle.pinepolo_run.proofs.program.perform.Goals as goal
 pub returns-in-Diagnose : goal.returns-in-Diagnose
 returns-in-Diagnose g c = (
   rw c.in-Diagnose.is (mapped (λ d given. given ≡ answer.Diagnosed d) _ _ (λ d given same holds. rw same holds) c.diagnose.result c.map-in-Diagnose.result c.map-in-Diagnose.ensures.cases c.diagnose.ensures.ok),
-  search rules
+  search rules,
 )
