@@ -2,7 +2,7 @@
 ghost use Rattle.std.specs.Prelude.{◌≡◌, ◌<◌, ◌≤◌, ◌^◌, false, length};
 
 use crate::squares::{Squares, has_answers, is_refused_at_one};
-use cs_board::{Gate, Work, run, run_in_turn};
+use cs_board::{Gate, Work, run};
 use std::sync::atomic::{AtomicU64, Ordering};
 use std::thread::Threads;
 
@@ -153,6 +153,4 @@ fn gate_is_told_before_a_piece_is_begun(rt: HostRuntime) {
     };
     let round = run(&rt, rt.alloc(), 1, &told, &gate);
     assert!(rt; has_answers(round, &[1, 2, 3]));
-    let round = run_in_turn(rt.alloc(), &told, &gate);
-    assert!(rt; has_answers(round, &[4, 5, 6]));
 }

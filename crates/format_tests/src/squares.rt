@@ -2,7 +2,7 @@
 ghost use Rattle.std.specs.Prelude.{◌≡◌, IfSome};
 ghost use Rattle.std.specs.List.{Contains};
 
-use cs_board::{Board, OpenGate, RunFault, Seat, Work, run, run_in_turn};
+use cs_board::{Board, OpenGate, RunFault, Seat, Work, run};
 use std::test::Fail;
 
 // No piece has this number.
@@ -153,8 +153,6 @@ fn squares_with_ample_memory(rt: HostRuntime) {
     let cases: [&[u64]; 2] = [&[], &[0, 1, 4, 9, 16]];
     for wanted in cases {
         let squares = Squares::of(wanted.len() as u32);
-        let round = run_in_turn(rt.alloc(), &squares, &OpenGate);
-        assert!(rt; has_answers(round, wanted));
         for workers in [1, 2, 64] {
             let round = run(&rt, rt.alloc(), workers, &squares, &OpenGate);
             assert!(rt; has_answers(round, wanted), "{workers} workers");
@@ -165,7 +163,6 @@ fn squares_with_ample_memory(rt: HostRuntime) {
 #[test]
 fn least_fault_with_ample_memory(rt: HostRuntime) {
     let squares = Squares::refused_at(5, 3, 1);
-    assert!(rt; is_refused_at_one(run_in_turn(rt.alloc(), &squares, &OpenGate)));
     for workers in [1, 2, 64] {
         let round = run(&rt, rt.alloc(), workers, &squares, &OpenGate);
         assert!(rt; is_refused_at_one(round), "{workers} workers");
