@@ -7,7 +7,6 @@ pub mod CellLaws
 pub mod Encodings
 pub mod Runs
 pub mod RunLaws
-pub mod RunParts
 pub mod RunTexts
 pub mod Plain
 pub mod PlainLaws

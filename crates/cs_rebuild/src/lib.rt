@@ -41,7 +41,6 @@ mod recovery;
 mod rounds;
 mod rowwise;
 mod run;
-mod run_texts;
 mod sound_files;
 mod sound_store;
 mod surviving;
