@@ -5,14 +5,14 @@ ghost use Rattle.pinepolo_places.specs.Finding.{LooksUp};
 ghost use Rattle.pinepolo_drill.specs.Drills.{DrillsStore, IsReach};
 
 use crate::drilled::Drilled;
-use crate::meter::{Meter, Stopwatch};
+use crate::meter::Stopwatch;
 use cs_design::greatest_k;
 use cs_drill::drill as drill_files;
 use cs_parallel_io::load_side_by_side;
 use cs_rebuild::Run;
 use cs_schema::{Catalog, Loss};
 use pinepolo_args::DrillArgs;
-use pinepolo_places::{Places, VerbError, find_store};
+use pinepolo_places::{Meter, Places, VerbError, find_store};
 use pinepolo_progress::{Progress, Stage};
 use std::marker::Sync;
 use std::thread::Threads;

@@ -10,5 +10,5 @@ mod trial_words;
 
 pub use drilled::{Drilled, DrilledText};
 pub use drilling::drill;
-pub use meter::{Measure, Meter};
+pub use meter::Measure;
 pub use objects::drilled_object;

@@ -9,8 +9,7 @@ use cs_folders::{FileLimits, OutputFolder, StoreFolder, read_catalog_file, write
 use cs_schema::Catalog;
 use cs_sites::SitedSource;
 use cs_store::StoreFault;
-use pinepolo_places::{Listings, Places, WorkKind};
-use pinepolo_run::World;
+use pinepolo_places::{Listings, Places, WorkKind, World};
 use std::alloc::{AllocError, Global};
 use std::fs::File;
 use std::marker::Sync;

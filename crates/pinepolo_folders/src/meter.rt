@@ -1,6 +1,6 @@
 //! The time and the memory of this process, as the system tells them.
 use crate::folders::Folders;
-use pinepolo_run::Meter;
+use pinepolo_places::Meter;
 use std::alloc::Global;
 use std::fs;
 use std::io::Read;

@@ -14,7 +14,7 @@ use cs_schema::Loss;
 use cs_sites::{SiteFolder, SitesFault, folder_beside, folders_of, read_sites};
 use cs_store::StoreFault;
 use pinepolo_args::NewFolders;
-use pinepolo_run::AwaySite;
+use pinepolo_places::AwaySite;
 use std::alloc::{AllocError, Global};
 use std::rt::Files;
 

@@ -6,7 +6,7 @@ use crate::folders::Folders;
 use crate::sites_error::SitesError;
 use cs_schema::Loss;
 use pinepolo_args::{ParseExit, Request, Verb};
-use pinepolo_run::{AwaySite, Sited};
+use pinepolo_places::{AwaySite, Sited};
 use std::rt::Files;
 
 /// A request, with the folders of its store's sites found.

@@ -1,6 +1,7 @@
 //! Sites that are away, as JSON.
+use crate::answer::{Answer, AnswerText};
 use cs_reports::object::Object;
-use pinepolo_text::{Answer, AnswerText, Sited};
+use pinepolo_places::Sited;
 use serde_json::Value;
 use std::alloc::{AllocError, Global};
 

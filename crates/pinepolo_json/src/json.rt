@@ -1,4 +1,5 @@
 //! Answers as JSON.
+use crate::answer::Answer;
 use crate::diagnosed_json::diagnosed_object;
 use crate::new_store_json::new_store_object;
 use crate::restored_json::{found_object, restoration_object};
@@ -9,8 +10,8 @@ use cs_schema::{Catalog, FileName};
 use cs_verifying::verified_object;
 use pinepolo_drill::drilled_object;
 use pinepolo_text::{
-    Answer, Checked, Recovered, Verdict, Wrong, file_object as shown_file_object, files_of,
-    store_object, with_unfinished,
+    Checked, Recovered, Verdict, Wrong, file_object as shown_file_object, files_of, store_object,
+    with_unfinished,
 };
 use serde_json::Value;
 use std::alloc::{AllocError, Global};

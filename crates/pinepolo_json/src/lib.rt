@@ -1,6 +1,7 @@
-//! What the verbs of pinepolo print: an answer as text or as JSON, and a refusal as JSON.
+//! What pinepolo prints: the answer of whatever verb as text or as JSON, with its status, and a refusal as JSON.
 #![tactic(auto)]
 
+mod answer;
 mod away_json;
 mod diagnosed_json;
 mod disputed_json;
@@ -10,4 +11,5 @@ mod printing;
 mod restored_json;
 mod undone_json;
 
+pub use answer::{Answer, AnswerText};
 pub use printing::{print_bytes, say, say_refusal};

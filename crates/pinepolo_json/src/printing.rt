@@ -1,13 +1,14 @@
 //! Answers on standard output, and what of them is for standard error.
 ghost use Rattle.std.specs.Prelude.{◌≡◌, ◌≤◌, ◌⊎◌};
-ghost use Rattle.pinepolo_text.specs.Statuses.{answer_status};
+ghost use Rattle.pinepolo_json.specs.Statuses.{answer_status};
 ghost use Rattle.cs_verifying.specs.Statuses.{listed_status};
 
+use crate::answer::{Answer, AnswerText};
 use crate::away_json::with_away;
 use crate::json::answer_object;
 use cs_verifying::Listed;
 use pinepolo_places::{DEVICE, DONE, MEMORY, REFUSED, VerbError, WorkKind, error_object};
-use pinepolo_text::{Answer, AnswerText, Dumped, Unfinished, store_words};
+use pinepolo_text::{Dumped, Unfinished, store_words};
 use serde_json::Value;
 use std::alloc::{AllocError, Global};
 use std::io::Write;

@@ -10,9 +10,12 @@ mod error_json;
 mod error_text;
 mod finding;
 mod listings;
+mod meter;
 mod places;
 mod shelves;
+mod sited;
 mod tables;
+mod world;
 
 pub use causes::{CsvPlace, Failure, Refusal};
 pub use cs_folders::Way;
@@ -23,6 +26,9 @@ pub use error::{
 pub use error_json::error_object;
 pub use finding::{find_store, find_store_text, look_up, look_up_text};
 pub use listings::Listings;
+pub use meter::Meter;
 pub use places::Places;
 pub use shelves::{GivenBack, RestoreOf, Shelves};
+pub use sited::{AwaySite, Sited};
 pub use tables::{NewFiles, Tables};
+pub use world::World;

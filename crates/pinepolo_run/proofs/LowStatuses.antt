@@ -11,9 +11,10 @@ use Rattle.pinepolo_text.specs.declared.checked.Verdict.{Verdict}
 use Rattle.pinepolo_text.specs.declared.checked.Verdict.TheVariants.{Sound, Fatal, BadFiles, Unsound}
 use Rattle.pinepolo_text.specs.declared.restoration.Restoration.{Restoration}
 use Rattle.pinepolo_text.specs.declared.restoration.Restoration.TheVariants as restoration
-use Rattle.pinepolo_text.specs.declared.answer.Answer.{Answer}
-use Rattle.pinepolo_text.specs.declared.answer.Answer.TheVariants as answer
-use Rattle.pinepolo_text.specs.Statuses.{answer_status, checked_status, diagnosed_status, found_status, restoration_status}
+use Rattle.pinepolo_json.specs.declared.answer.Answer.{Answer}
+use Rattle.pinepolo_json.specs.declared.answer.Answer.TheVariants as answer
+use Rattle.pinepolo_json.specs.Statuses.{answer_status}
+use Rattle.pinepolo_text.specs.Statuses.{checked_status, diagnosed_status, found_status, restoration_status}
 
 if_low : (b : Bool) (m n : ℕ) → m ≤ 6 → n ≤ 6 → (if b then m else n) ≤ 6
 if_low true m n low other = low

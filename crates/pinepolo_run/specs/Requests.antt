@@ -9,9 +9,9 @@ use Rattle.pinepolo_args.specs.declared.request.Verb.TheVariants as verb
 use Rattle.pinepolo_places.specs.Finding.{LooksUp}
 use Rattle.pinepolo_places.specs.Status.{status_of}
 use Rattle.pinepolo_places.specs.declared.error.VerbError.{VerbError}
-use Rattle.pinepolo_text.specs.Statuses.{answer_status}
-use Rattle.pinepolo_text.specs.declared.answer.Answer.{Answer}
-use Rattle.pinepolo_text.specs.declared.answer.Answer.TheVariants as answer
+use Rattle.pinepolo_json.specs.Statuses.{answer_status}
+use Rattle.pinepolo_json.specs.declared.answer.Answer.{Answer}
+use Rattle.pinepolo_json.specs.declared.answer.Answer.TheVariants as answer
 use Rattle.cs_checking.specs.Checks.{ChecksStore}
 use Rattle.cs_restoring.specs.Restores.{DoesRestore}
 use Rattle.cs_restoring.specs.Undoes.{DoesUndo, undo_asked}

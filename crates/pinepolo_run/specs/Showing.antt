@@ -11,8 +11,8 @@ use Rattle.cs_inspection.specs.declared.badness.Badness.{Badness}
 use Rattle.cs_reports.specs.Design.{IsDesign}
 use Rattle.cs_file_decode.specs.Reports.{IsReportOf}
 use Rattle.pinepolo_text.specs.FileLines.{AreLines}
-use Rattle.pinepolo_text.specs.declared.answer.Answer.{Answer}
-use Rattle.pinepolo_text.specs.declared.answer.Answer.TheVariants.{Shown, ShownFile}
+use Rattle.pinepolo_json.specs.declared.answer.Answer.{Answer}
+use Rattle.pinepolo_json.specs.declared.answer.Answer.TheVariants.{Shown, ShownFile}
 use Rattle.pinepolo_text.specs.declared.store_view.StoreView.{StoreView}
 use Rattle.pinepolo_text.specs.declared.file_lines.FileLine.{FileLine}
 use Rattle.pinepolo_text.specs.declared.file_view.FileView.{FileView}

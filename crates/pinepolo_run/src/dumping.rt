@@ -4,14 +4,13 @@ ghost use Rattle.std.specs.Option.{option_map};
 ghost use Rattle.cs_parallel_io.specs.Standing.{standing};
 ghost use Rattle.pinepolo_run.specs.TablePromises.{DumpsStore, GivesText, ReadsText, WritesText};
 
-use crate::host::World;
 use crate::surviving::{Surviving, read_survivors, refuse};
 use crate::ways::require_free;
 use cs_parallel_io::SharedSource;
 use cs_rebuild::Run;
 use cs_tables::DumpFault;
 use pinepolo_args::DumpArgs;
-use pinepolo_places::{Failure, Tables, VerbError, WorkKind, find_store};
+use pinepolo_places::{Failure, Tables, VerbError, WorkKind, World, find_store};
 use pinepolo_progress::{Progress, Stage};
 use pinepolo_text::Dumped;
 use std::alloc::Global;

@@ -2,9 +2,7 @@
 ghost use Rattle.std.specs.Prelude.{◌≤◌};
 
 use cs_rebuild::Run;
-use pinepolo_drill::Meter;
-use pinepolo_places::{Listings, Places, Shelves, Tables};
-use pinepolo_text::Sited;
+use pinepolo_places::Sited;
 use std::alloc::Global;
 
 /// How many rows a piece of work has.
@@ -35,6 +33,3 @@ impl<'a, R, G> Host<'a, R, G> {
         }
     }
 }
-
-/// All that the verbs of a program find and make by path.
-pub trait World: Places + Tables + Listings + Shelves + Meter {}

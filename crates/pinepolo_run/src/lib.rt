@@ -21,8 +21,6 @@ mod surviving;
 mod trusted;
 mod ways;
 
-pub use host::{CUT, Host, World};
-pub use pinepolo_drill::Meter;
-pub use pinepolo_places::{VerbError, report};
-pub use pinepolo_text::{AwaySite, Sited};
+pub use host::{CUT, Host};
+pub use pinepolo_places::{Meter, VerbError, World, report};
 pub use program::run;

@@ -2,7 +2,6 @@
 ghost use Rattle.std.specs.Prelude.{IfOk};
 ghost use Rattle.pinepolo_run.specs.TablePromises.{LoadsStore, ReadsTable};
 
-use crate::host::World;
 use crate::making::{make_store, unsafe_already};
 use crate::ways::require_free;
 use cs_csv::CsvFault;
@@ -11,7 +10,7 @@ use cs_schema::Catalog;
 use cs_store::StoreFault;
 use cs_tables::{LoadFault, LoadWords, Loaded};
 use pinepolo_args::LoadArgs;
-use pinepolo_places::{CsvPlace, Failure, Refusal, VerbError, look_up_text};
+use pinepolo_places::{CsvPlace, Failure, Refusal, VerbError, World, look_up_text};
 use pinepolo_progress::{LinesRead, Progress, Stage};
 use pinepolo_text::NewStore;
 use std::alloc::Global;

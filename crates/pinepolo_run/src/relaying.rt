@@ -3,7 +3,6 @@ ghost use Rattle.std.specs.Prelude.{IfOk};
 ghost use Rattle.cs_parallel_io.specs.Standing.{standing};
 ghost use Rattle.pinepolo_run.specs.TablePromises.{LaysOutStore, LaysOutSurvivors, RelaysStore};
 
-use crate::host::World;
 use crate::making::{make_store, unsafe_already};
 use crate::surviving::{Surviving, read_survivors, refuse};
 use crate::ways::require_free;
@@ -13,7 +12,7 @@ use cs_schema::Catalog;
 use cs_store::FileSet;
 use cs_tables::{Relaid, RelayoutFault, RelayoutWords};
 use pinepolo_args::RelayoutArgs;
-use pinepolo_places::{Refusal, VerbError, find_store, look_up_text};
+use pinepolo_places::{Refusal, VerbError, World, find_store, look_up_text};
 use pinepolo_progress::{Progress, Stage};
 use pinepolo_text::NewStore;
 use std::marker::Sync;

@@ -1,15 +1,11 @@
--- The status that tells an answer.
+-- The status that tells what a verb came to.
 use Rattle.std.specs.Prelude.{ℕ, Bool, true, false, Option, Some, None}
-use Rattle.cs_verifying.specs.Statuses.{listed_status, verified_status}
 use Rattle.pinepolo_text.specs.declared.checked.Verdict.{Verdict}
 use Rattle.pinepolo_text.specs.declared.checked.Verdict.TheVariants.{Sound}
 use Rattle.cs_diagnosis.specs.declared.findings.Verdict.{Verdict as FoundVerdict}
 use Rattle.cs_diagnosis.specs.declared.findings.Verdict.TheVariants as Found
 use Rattle.pinepolo_text.specs.declared.restoration.Restoration.{Restoration}
 use Rattle.pinepolo_text.specs.declared.restoration.Restoration.TheVariants as restoration
-use Rattle.pinepolo_drill.specs.Statuses.{drilled_status}
-use Rattle.pinepolo_text.specs.declared.answer.Answer.{Answer}
-use Rattle.pinepolo_text.specs.declared.answer.Answer.TheVariants as answer
 
 -- 0 where the store is sound, 4 where a file could not be read, else 1
 abbrev pub checked_status : Verdict → Bool → ℕ
@@ -33,14 +29,3 @@ restoration_status (restoration.Doubted _) = 5
 abbrev pub found_status : FoundVerdict → Option Restoration → ℕ
 found_status verdict (Some restoration) = restoration_status restoration
 found_status verdict None = diagnosed_status verdict
-
--- 0, but of a check, of a drill, of a diagnosis, of a restore and of manifests that of what they came to
-abbrev pub answer_status : Answer → ℕ
-answer_status (answer.Checked checked) = checked_status checked.verdict checked.is_unreadable
-answer_status (answer.Drilled drilled) = drilled_status drilled.trials.items
-answer_status (answer.Diagnosed diagnosed) = diagnosed_status diagnosed.diagnosis.verdict
-answer_status (answer.Restored restored) = restoration_status restored
-answer_status (answer.RestoredFound found) = found_status found.diagnosed.diagnosis.verdict found.restoration
-answer_status (answer.Listed listed) = listed_status listed.files.items
-answer_status (answer.Verified verified) = verified_status verified.comparison
-answer_status _ = 0

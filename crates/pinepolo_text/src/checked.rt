@@ -3,14 +3,14 @@ ghost use Rattle.pinepolo_text.specs.Named.{AreNamed, AreNamed-prop};
 
 use crate::Unfinished;
 use crate::bad_files::BadLines;
-use crate::sited::{AwayLines, Sited, ToWords, away_sites, store_words};
+use crate::sited::{AwayLines, ToWords, away_sites, store_words};
 use cs_diagnosis::bad_sites;
 use cs_inspection::Badness;
 use cs_reports::{FaultWords, Next, SiteWords};
 use cs_safety::safe;
 use cs_schema::{Catalog, FileName, Loss};
 use cs_store::Fault;
-use pinepolo_places::{DEVICE, DONE, REFUSED, WorkKind};
+use pinepolo_places::{DEVICE, DONE, REFUSED, Sited, WorkKind};
 use std::fmt;
 
 /// What a check came to.

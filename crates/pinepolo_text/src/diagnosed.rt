@@ -8,13 +8,13 @@ use crate::bad_files::BadLines;
 use crate::changed::{ChangedFile, reads_well};
 use crate::disputed::DisputeLines;
 use crate::explained::{ExplanationLines, VerdictLine, only_loss};
-use crate::sited::{AwayLines, Sited, ToWords, away_sites, store_words};
+use crate::sited::{AwayLines, ToWords, away_sites, store_words};
 use crate::unrecoverable::BringBack;
 use cs_design::fatal_losses;
 use cs_diagnosis::{Diagnosis, TableDisputes, Verdict};
 use cs_reports::SiteWords;
 use cs_schema::{Catalog, Loss};
-use pinepolo_places::{DONE, REFUSED, WorkKind};
+use pinepolo_places::{DONE, REFUSED, Sited, WorkKind};
 use std::alloc::{AllocError, Global};
 use std::fmt;
 

@@ -4,11 +4,12 @@ ghost use Rattle.cs_schema.specs.Lists.{member};
 ghost use Rattle.pinepolo_text.specs.Spare.{IsSpare, Spares};
 
 use crate::diagnosed::{Diagnosed, DiagnosedText};
-use crate::sited::{Sited, store_words};
+use crate::sited::store_words;
 use cs_design::within::is_within;
 use cs_diagnosis::{Diagnosis, Explanation};
 use cs_reports::SiteWords;
 use cs_schema::Loss;
+use pinepolo_places::Sited;
 use std::fmt;
 
 /// A loss that a diagnosis makes doubtful. Nothing was changed by it.

@@ -6,13 +6,14 @@ use crate::counted::Counted;
 use crate::file_view::FileView;
 use crate::row_words::{BaseRow, Hex, ItemWords};
 use crate::samples::{first_end, has_gap, last_begin};
-use crate::sited::{Sited, store_words};
+use crate::sited::store_words;
 use cs_delta::{Delta, Layer};
 use cs_file_decode::{Content, Digests, Nonsense};
 use cs_jix::JoinIndex;
 use cs_reports::{ColumnNames, site_of};
 use cs_schema::{Catalog, FileName};
 use cs_segment::Segment;
+use pinepolo_places::Sited;
 use std::fmt;
 
 /// Writes how many rows a segment has, and the first and the last of them with their keys.

@@ -5,8 +5,8 @@ ghost use Rattle.pinepolo_text.specs.Statuses.{found_status};
 use crate::diagnosed::{Diagnosed, DiagnosedText};
 use crate::doubted::DoubtedText;
 use crate::restoration::Restoration;
-use crate::sited::Sited;
 use cs_diagnosis::Verdict;
+use pinepolo_places::Sited;
 use std::fmt;
 
 /// A store that was diagnosed, and restored if one table explains it.

@@ -1,10 +1,9 @@
-//! What the verbs of pinepolo answer, with its text and its status, and what is said of a store as a whole and of one of its
+//! What each verb of pinepolo answers, with its text and its status, and what is said of a store as a whole and of one of its
 //! files, as text and as objects of JSON.
 //!
 //! Nothing here reads; what a store's folder holds is handed in.
 #![tactic(auto)]
 
-mod answer;
 mod bad_files;
 mod catalog_words;
 mod cell_words;
@@ -39,29 +38,30 @@ mod undone;
 mod unfinished;
 mod unrecoverable;
 
-pub use answer::{Answer, AnswerText};
 pub use bad_files::files_of;
 pub use cell_words::CellWords;
 pub use changed::ChangedFile;
-pub use checked::{Checked, Verdict, Wrong};
+pub use checked::{Checked, CheckedText, Verdict, Wrong};
 pub use counted::Counted;
 pub use designed::Designed;
 pub use diagnosed::{Diagnosed, DiagnosedText};
 pub use disputed::{is_disputed, table_at};
-pub use doubted::{Doubted, spare_sites};
+pub use doubted::{Doubted, DoubtedText, spare_sites};
 pub use dumped::Dumped;
 pub use explained::{number_of, only_loss, rows_of, verdict_word};
 pub use file_json::file_object;
 pub use file_lines::{FileLine, badness_of, lines_of};
+pub use file_text::FileText;
 pub use file_view::FileView;
-pub use found_restore::FoundRestore;
+pub use found_restore::{FoundRestore, FoundText};
 pub use memory::recovery_memory;
 pub use new_store::NewStore;
 pub use recovered::Recovered;
 pub use restoration::Restoration;
 pub use restored::{Restored, what_word};
-pub use sited::{AwaySite, Sited, store_words};
+pub use sited::store_words;
 pub use store_json::store_object;
+pub use store_text::StoreText;
 pub use store_view::StoreView;
 pub use strays::strays_of;
 pub use undone::{Undone, undone_size, undone_word};

@@ -4,11 +4,12 @@ use crate::catalog_words::CatalogWords;
 use crate::counted::Counted;
 use crate::file_lines::FileLine;
 use crate::memory::recovery_memory;
-use crate::sited::{AwayLines, Sited, away_sites, store_words};
+use crate::sited::{AwayLines, away_sites, store_words};
 use crate::store_view::StoreView;
 use crate::unfinished::Unfinished;
 use cs_reports::{DesignHead, site_of};
 use cs_schema::{FileName, Loss};
+use pinepolo_places::Sited;
 use std::fmt;
 
 /// How many bytes a mebibyte has.

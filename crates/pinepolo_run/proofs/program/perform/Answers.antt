@@ -1,5 +1,5 @@
 use Rattle.std.proofs.Common.{◌≡◌, rules}
-use Rattle.pinepolo_text.specs.declared.answer.Answer.TheVariants as answer
+use Rattle.pinepolo_json.specs.declared.answer.Answer.TheVariants as answer
 use Rattle.pinepolo_run.proofs.Mapped.{mapped}
 use Rattle.pinepolo_run.proofs.program.perform.Goals as goal
 

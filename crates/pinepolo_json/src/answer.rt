@@ -1,20 +1,12 @@
 //! What a verb did.
-use crate::checked::{Checked, CheckedText};
-use crate::designed::Designed;
-use crate::diagnosed::{Diagnosed, DiagnosedText};
-use crate::doubted::DoubtedText;
-use crate::dumped::Dumped;
-use crate::file_text::FileText;
-use crate::found_restore::{FoundRestore, FoundText};
-use crate::new_store::NewStore;
-use crate::recovered::Recovered;
-use crate::restoration::Restoration;
-use crate::sited::{Sited, store_words};
-use crate::store_text::StoreText;
-use crate::undone::Undone;
-use crate::{FileView, StoreView};
 use cs_verifying::{Listed, Verified};
 use pinepolo_drill::{Drilled, DrilledText};
+use pinepolo_places::Sited;
+use pinepolo_text::{
+    Checked, CheckedText, Designed, Diagnosed, DiagnosedText, DoubtedText, Dumped, FileText,
+    FileView, FoundRestore, FoundText, NewStore, Recovered, Restoration, StoreText, StoreView,
+    Undone, store_words,
+};
 use std::fmt;
 
 /// What a verb did.

@@ -1,5 +1,0 @@
-use Rattle.std.proofs.Common.{arith}
-use Rattle.bench.proofs.columns.integers.Goals as goal
-
-pub returns : goal.returns
-returns c = omega (arith, c.loop-row.invariant)
