@@ -1,2 +1,4 @@
 mod ChangingLemmas
+mod FolderLemmas
 mod KeepingLemmas
+mod SyncLemmas

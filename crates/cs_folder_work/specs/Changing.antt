@@ -1,6 +1,6 @@
 -- Files of names that change, each in the folder of its name.
-use Rattle.std.specs.Prelude.{◌≡◌, ◌⊎◌, ℕ, List, ◌∷◌, ◌++◌, Some, IsSomeAnd, codes, decimal, string_bytes}
-use Rattle.std.specs.BTreeMap.{get}
+use Rattle.std.specs.Prelude.{◌≡◌, ◌⊎◌, ℕ, List, [], ◌∷◌, ◌++◌, Some, IsSomeAnd, codes, option_map, unwrap_or, decimal, string_bytes}
+use Rattle.std.specs.BTreeMap.{get, keys}
 use Rattle.cs_schema.specs.FileNames.{name_cmp}
 use Rattle.cs_schema.specs.declared.file_name.FileName.{FileName}
 use Rattle.cs_file_system.specs.Calls.{Calls, MayBeReplaced, remove}
@@ -29,6 +29,10 @@ pub record ArePathsOf (folder : List ℕ) (number : ℕ) (name : FileName) (path
   pub beside : string_bytes paths.beside ≡ restoring_at folder name
   pub kept : string_bytes paths.kept ≡ file_at (kept_in folder number) name
   pub kept_folder : string_bytes paths.kept_folder ≡ kept_in folder number
+
+-- the names that change, by the record
+abbrev pub names_of : Record → List FileName
+names_of noted = unwrap_or (option_map keys noted.changes) []
 
 -- the record says that this becomes of a name
 abbrev pub IsNoted : Record → FileName → Change → Type 0

@@ -1,11 +1,14 @@
 -- In which folder each file of a store stands.
-use Rattle.std.specs.Prelude.{◌≡◌, ◌-◌, ℕ, List, Option, IsSomeAnd, MatchOption, option_and_then, option_map, slice_get, string_bytes}
+use Rattle.std.specs.Prelude.{◌≡◌, ◌<◌, ◌-◌, ℕ, List, Option, IfSome, IsSomeAnd, MatchOption, length, option_and_then, option_map, slice_get, string_bytes}
+use Rattle.std.specs.List.{All, Any, Contains}
 use Rattle.std.specs.BTreeMap.{get}
 use Rattle.cs_schema.specs.FileNames.{name_cmp}
 use Rattle.cs_schema.specs.declared.file_name.FileName.{FileName}
+use Rattle.cs_file_system.specs.Calls.{Calls, IsSettled}
 use Rattle.cs_file_system.specs.declared.identity.Identity.{Identity}
 use Rattle.cs_sites.specs.Routing.{site_of}
 use Rattle.cs_folder_work.specs.declared.store_folders.OtherFolder.{OtherFolder}
+use Rattle.cs_folder_work.specs.declared.store_folders.Part.{Part}
 use Rattle.cs_folder_work.specs.declared.store_folders.Places.{Places}
 use Rattle.cs_folder_work.specs.declared.store_folders.Places.TheVariants.{Links, Sites}
 use Rattle.cs_folder_work.specs.declared.store_folders.StoreFolders.{StoreFolders}
@@ -19,6 +22,14 @@ number_in (Links numbers) name = get name_cmp numbers name
 abbrev pub other_at : StoreFolders → ℕ → Option OtherFolder
 other_at folders number = option_and_then (λ other. other) (slice_get folders.others.items number)
 
+-- a name's file stands in the store's folder, or in one of the others
+abbrev pub HasFolder : StoreFolders → FileName → Type 0
+HasFolder folders name = IfSome (number_in folders.places name) (λ number. number < length folders.others.items)
+
+-- one of these parts has the name
+abbrev pub IsInPart : List Part → FileName → Type 0
+IsInPart parts name = Any (λ part. Contains part.names.items name) parts
+
 module _ (has_identity : List ℕ → Identity → Type 0) (folders : StoreFolders) where
   -- the folder with this number is at this path, and was found there again
   abbrev pub IsOther : ℕ → List ℕ → Type 0
@@ -27,3 +38,11 @@ module _ (has_identity : List ℕ → Identity → Type 0) (folders : StoreFolde
   -- the folder of a name's file is at this path: the store's, or another one, which was found there again
   abbrev pub IsFolderOf : FileName → List ℕ → Type 0
   IsFolderOf name path = MatchOption (number_in folders.places name) (path ≡ string_bytes folders.store) (λ number. IsOther number path)
+
+  -- one of these paths is that of the folder of a name's file
+  abbrev pub IsInOneOf : List (List ℕ) → FileName → Type 0
+  IsInOneOf paths name = Any (IsFolderOf name) paths
+
+  -- the names in the folders of these names' files were brought to the disk, and none was given or taken away since
+  abbrev pub AreSettled : List FileName → Calls → Type 0
+  AreSettled names calls = All (λ name. (path : List ℕ) × IsFolderOf name path × IsSettled path calls) names

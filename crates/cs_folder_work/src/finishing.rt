@@ -1,9 +1,9 @@
 //! The end of work on a store.
 use crate::digests::Digests;
 use crate::journal::entry_of;
-use crate::record::Record;
 use crate::replaced::kept_record;
 use crate::store_folders::StoreFolders;
+use crate::syncing::folders_of;
 use crate::taking::Taken;
 use cs_file_system::{EndOfWork, FileSystem, SystemFiles, end_recorded, end_work, unmark};
 use cs_shelf::{JOURNAL, RESTORING};
@@ -28,21 +28,6 @@ pub fn finish<R: Files + Clock>(
     Ok(SystemFiles(rt).sync_folder(store).is_ok())
 }
 
-/// The folders in which work changed files.
-fn changed_folders<R: Files>(
-    alloc: Global,
-    rt: &R,
-    folders: &StoreFolders,
-    record: &Record,
-) -> io::Result<Vec<String>> {
-    let names = record.names(alloc)?;
-    let mut changed = Vec::new(alloc);
-    for part in folders.parts(&mut SystemFiles(rt), alloc, names.as_slice())? {
-        changed.push(String::from_str(alloc, part.folder)?)?;
-    }
-    Ok(changed)
-}
-
 /// The paths of what changes if the work of this number ends.
 fn end_of(alloc: Global, store: &str, number: u32, changed: Vec<String>) -> io::Result<EndOfWork> {
     Ok(EndOfWork {
@@ -64,9 +49,10 @@ fn end_changes<R: Files + Clock>(
     taken: &Taken,
     digests: &Digests,
 ) -> io::Result<()> {
-    let changed = changed_folders(alloc, rt, folders, &taken.record)?;
-    let work = end_of(alloc, folders.store(), taken.record.kept, changed)?;
     let files = &mut SystemFiles(rt);
+    let names = taken.record.names(alloc)?;
+    let changed = folders_of(files, alloc, folders, names.as_slice())?;
+    let work = end_of(alloc, folders.store(), taken.record.kept, changed)?;
     if fs::exists(rt, work.kept_mark.as_str())? {
         return end_recorded(files, &work);
     }

@@ -22,6 +22,7 @@ mod replaced;
 mod sealing;
 mod shelf;
 mod store_folders;
+mod syncing;
 mod taking;
 mod undoing;
 

@@ -1,6 +1,6 @@
 //! What is written down of work on a store: as long as it is not finished, and afterwards, for an undo.
-ghost use Rattle.std.specs.Prelude.{◌↔◌, IsTrue};
-ghost use Rattle.cs_folder_work.specs.Changing.{IsNoted};
+ghost use Rattle.std.specs.Prelude.{◌≡◌, ◌↔◌, IfOk, IsTrue};
+ghost use Rattle.cs_folder_work.specs.Changing.{IsNoted, names_of};
 
 use crate::names::name_of;
 use cs_schema::{FileName, Loss};
@@ -180,7 +180,9 @@ impl Record {
     }
 
     /// The names that change.
-    pub fn names(&self, alloc: Global) -> Result<Vec<FileName>, AllocError> {
+    pub fn names(&self, alloc: Global) -> Result<Vec<FileName>, AllocError>
+        ensures { IfOk result (λ names. names.items ≡ names_of self.now) }
+    {
         let mut names = Vec::new(alloc);
         let Some(changes) = &self.changes else {
             return Ok(names);

@@ -6,6 +6,7 @@ use crate::changing::{replace_name, take_name_away};
 use crate::digests::Digests;
 use crate::sealing::is_long_and_damaged;
 use crate::store_folders::StoreFolders;
+use crate::syncing::sync_folders_of;
 use crate::taking::Taken;
 use cs_file_system::{FileSystem, SystemFiles};
 use cs_folders::{FileLimits, StoreFolder, file_in};
@@ -181,10 +182,7 @@ impl<R: Files + Copy + Drop> FolderShelf<R> {
             None => Vec::new(self.alloc),
         };
         let files = &mut SystemFiles(&self.rt);
-        for part in self.folders.parts(files, self.alloc, changed.as_slice())? {
-            files.sync_folder(part.folder)?;
-        }
-        Ok(())
+        sync_folders_of(files, self.alloc, &self.folders, changed.as_slice())
     }
 }
 

@@ -1,8 +1,8 @@
 //! In which folder each file of a store stands.
 ghost use Rattle.std.specs.Prelude.{◌≡◌, IfOk, IfSome, IsTrue, string_bytes};
-ghost use Rattle.std.specs.List.{All};
+ghost use Rattle.std.specs.List.{All, Contains};
 ghost use Rattle.cs_file_system.specs.Calls.{IsNoMore};
-ghost use Rattle.cs_folder_work.specs.Folders.{IsFolderOf, IsOther, number_in};
+ghost use Rattle.cs_folder_work.specs.Folders.{HasFolder, IsFolderOf, IsInPart, IsOther, number_in};
 
 use cs_file_system::{FileSystem, Identity};
 use cs_schema::FileName;
@@ -134,7 +134,8 @@ impl StoreFolders {
         names: &[FileName],
         number: Option<usize>,
     ) -> Result<Vec<FileName>, AllocError>
-        ensures { IfOk result (λ here. All (λ name. number_in self.now.places name ≡ number) here.items) }
+        ensures only { IfOk result (λ here. All (λ name. number_in self.now.places name ≡ number) here.items) }
+        ensures each { IfOk result (λ here. All (λ name. number_in self.now.places name ≡ number → Contains here.items name) names.now) }
     {
         let mut here = Vec::new(alloc);
         for name in names {
@@ -145,6 +146,28 @@ impl StoreFolders {
         Ok(here)
     }
 
+    /// Whether a name has a folder: the store's, or one that has its number.
+    fn has_folder(&self, name: FileName) -> bool
+        ensures { IsTrue result → HasFolder self.now name }
+    {
+        match self.places.number_of(name) {
+            Some(number) => number < self.others.len(),
+            None => true,
+        }
+    }
+
+    /// Whether each of these names has a folder.
+    fn have_folders(&self, names: &[FileName]) -> bool
+        ensures { IsTrue result → All (HasFolder self.now) names.now }
+    {
+        for name in names {
+            if !self.has_folder(*name) {
+                return false;
+            }
+        }
+        true
+    }
+
     /// These names by their folders: first those of the store's, be there any or not, then those of each other folder that
     /// has any. Each of these folders is there.
     pub fn parts<F: FileSystem>(
@@ -153,18 +176,26 @@ impl StoreFolders {
         alloc: Global,
         names: &[FileName],
     ) -> io::Result<Vec<Part<'_>>>
-        ensures { IfOk result (λ parts. All (λ part. All (λ name. IsFolderOf F.has_identity self.now name part.folder.now) part.names.items) parts.items) }
+        ensures folders { IfOk result (λ parts. All (λ part. All (λ name. IsFolderOf F.has_identity self.now name part.folder.now) part.names.items) parts.items) }
+        ensures each { IfOk result (λ parts. All (IsInPart parts.items) names.now) }
+        ensures same { IsNoMore (F.made files.old) (F.made files.new) }
     {
+        if !self.have_folders(names) {
+            return Err(io::Error::from(ErrorKind::NotConnected));
+        }
         let mut parts = Vec::new(alloc);
         parts.push(Part {
             folder: self.store(),
             names: self.names_at(alloc, names, None)?,
         })?;
         for number in 0..self.others.len() {
-            let names = self.names_at(alloc, names, Some(number))?;
-            if !names.is_empty() {
+            let here = self.names_at(alloc, names, Some(number))?;
+            if !here.is_empty() {
                 let folder = self.reach_other(files, number)?;
-                parts.push(Part { folder, names })?;
+                parts.push(Part {
+                    folder,
+                    names: here,
+                })?;
             }
         }
         Ok(parts)
