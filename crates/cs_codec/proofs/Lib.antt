@@ -6,6 +6,8 @@ pub mod BitmapEntries
 pub mod BitmapSteps
 pub mod RunReading
 pub mod RunColumns
+pub mod RunPlaces
+pub mod RunPositions
 pub mod RunColumnReading
 pub mod ColumnRanges
 pub mod RiseLists

@@ -7,6 +7,7 @@ pub mod CellLaws
 pub mod Encodings
 pub mod Runs
 pub mod RunLaws
+pub mod RunParts
 pub mod RunTexts
 pub mod Plain
 pub mod PlainLaws

@@ -1,5 +1,5 @@
 -- Lists whose cells correspond have the same body, and the body of cells is that of their values under a code.
-use Rattle.std.proofs.Common.{◌≡◌, ℕ, ℤ, suc, Bool, false, not, if◌then◌else◌, List, [], ◌∷◌, ◌++◌, length, map, Option, Some, None, refl, sym, ap, ◌∙◌}
+use Rattle.std.proofs.Common.{◌≡◌, ℕ, ℤ, zero, suc, ◌-◌, Bool, false, not, if◌then◌else◌, List, [], ◌∷◌, ◌++◌, length, map, take, drop, Option, Some, None, refl, sym, ap, ◌∙◌}
 use Rattle.std.specs.Prelude.{flat_map, nat_eq}
 use Rattle.std.specs.Ordering.{nat_cmp, int_eq, int_cmp}
 use Rattle.std.specs.Cmp.Lexicographic.{pointwise, slice_cmp, texts_ties}
@@ -10,7 +10,9 @@ use Rattle.cs_schema.specs.declared.cells.Value.{Value}
 use Rattle.cs_schema.specs.Values.{value_eq, value_cmp}
 use Rattle.cs_codec.specs.Cells.{number, int_cell, text_cell}
 use Rattle.cs_codec.specs.Texts.{plain_text, differs, kept, runs_text_from, runs_text, place_value, insert_value, distinct_values, run_lengths, bitmap_lengths, bitmap_text, bitmaps_text, differences_text}
+use Rattle.std.proofs.lemmas.List.{drop-map, take-map}
 use Rattle.cs_codec.specs.ColumnText.{cell_bytes, int_of, column_text}
+use Rattle.cs_codec.specs.RunParts.{front_text, part_text, value_after}
 
 -- f keeps bytes, equality and order
 pub record IsSame {C D : Type 0} (f : C → D) (bytes : C → List ℕ) (eq : C → C → Bool) (cmp : C → C → Ordering) (bytes' : D → List ℕ) (eq' : D → D → Bool) (cmp' : D → D → Ordering) : Type 0 where
@@ -44,6 +46,29 @@ module _ {C D : Type 0} (f : C → D) (bytes : C → List ℕ) (eq : C → C →
       ∙ ap (λ (w : List ℕ). (if differs eq before x then w ++ number p ++ number (suc (kept eq' (f x) (map f xs))) else []) ++ runs_text_from bytes' eq' (Some (f x)) (suc p) (map f xs)) (s.same_bytes x)
       ∙ ap (λ (n : ℕ). (if differs eq before x then bytes x ++ number p ++ number (suc n) else []) ++ runs_text_from bytes' eq' (Some (f x)) (suc p) (map f xs)) (kept-map x xs)
       ∙ ap (λ (w : List ℕ). (if differs eq before x then bytes x ++ number p ++ number (suc (kept eq x xs)) else []) ++ w) (runs-map (Some x) (suc p) xs)
+
+  after-map : (before : Option C) (xs : List C) → value_after (lifted before) (map f xs) ≡ lifted (value_after before xs)
+  unfolding lifted
+  after-map before [] = refl
+  after-map before (x ∷ xs) = after-map (Some x) xs
+
+  front-map : (before : Option C) (p n : ℕ) (xs : List C) → front_text bytes' eq' (lifted before) p n (map f xs) ≡ front_text bytes eq before p n xs
+  unfolding lifted
+  front-map before p zero xs = refl
+  front-map before p (suc n) [] = refl
+  front-map before p (suc n) (x ∷ xs) =
+      ap (λ (b : Bool). (if b then bytes' (f x) ++ number p ++ number (suc (kept eq' (f x) (map f xs))) else []) ++ front_text bytes' eq' (Some (f x)) (suc p) n (map f xs)) (differs-map before x)
+      ∙ ap (λ (w : List ℕ). (if differs eq before x then w ++ number p ++ number (suc (kept eq' (f x) (map f xs))) else []) ++ front_text bytes' eq' (Some (f x)) (suc p) n (map f xs)) (s.same_bytes x)
+      ∙ ap (λ (k : ℕ). (if differs eq before x then bytes x ++ number p ++ number (suc k) else []) ++ front_text bytes' eq' (Some (f x)) (suc p) n (map f xs)) (kept-map x xs)
+      ∙ ap (λ (w : List ℕ). (if differs eq before x then bytes x ++ number p ++ number (suc (kept eq x xs)) else []) ++ w) (front-map (Some x) (suc p) n xs)
+
+  pub part-map : (xs : List C) (start stop : ℕ) → part_text bytes' eq' (map f xs) start stop ≡ part_text bytes eq xs start stop
+  unfolding lifted
+  part-map xs start stop =
+      ap (λ (ys : List D). front_text bytes' eq' (value_after None (take start (map f xs))) (suc start) (stop - start) ys) (drop-map f start xs)
+      ∙ ap (λ (ys : List D). front_text bytes' eq' (value_after None ys) (suc start) (stop - start) (map f (drop start xs))) (take-map f start xs)
+      ∙ ap (λ (before : Option D). front_text bytes' eq' before (suc start) (stop - start) (map f (drop start xs))) (after-map None (take start xs))
+      ∙ front-map (value_after None (take start xs)) (suc start) (stop - start) (drop start xs)
 
   pub runs_text-map : (xs : List C) → runs_text bytes' eq' (map f xs) ≡ runs_text bytes eq xs
   unfolding lifted
@@ -97,6 +122,10 @@ module _ {C : Type 0} (value : C → Value) (bytes : C → List ℕ) (eq : C →
 
   pub runs_of_code : IsTextOfCode value Code.Runs (runs_text bytes eq)
   runs_of_code cells = sym (runs_text-map value bytes eq cmp cell_bytes value_eq value_cmp s cells)
+
+  -- the bytes of some positions are those of their values
+  pub part_of_values : (cells : List C) (start stop : ℕ) → part_text bytes eq cells start stop ≡ part_text cell_bytes value_eq (map value cells) start stop
+  part_of_values cells start stop = sym (part-map value bytes eq cmp cell_bytes value_eq value_cmp s cells start stop)
 
   pub bitmaps_of_code : IsTextOfCode value Code.Bitmaps (bitmaps_text bytes eq cmp)
   bitmaps_of_code cells = sym (bitmaps_text-map value bytes eq cmp cell_bytes value_eq value_cmp s cells)

@@ -16,6 +16,7 @@ mod lists;
 mod numbered;
 pub mod numbers;
 pub mod plain;
+pub mod run_places;
 mod run_reading;
 pub mod runs;
 

@@ -8,4 +8,6 @@ mod pieces;
 
 pub use columns::read_column;
 pub use cs_codec::CodecFault;
-pub use pieces::{Piece, encode_piece, encode_places, join_pieces, piece_text, write_piece};
+pub use pieces::{
+    Piece, encode_piece, encode_places, join_pieces, piece_text, write_piece, write_runs,
+};

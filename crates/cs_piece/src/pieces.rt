@@ -1,10 +1,12 @@
 //! Encoded parts of columns whose encoding and kind are known only at run time.
-ghost use Rattle.std.specs.Prelude.{◌<◌, ℕ, IfOk, List, length, slice_index};
+ghost use Rattle.std.specs.Prelude.{◌≡◌, ◌<◌, ◌≤◌, ℕ, IfOk, List, length, slice_index};
+ghost use Rattle.cs_codec.specs.ColumnText.{cell_bytes};
 ghost use Rattle.cs_codec.specs.Columns.{cells_at};
+ghost use Rattle.cs_codec.specs.RunParts.{part_text};
 ghost use Rattle.cs_schema.specs.declared.cells.Value.{Value};
 ghost use Rattle.cs_schema.specs.declared.kinds.Code.{Code};
 ghost use Rattle.cs_schema.specs.declared.kinds.Kind.{Kind};
-ghost use Rattle.cs_schema.specs.Values.{values, kind_of};
+ghost use Rattle.cs_schema.specs.Values.{values, kind_of, value_eq};
 ghost use Rattle.cs_piece.specs.Columns.{CanEncode};
 ghost use Rattle.cs_piece.specs.Pieces.{IsPieceOf, PiecesFit, TellsFit, IsJoined, IsTextOf, IsShortTextOf};
 
@@ -12,6 +14,7 @@ use cs_codec::ColumnEncoding;
 use cs_codec::bitmaps::{Bitmaps, BitmapsPart};
 use cs_codec::differences::{Differences, DifferencesPart};
 use cs_codec::plain::{Plain, PlainPart, encode_at};
+use cs_codec::run_places::write_part;
 use cs_codec::runs::{Runs, RunsPart};
 use cs_schema::{Cells, Code, Texts, Word};
 use std::alloc::{AllocError, Global};
@@ -232,5 +235,25 @@ pub fn piece_text(alloc: Global, piece: Piece) -> Result<Vec<u8>, AllocError>
         Piece::PlainInts(part) => part.into_text(),
         Piece::PlainTexts(part) => part.into_text(),
         other => write_piece(alloc, &other),
+    }
+}
+
+/// A part of the body, under `Code::Runs`, of the column that has the cells at `places` of `column`: the runs that
+/// begin at its positions `from..to`. Only what is written is copied.
+pub fn write_runs(
+    alloc: Global,
+    column: &Cells,
+    places: &[u32],
+    from: usize,
+    to: usize,
+) -> Result<Vec<u8>, AllocError>
+    requires within { (k : ℕ) → k < length places.now → slice_index places.now k < length (values column.now) }
+    requires few { length places.now ≤ 1048576 }
+    requires order { (from ≤ to) × (to ≤ length places.now) }
+    ensures { IfOk result (λ out. out.items ≡ part_text cell_bytes value_eq (cells_at (values column.now) places.now) from to) }
+{
+    match column {
+        Cells::Ints(ints) => write_part::<i64, Vec<i64>>(alloc, ints, places, from, to),
+        Cells::Texts(texts) => write_part::<Word, Texts>(alloc, texts, places, from, to),
     }
 }

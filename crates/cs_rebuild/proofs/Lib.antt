@@ -29,5 +29,6 @@ pub mod BuiltFiles
 pub mod PickedColumns
 pub mod FewRows
 pub mod PlacedCells
+pub mod RunTexts
 pub mod LeastBad
 pub mod Answered

@@ -1,10 +1,12 @@
 -- The pieces of a lost segment's columns, their bytes, and the file that these form.
-use Rattle.std.specs.Prelude.{◌≡◌, ℕ, ◌^◌, ◌<◌, List, length}
+use Rattle.std.specs.Prelude.{◌≡◌, ℕ, ◌+◌, ◌*◌, ◌^◌, ◌<◌, min, List, length}
 use Rattle.cs_schema.specs.declared.kinds.Code.{Code}
 use Rattle.cs_schema.specs.declared.kinds.Kind.{Kind}
 use Rattle.cs_schema.specs.declared.cells.Value.{Value}
 use Rattle.cs_schema.specs.CatalogData.{code_at, kind_at, projection}
-use Rattle.cs_codec.specs.ColumnText.{column_text, FitsColumn}
+use Rattle.cs_schema.specs.Values.{value_eq}
+use Rattle.cs_codec.specs.ColumnText.{cell_bytes, column_text, FitsColumn}
+use Rattle.cs_codec.specs.RunParts.{part_text}
 use Rattle.cs_piece.specs.declared.pieces.Piece.{Piece}
 use Rattle.cs_piece.specs.Pieces.{IsPieceOf}
 use Rattle.cs_board.specs.Pieces.{AnswersInOrder}
@@ -33,6 +35,10 @@ IsPieceAt work j k out = IsPieceOf out (code_at work.store.now.catalog.now work.
 pub record ArePiecesOf (work : LostSegment) (j : ℕ) (pieces : List Piece) : Type 0 where
   pub count : length pieces ≡ work.per
   pub each : AnswersInOrder (IsPieceAt work j) pieces
+
+-- the bytes of the runs that begin in the k-th piece of the column with this number
+abbrev pub IsRunsPart : LostSegment → ℕ → ℕ → List ℕ → Type 0
+IsRunsPart work j k text = text ≡ part_text cell_bytes value_eq (column_values work j) (min (k * work.cut) (length work.numbers.now)) (min (k * work.cut + work.cut) (length work.numbers.now))
 
 -- the bytes of a column with these values; they are few if the values fit the encoding
 pub record IsColumnText (code : Code) (kind : Kind) (v : List Value) (text : List ℕ) : Type 0 where

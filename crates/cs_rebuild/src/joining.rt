@@ -85,6 +85,7 @@ impl LostSegment<'_> {
         ensures { IfOk result (λ text. IsTextAt self.now j (joined text.items)) }
     {
         match self.store.catalog.code(self.p, j) {
+            Code::Runs => self.runs_text(run, j),
             Code::Plain => self.plain_text(j, self.encode_column(run, j)?),
             _ => self.whole_text(j, self.encode_column(run, j)?),
         }

@@ -41,6 +41,7 @@ mod recovery;
 mod rounds;
 mod rowwise;
 mod run;
+mod run_texts;
 mod sound_files;
 mod sound_store;
 mod surviving;

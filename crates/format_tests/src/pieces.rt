@@ -1,8 +1,9 @@
 //! Parts of columns: their texts in each encoding, and which of them join.
+ghost use Rattle.std.specs.Prelude.{◌≤◌};
 
 use crate::made::are_made;
 use cs_codec::encoding::CodecFault;
-use cs_piece::{Piece, encode_piece, join_pieces, read_column, write_piece};
+use cs_piece::{Piece, encode_piece, join_pieces, read_column, write_piece, write_runs};
 use cs_schema::{Code, Kind};
 use std::alloc::{AllocError, Global};
 
@@ -63,6 +64,25 @@ fn runs_merge_where_pieces_join_with_ample_memory(rt: HostRuntime) {
     assert!(rt; left.can_join(&right));
     let whole = join_pieces(left, right).expect(&rt, "both pieces");
     assert!(rt; are_made(text_of(alloc, whole), &[1, 97, 0, 0, 0, 1, 0, 0, 0, 2]));
+}
+
+/// Whether this is the text of the runs of the texts a, a, b that begin within a range of them.
+fn is_part(alloc: Global, from: usize, to: usize, wanted: &[u8]) -> bool
+    requires { (from ≤ to) × (to ≤ 3) }
+{
+    match read_column(alloc, Code::Plain, Kind::Text, &[1, 97, 1, 98], 2) {
+        Ok(column) => are_made(write_runs(alloc, &column, &[0, 0, 1], from, to), wanted),
+        Err(_) => false,
+    }
+}
+
+#[test]
+fn parts_have_the_runs_that_begin_in_them_with_ample_memory(rt: HostRuntime) {
+    let alloc = rt.alloc();
+    assert!(rt; is_part(alloc, 0, 3, RUNS));
+    assert!(rt; is_part(alloc, 0, 1, &[1, 97, 0, 0, 0, 1, 0, 0, 0, 2]));
+    assert!(rt; is_part(alloc, 1, 2, &[]));
+    assert!(rt; is_part(alloc, 1, 3, &[1, 98, 0, 0, 0, 3, 0, 0, 0, 1]));
 }
 
 fn do_join(left: Piece, right: Piece) -> bool {
