@@ -10,7 +10,7 @@ use cs_schema::FileName;
 use std::alloc::Global;
 use std::io;
 
-/// The paths of the folders in which the files of these names stand, each once.
+/// The paths of the folders in which the files of these names stand, behind that of the store.
 pub fn folders_of<F: FileSystem>(
     files: &mut F,
     alloc: Global,
