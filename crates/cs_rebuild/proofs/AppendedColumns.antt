@@ -52,10 +52,3 @@ module _ (C : CatalogData) (rows : List Row) (lent : List (Option Cells)) where
   pub made_there : (c : ℕ) (x : Cells) (o : Option Cells) → is_some o ≡ false → IsColumnOf C rows c x → IsColumnOf C rows c (unwrap_or o x)
   made_there c x None e h = h
   made_there c x (Some b) e h = absurd (both_ways true e refl)
-
--- ---- the width of rows
-
-pub walked_wide : (C : CatalogData) (S : Contents) (P : PlanData) (xs : List At) → All (λ (row : Row). length row ≡ length C.columns) (map (walked_row C S P) xs)
-walked_wide C S P [] = All-nil (λ (row : Row). length row ≡ length C.columns)
-walked_wide C S P (x ∷ xs) =
-    All-cons (λ (row : Row). length row ≡ length C.columns) (walked_row C S P x) (map (walked_row C S P) xs) (length-map-range_with_len (walked_cell C S P x) 0 (length C.columns)) (walked_wide C S P xs)

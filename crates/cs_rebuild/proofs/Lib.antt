@@ -1,4 +1,3 @@
-pub mod AnchoredRows
 pub mod AppendedColumns
 pub mod CellsAlike
 pub mod Compared

@@ -9,7 +9,6 @@ use Rattle.cs_board.specs.Pieces.{AllSound, AnswersInOrder}
 use Rattle.cs_schema.specs.Rows.{Row}
 use Rattle.cs_store.specs.declared.fault.Fault.{Fault}
 use Rattle.cs_rows.specs.Walk.{Stray}
-use Rattle.cs_rows.specs.WalkedView.{WalkedData}
 use Rattle.cs_rebuild.specs.Rounds.{IsFirstFault}
 use Rattle.cs_rebuild.specs.Walking.{piece_of}
 use Rattle.cs_rebuild.proofs.Cuts.{first_piece, no_piece}
@@ -82,21 +81,21 @@ module _ {X : Type 0} (p : X → Rattle.std.proofs.Common.Bool) (e : X → Stray
         let first = first_piece p cut xs h.at s.0 s.1 (λ k l. none_in (find p (piece_of cut xs k)) (h.before k l)) in
         (e s.0, ap (λ o. option_map_or (λ x. Err (e x)) o (Ok (f xs))) first, s.2)
 
-    module _ (none : f [] ≡ []) (join : (ys zs : List X) → f (ys ++ zs) ≡ f ys ++ f zs) where
-      rows_from : (outs : List WalkedData) (j : ℕ) → ((k : ℕ) (out : WalkedData) → slice_get outs k ≡ Some out → out.rows ≡ f (piece_of cut xs (j + k))) → flat_map (λ w. w.rows) outs ≡ f (take (length outs * cut) (drop (j * cut) xs))
+    module _ (none : f [] ≡ []) (join : (ys zs : List X) → f (ys ++ zs) ≡ f ys ++ f zs) {O : Type 0} (rows_of : O → List Row) where
+      rows_from : (outs : List O) (j : ℕ) → ((k : ℕ) (out : O) → slice_get outs k ≡ Some out → rows_of out ≡ f (piece_of cut xs (j + k))) → flat_map rows_of outs ≡ f (take (length outs * cut) (drop (j * cut) xs))
       rows_from [] j h = sym (ap (λ n. f (take n (drop (j * cut) xs))) (let z : 0 * cut ≡ 0 = omega arith in z) ∙ none)
       rows_from (out ∷ outs) j h =
           let ys : List X = drop (j * cut) xs in
-          let first : out.rows ≡ f (take cut ys) = h 0 out refl ∙ ap (λ n. f (piece_of cut xs n)) (let z : j + 0 ≡ j = omega arith in z) in
+          let first : rows_of out ≡ f (take cut ys) = h 0 out refl ∙ ap (λ n. f (piece_of cut xs n)) (let z : j + 0 ≡ j = omega arith in z) in
           let rest = rows_from outs (suc j) (λ k o at. h (suc k) o at ∙ ap (λ n. f (piece_of cut xs n)) (let z : j + suc k ≡ suc j + k = omega arith in z)) in
           let next : drop (suc j * cut) xs ≡ drop cut ys = ap (λ n. drop n xs) (let z : suc j * cut ≡ j * cut + cut = grind arith in z) ∙ drop_more cut (j * cut) xs in
           let count : suc (length outs) * cut ≡ cut + length outs * cut = grind arith in
-          ap (λ l. l ++ flat_map (λ (w : WalkedData). w.rows) outs) first
+          ap (λ l. l ++ flat_map rows_of outs) first
           ∙ ap (λ l. f (take cut ys) ++ l) (rest ∙ ap (λ l. f (take (length outs * cut) l)) next)
           ∙ sym (ap (λ n. f (take n ys)) count ∙ ap f (take-add cut (length outs * cut) ys) ∙ join (take cut ys) (take (length outs * cut) (drop cut ys)))
 
       -- if no row is led astray, the rows are those of all pieces
-      pub all_walked : (count : ℕ) → length xs ≤ count * cut → AllSound FaultAt count → (outs : List WalkedData) → length outs ≡ count → AnswersInOrder (λ i (w : WalkedData). w.rows ≡ f (piece_of cut xs i)) outs → among xs ≡ Ok (flat_map (λ w. w.rows) outs)
+      pub all_walked : (count : ℕ) → length xs ≤ count * cut → AllSound FaultAt count → (outs : List O) → length outs ≡ count → AnswersInOrder (λ i (out : O). rows_of out ≡ f (piece_of cut xs i)) outs → among xs ≡ Ok (flat_map rows_of outs)
       all_walked count cover sound outs long each =
           let clear = no_piece p cut xs count cover (λ k l. none_in (find p (piece_of cut xs k)) (sound k l)) in
           let rows = rows_from outs 0 (λ k out at. each k out at ∙ ap (λ n. f (piece_of cut xs n)) (let z : k ≡ 0 + k = omega arith in z)) in

@@ -1,5 +1,5 @@
 -- What walks of pieces of rows find, by whole projections and by rows.
-use Rattle.std.specs.Prelude.{◌≡◌, ℕ, ◌<◌, ◌*◌, List, map, length, take, drop, slice_index_or, Option, None, IfSome, Result, Err}
+use Rattle.std.specs.Prelude.{◌≡◌, ℕ, ◌+◌, ◌<◌, ◌*◌, List, map, length, take, drop, slice_index_or, Option, None, IfSome, Result, Err}
 use Rattle.std.specs.Option.{option_map, unwrap_or}
 use Rattle.std.specs.List.{find, filter_map}
 use Rattle.cs_store.specs.declared.fault.Fault.{Fault}
@@ -10,11 +10,12 @@ use Rattle.cs_schema.specs.Values.{values, kind_of}
 use Rattle.cs_schema.specs.Rows.{Row, cell}
 use Rattle.cs_schema.specs.Losses.{Sites}
 use Rattle.cs_safety.specs.PlanData.{PlanData}
-use Rattle.cs_rows.specs.Walk.{Contents, At, Stray, projection_rows, walked_row, is_astray}
-use Rattle.cs_rows.specs.Survivors.{contents_of}
+use Rattle.cs_rows.specs.Walk.{Contents, At, Stray, projection_rows, is_astray}
+use Rattle.cs_rows.specs.PlanWalks.{IsFollowed, walked_rows}
 use Rattle.cs_rows.specs.WalkByRows.{Reached, surviving_rows}
 use Rattle.cs_rows.specs.RangeByRows.{is_stray_row, fresh_row}
 use Rattle.cs_rows.specs.WalkedView.{WalkedData}
+use Rattle.cs_rows.specs.declared.follow.FollowedRows.{FollowedRows}
 use Rattle.cs_rows.specs.declared.plan_walk.PlanWalk.{PlanWalk}
 
 -- the i-th piece of a list
@@ -47,24 +48,18 @@ abbrev pub WalkFaultAt : CatalogData → Contents → PlanData → ℕ → ℕ �
 WalkFaultAt C S P cut i fault = fault ≡ option_map (stray_fault P) (find (is_astray C S P) (piece_of cut (projection_rows C S P.anchor) i))
 
 -- the answer for the i-th piece: the rows to which its rows lead
-abbrev pub WalkAnswerAt : CatalogData → Contents → PlanData → ℕ → ℕ → WalkedData → Type 0
-WalkAnswerAt C S P cut i w = HasTableKinds C w × (w.rows ≡ map (walked_row C S P) (piece_of cut (projection_rows C S P.anchor) i))
-
--- each borrowed column of the table has the cells of the anchor's rows
-pub record AreAnchorColumns (C : CatalogData) (S : Contents) (P : PlanData) (lent : List (Option Cells)) : Type 0 where
-  pub are : AreLent C (map (walked_row C S P) (projection_rows C S P.anchor)) lent
-
--- the borrowed column, or else the copied one, has the cells of the anchor's rows
-pub record IsAnchorColumn (C : CatalogData) (S : Contents) (P : PlanData) (lent : List (Option Cells)) (c : ℕ) (cells : Cells) : Type 0 where
-  pub is : IsColumnOf C (map (walked_row C S P) (projection_rows C S P.anchor)) c (unwrap_or (slice_index_or lent c None) cells)
+pub record IsFollowedAt (walk : PlanWalk) (cut i : ℕ) (followed : FollowedRows) : Type 0 where
+  pub is : IsFollowed walk followed
+  pub from : followed.from ≡ i * cut
+  pub to : followed.to ≡ i * cut + cut
 
 -- each borrowed column of the table has the cells to which the anchor's rows lead
-abbrev pub AreLentByAnchor : PlanWalk → List (Option Cells) → Type 0
-AreLentByAnchor walk lent = AreAnchorColumns walk.survivors.now.catalog (contents_of walk.survivors.now) walk.plan.now lent
+pub record AreLentByAnchor (walk : PlanWalk) (lent : List (Option Cells)) : Type 0 where
+  pub are : AreLent walk.survivors.now.catalog (walked_rows walk) lent
 
--- the borrowed column, or else the copied one, has the cells to which the anchor's rows lead
-abbrev pub IsOfAnchor : PlanWalk → List (Option Cells) → ℕ → Cells → Type 0
-IsOfAnchor walk lent c cells = IsAnchorColumn walk.survivors.now.catalog (contents_of walk.survivors.now) walk.plan.now lent c cells
+-- the borrowed column, or else the gathered one, has the cells to which the anchor's rows lead
+pub record IsTableColumn (walk : PlanWalk) (lent : List (Option Cells)) (c : ℕ) (cells : Cells) : Type 0 where
+  pub is : IsColumnOf walk.survivors.now.catalog (walked_rows walk) c (unwrap_or (slice_index_or lent c None) cells)
 
 -- ---- by rows
 

@@ -11,9 +11,7 @@
 #![tactic(auto)]
 
 mod affected_joins;
-mod anchored;
 mod answering;
-mod appending;
 mod building;
 mod column_pieces;
 mod columns;
@@ -24,12 +22,12 @@ mod digests;
 mod encoding;
 mod endings;
 mod files_of;
+mod gathering;
 mod groups;
 mod growing;
 mod held;
 mod joined;
 mod joining;
-mod lending;
 mod lost_files;
 mod ordered_store;
 mod ordering;

@@ -1,27 +1,26 @@
-//! The walk of a plan, by whole projections.
+//! The walk of a plan, by whole projections: the anchor's rows are followed in pieces, then each column is gathered
+//! once.
 ghost use Rattle.std.specs.Prelude.{◌≡◌, ◌<◌, ◌≤◌, ◌^◌, length, Ok, IfOk, IfErr};
 ghost use Rattle.cs_rows.specs.Survivors.{contents_of};
-ghost use Rattle.cs_rebuild.specs.Walking.{HasTableKinds, WalkFaultAt, WalkAnswerAt, IsWalkRefusal};
+ghost use Rattle.cs_rebuild.specs.Walking.{HasTableKinds, WalkFaultAt, IsFollowedAt, IsWalkRefusal};
 ghost use Rattle.cs_rebuild.specs.WorkLaws.{one_value};
 ghost use Rattle.cs_rows.specs.PlanWalks.{anchor_rows, walk_result};
 
-use crate::anchored::walk_anchored;
-use crate::appending::join_table;
 use crate::cutting::count_pieces;
-use crate::lending::lent_columns;
+use crate::gathering::gather_table;
 use crate::rounds::Tasks;
 use crate::run::Run;
 use cs_board::{Gate, Round};
 use cs_rows::range::WalkFault;
-use cs_rows::{PlanWalk, Table, Walked};
+use cs_rows::{FollowedRows, PlanWalk, Table};
 use cs_store::Fault;
 use std::alloc::Global;
 use std::marker::Sync;
 use std::thread::Threads;
 
-/// Walks the anchor's rows along a plan, in pieces of `cut` rows.
+/// Follows the anchor's rows along a plan, in pieces of `cut` rows.
 #[derive(Drop)]
-struct PlannedWork<'a> {
+struct FollowWork<'a> {
     alloc: Global,
     walk: &'a PlanWalk<'a, 'a>,
     cut: u32,
@@ -29,26 +28,25 @@ struct PlannedWork<'a> {
     ghost cut_range: { cut ≤ 1048576 },
 }
 
-impl Tasks for PlannedWork<'_> {
-    type Out = Walked;
+impl Tasks for FollowWork<'_> {
+    type Out = FollowedRows;
 
     ghost tasks = { λ work. work.pieces };
 
     ghost fault_at = { λ work i fault. WalkFaultAt work.walk.now.survivors.now.catalog
         (contents_of work.walk.now.survivors.now) work.walk.now.plan.now work.cut i fault };
 
-    ghost answers = { λ work i walked. WalkAnswerAt work.walk.now.survivors.now.catalog
-        (contents_of work.walk.now.survivors.now) work.walk.now.plan.now work.cut i walked };
+    ghost answers = { λ work i followed. IsFollowedAt work.walk.now work.cut i followed };
 
     fn count(&self) -> u32 {
         self.pieces
     }
 
-    fn task(&self, i: u32) -> Result<Walked, Fault> {
+    fn task(&self, i: u32) -> Result<FollowedRows, Fault> {
         let from = i as usize * self.cut as usize;
         let to = from + self.cut as usize;
-        match self.walk.range(self.alloc, from, to) {
-            Ok(walked) => Ok(walked),
+        match self.walk.follow(self.alloc, from, to) {
+            Ok(followed) => Ok(followed),
             Err(WalkFault::Memory) => Err(Fault::Memory),
             Err(WalkFault::Astray { p, s, row }) => Err(Fault::Astray { p, s, row }),
         }
@@ -67,28 +65,18 @@ pub fn walk_planned<'a, R: Threads + Sync, G: Gate + Sync>(
     ensures rows { IfOk result (λ rows. walk_result walk.now ≡ Ok rows.rows) }
     ensures err { IfErr result (IsWalkRefusal (walk_result walk.now)) }
 {
-    let survivors = walk.survivors;
-    let pieces = count_pieces(walk.anchor_rows(), run.cut);
-    if walk.reads_anchor_alone() {
-        return walk_anchored(run, walk, pieces);
-    }
-    let work = PlannedWork {
+    let work = FollowWork {
         alloc: run.alloc,
         walk: &*walk,
         cut: run.cut,
-        pieces,
+        pieces: count_pieces(walk.anchor_rows(), run.cut),
     };
-    match run.round(Round::Walk, &work) {
-        Ok(all) => {
-            let lent = match lent_columns(run.alloc, walk) {
-                Ok(lent) => lent,
-                Err(_) => return Err(Fault::Memory),
-            };
-            match join_table(run.rt, run.alloc, survivors.catalog(), all, lent) {
-                Ok(table) => Ok(table),
-                Err(_) => Err(Fault::Memory),
-            }
-        }
-        Err(fault) => Err(fault),
+    let parts = match run.round(Round::Walk, &work) {
+        Ok(parts) => parts,
+        Err(fault) => return Err(fault),
+    };
+    match gather_table(run.rt, run.alloc, walk, parts.as_slice()) {
+        Ok(table) => Ok(table),
+        Err(_) => Err(Fault::Memory),
     }
 }

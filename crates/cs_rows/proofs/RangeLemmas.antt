@@ -5,14 +5,12 @@ use Rattle.std.specs.Option.{option_or}
 use Rattle.std.proofs.lemmas.List.{get_or-take, get_or-drop, length-take, length-drop}
 use Rattle.std.proofs.lemmas.List.Folds.{find-append}
 use Rattle.std.proofs.lemmas.List.FromFn.{fill_by_all, get_or-map-range_with_len, length-map-range_with_len}
-use Rattle.cs_schema.specs.declared.cells.Cells.{Cells}
-use Rattle.cs_schema.specs.declared.cells.Value.{Value}
 use Rattle.cs_schema.specs.Lists.{numbers_below}
 use Rattle.cs_schema.specs.CatalogData.{CatalogData}
 use Rattle.cs_safety.specs.PlanData.{PlanData}
-use Rattle.cs_rows.specs.Walk.{Contents, At, is_astray, walked_cell, segment_rows}
+use Rattle.cs_rows.specs.Walk.{Contents, At, is_astray, segment_rows}
 use Rattle.cs_rows.specs.declared.fault.WalkFault.{WalkFault}
-use Rattle.cs_rows.specs.Columns.{Pushed, AreWalked, IsRowFault, rows_from}
+use Rattle.cs_rows.specs.Columns.{IsRowFault, rows_from}
 
 pub range_plus : (a n m : ℕ) → range_with_len a (n + m) ≡ range_with_len a n ++ range_with_len (a + n) m
 range_plus a zero m = λ i. range_with_len (sym (add-zero a) i) (zero-add m i)
@@ -54,10 +52,6 @@ pub rows_more : (s start i : ℕ) → start ≤ i → rows_from s start (i + 1 -
 rows_more s start i h = rows_join s start i (i + 1) h (omega arith) ∙ ap (λ (rows : List At). rows_from s start (i - start) ++ rows) (rows_one s i)
 
 module _ (C : CatalogData) (S : Contents) (P : PlanData) where
-  pub cells_pushed : (rows : List At) (before after : List Cells) → Pushed C S P rows before after (length C.columns) → (ats : List At) → AreWalked C S P ats before → AreWalked C S P (ats ++ rows) after
-  cells_pushed rows before after ok ats w c d h =
-      (ok c d h).1 ∙ ap (λ (l : List Value). l ++ map (λ (at : At). walked_cell C S P at c) rows) (w c d h) ∙ sym (map_append (λ (at : At). walked_cell C S P at c) ats rows)
-
   pub found_none : (xs ys : List At) → find (is_astray C S P) xs ≡ None → find (is_astray C S P) ys ≡ None → find (is_astray C S P) (xs ++ ys) ≡ None
   found_none xs ys e f = find-append (is_astray C S P) xs ys ∙ (λ i. option_or (e i) (f i))
 
@@ -69,12 +63,12 @@ module _ (C : CatalogData) (S : Contents) (P : PlanData) where
   pub fault_in : (xs ys zs ws : List At) (e : WalkFault) → ws ≡ xs ++ (ys ++ zs) → find (is_astray C S P) xs ≡ None → IsRowFault C S P ys e → IsRowFault C S P ws e
   fault_in xs ys zs ws e s n h = subst (λ (l : List At). IsRowFault C S P l e) (sym s) (fault_among xs ys zs e n h)
 
-  pub walked_more : (xs ys zs : List At) (before middle after : List Cells) → zs ≡ xs ++ ys
-      → ((ats : List At) → AreWalked C S P ats before → AreWalked C S P (ats ++ xs) middle)
-      → ((ats : List At) → AreWalked C S P ats middle → AreWalked C S P (ats ++ ys) after)
-      → (ats : List At) → AreWalked C S P ats before → AreWalked C S P (ats ++ zs) after
-  walked_more xs ys zs before middle after e f g ats w =
-      subst (λ (l : List At). AreWalked C S P l after) (append_assoc ats xs ys ∙ ap (λ (l : List At). ats ++ l) (sym e)) (g (ats ++ xs) (f ats w))
+-- what is extended twice is extended by both
+pub extended_twice : {X : Type 0} (Are : List At → X → Type 0) (xs ys zs : List At) (before middle after : X) → zs ≡ xs ++ ys
+    → ((ats : List At) → Are ats before → Are (ats ++ xs) middle)
+    → ((ats : List At) → Are ats middle → Are (ats ++ ys) after)
+    → (ats : List At) → Are ats before → Are (ats ++ zs) after
+extended_twice Are xs ys zs before middle after e f g ats w = subst (λ (l : List At). Are l after) (append_assoc ats xs ys ∙ ap (λ (l : List At). ats ++ l) (sym e)) (g (ats ++ xs) (f ats w))
 
 -- ---- the part of a list from one number to another
 

@@ -1,8 +1,7 @@
 -- The walk from one row.
-use Rattle.std.proofs.Common.{◌≡◌, ℕ, suc, ◌+◌, ◌<◌, List, [], ◌∷◌, length, get_or, refl, sym, ap, ◌∙◌, subst, arith, Bool, true, false, not, cond, ◌||◌, Option, Some, inl, inr, eqb-true, true≢false, ◌==◌}
+use Rattle.std.proofs.Common.{◌≡◌, ℕ, suc, ◌+◌, ◌<◌, List, [], ◌∷◌, length, get_or, refl, sym, ap, ◌∙◌, subst, arith, Bool, true, false, not, cond, ◌||◌, Option, Some, inl, inr, eqb-true, true≢false, zero-add, ◌==◌}
 use Rattle.std.specs.Prelude.{slice_index, slice_index_or, pos}
 use Rattle.std.specs.List.{list_any, position_or_len}
-use Rattle.std.specs.Option.{unwrap_or}
 use Rattle.std.proofs.lemmas.List.{get_or-map}
 use Rattle.cs_schema.specs.declared.cells.Value.{Value}
 use Rattle.cs_schema.specs.declared.kinds.Kind.{Kind}
@@ -13,14 +12,14 @@ use Rattle.cs_schema.specs.Rows.{cell}
 use Rattle.cs_schema.specs.CatalogData.{kind_at}
 use Rattle.cs_delta.specs.Image.{ImageData, Pair}
 use Rattle.cs_safety.specs.PlanData.{PlanData}
-use Rattle.cs_rows.specs.Walk.{At, walked_cell, image_cell}
+use Rattle.cs_rows.specs.Walk.{At, image_cell}
 use Rattle.cs_schema.proofs.Lists.{in_range, range_in}
 use Rattle.cs_delta.specs.KindedImage.{KindedImage, image_column}
 use Rattle.cs_segment.specs.SegmentData.{kinds_at}
 use Rattle.std.proofs.lemmas.List.FromFn.{get_or-map-range_with_len, length-map-range_with_len}
 use Rattle.cs_rows.specs.Survivors.{SurvivorsData, contents_of, image_at, image_row, held}
-use Rattle.cs_rows.specs.Steps.{PlanFits}
-use Rattle.cs_rows.specs.Columns.{PlacesAre, read_of}
+use Rattle.cs_rows.specs.Steps.{IsAt, PlanFits}
+use Rattle.cs_rows.specs.Columns.{index_of}
 
 -- ---- tests over the numbers below n
 
@@ -66,35 +65,28 @@ position_first {X} p (x ∷ xs) d h =
         let n : 1 + position_or_len p xs ≡ suc (position_or_len p xs) = omega arith in
         (omega arith, ap (λ k. p (get_or (x ∷ xs) k d)) n ∙ r.1)
 
-pub record ReadThere (C : CatalogData) (S : SurvivorsData) (P : PlanData) (row : At) (c : ℕ) (place : At) (m : KindedImage) (j : ℕ) : Type 0 where
-  pub in_image : place.1 < length m.image.pairs
-  pub in_row : j < length m.kinds
-  pub kind : slice_index_or m.kinds j Kind.Int ≡ (column C c).kind
-  pub value : cell (image_row m.image place.1) j ≡ walked_cell C (contents_of S) P row c
+module _ (C : CatalogData) (P : PlanData) (fits : PlanFits C P) (c : ℕ) (h : c < length C.columns) where
+  found : (index_of C P c < length (projection C (slice_index P.source c)).columns) × ((slice_index (projection C (slice_index P.source c)).columns (index_of C P c) == c) ≡ true)
+  found = position_first (λ d. d == c) (projection C (slice_index P.source c)).columns 0 (fits.holds c h)
 
-module _ (C : CatalogData) (S : SurvivorsData) (P : PlanData) (row : At) (fits : PlanFits C P) where
-  column_at : (c : ℕ) → c < length C.columns → (read_of C P c).1 < length (projection C (read_of C P c).0).columns
-  column_at c h = (position_first (λ d. d == c) (projection C (slice_index P.source c)).columns 0 (fits.holds c h)).0
+  -- the column of the table in the images of the projection in which it is read
+  pub read_there : (q j : ℕ) (kinds : List Kind) → q ≡ slice_index P.source c → j ≡ index_of C P c → kinds ≡ kinds_at C q → (j < length kinds) × (slice_index_or kinds j Kind.Int ≡ (column C c).kind)
+  read_there q j kinds a b e =
+      let p : ℕ = slice_index P.source c in
+      let at : ℕ = index_of C P c in
+      let n : ℕ = length (projection C p).columns in
+      let same : kinds ≡ kinds_at C p = e ∙ ap (kinds_at C) a in
+      let wide : length kinds ≡ n = ap length same ∙ length-map-range_with_len (kind_at C p) 0 n in
+      let inside : at < n = found.0 in (
+        omega (arith, wide, b, inside),
+        (λ i. slice_index_or (same i) (b i) Kind.Int) ∙ get_or-map-range_with_len (kind_at C p) 0 n at at Kind.Int inside (zero-add at) ∙ ap (λ (x : ℕ). (column C x).kind) (eqb-true _ c found.1),
+      )
 
-  column_is : (c : ℕ) → c < length C.columns → slice_index (projection C (read_of C P c).0).columns (read_of C P c).1 ≡ c
-  column_is c h = eqb-true _ c (position_first (λ d. d == c) (projection C (slice_index P.source c)).columns 0 (fits.holds c h)).1
-
-  pub read_there : (c : ℕ) → c < length C.columns → (places : List At) → PlacesAre C (contents_of S) P row places (length C.projections) → (m : KindedImage) → image_at S (read_of C P c).0 (slice_index_or places (read_of C P c).0 (0, 0)).0 ≡ Some m → m.kinds ≡ kinds_at C (read_of C P c).0 → ReadThere C S P row c (slice_index_or places (read_of C P c).0 (0, 0)) m (read_of C P c).1
-  read_there c h places are m e kinds =
-      let q : ℕ = slice_index P.source c in
-      let j : ℕ = (read_of C P c).1 in
-      let place : At = slice_index_or places q (0, 0) in
-      let a = are q (fits.source c h) (fits.planned c h) in
-      let i : place.1 < length m.image.pairs = subst (λ (o : Option KindedImage). place.1 < length (held o).pairs) e a.1.1 in
-      let l : j < length (projection C q).columns = column_at c h in
-      let wide : length m.kinds ≡ length (projection C q).columns = ap length kinds ∙ length-map-range_with_len (kind_at C q) 0 (length (projection C q).columns) in
-      record {
-        in_image = i;
-        in_row = omega (arith, wide, l);
-        kind = ap (λ (ks : List Kind). slice_index_or ks j Kind.Int) kinds ∙ get_or-map-range_with_len (kind_at C q) 0 (length (projection C q).columns) j j Kind.Int l (omega arith) ∙ ap (λ (x : ℕ). (column C x).kind) (column_is c h);
-        value = sym (ap (λ (o : Option At). image_cell C (contents_of S) q c (unwrap_or o (0, 0))) a.0 ∙ ap (λ (o : Option KindedImage). cell (image_row (held o) place.1) j) e);
-      }
-
-  pub read_there_as : (r : ℕ × ℕ) (c : ℕ) → r ≡ read_of C P c → c < length C.columns → (places : List At) → PlacesAre C (contents_of S) P row places (length C.projections) → (m : KindedImage) → image_at S r.0 (slice_index_or places r.0 (0, 0)).0 ≡ Some m → m.kinds ≡ kinds_at C r.0 → ReadThere C S P row c (slice_index_or places r.0 (0, 0)) m r.1
-  read_there_as r c e h places are =
-      subst (λ (x : ℕ × ℕ). (m : KindedImage) → image_at S x.0 (slice_index_or places x.0 (0, 0)).0 ≡ Some m → m.kinds ≡ kinds_at C x.0 → ReadThere C S P row c (slice_index_or places x.0 (0, 0)) m x.1) (sym e) (read_there c h places are)
+  -- its cell in a row there
+  pub cell_there : (S : SurvivorsData) (q j : ℕ) (id : At) (m : KindedImage) → q ≡ slice_index P.source c → j ≡ index_of C P c → image_at S q id.0 ≡ Some m → IsAt C (contents_of S) (slice_index P.source c) id
+      → (id.1 < length m.image.pairs) × (cell (image_row m.image id.1) j ≡ image_cell C (contents_of S) (slice_index P.source c) c id)
+  cell_there S q j id m a b e at =
+      let there : image_at S (slice_index P.source c) id.0 ≡ Some m = subst (λ (p : ℕ). image_at S p id.0 ≡ Some m) a e in (
+        subst (λ (o : Option KindedImage). id.1 < length (held o).pairs) there at.1,
+        ap (cell (image_row m.image id.1)) b ∙ ap (λ (o : Option KindedImage). cell (image_row (held o) id.1) (index_of C P c)) (sym there),
+      )

@@ -1,46 +1,26 @@
--- Columns of whole images, and walks that stay at the anchor.
-use Rattle.std.proofs.Common.{◌≡◌, ℕ, ◌<◌, ◌==◌, ◌||◌, ◌&&◌, List, [], ◌∷◌, ◌++◌, ◌+◌, length, map, get_or, refl, sym, ap, ◌∙◌, subst, arith, Bool, true, false, cond, Option, Some, None, zero-add, eqb-true}
-use Rattle.std.specs.Prelude.{slice_index, slice_index_or, pos, IsTrue}
-use Rattle.std.specs.List.{find, position_or_len}
-use Rattle.std.specs.Option.{unwrap_or, is_none}
-use Rattle.std.proofs.lemmas.List.{length-map, get_or-map}
+-- Columns that are read at the anchor.
+use Rattle.std.proofs.Common.{◌≡◌, ℕ, ◌<◌, ◌≤◌, ◌==◌, List, [], ◌∷◌, ◌++◌, ◌+◌, ◌-◌, length, map, take, drop, refl, sym, ap, ◌∙◌, subst, arith, Option, Some, zero-add}
+use Rattle.std.specs.Prelude.{slice_index, slice_index_or, pos}
+use Rattle.std.specs.List.{position_or_len}
+use Rattle.std.specs.Option.{unwrap_or}
+use Rattle.std.proofs.lemmas.List.{length-map, get_or-map, get_or-take, get_or-drop, length-take-le, length-drop}
 use Rattle.std.proofs.lemmas.List.FromFn.{fill_by_all, get_or-map-range_with_len, length-map-range_with_len}
 use Rattle.cs_schema.specs.declared.cells.Value.{Value}
 use Rattle.cs_schema.specs.declared.kinds.Kind.{Kind}
-use Rattle.cs_schema.specs.CatalogData.{CatalogData, column, projection, kind_at}
+use Rattle.cs_schema.specs.CatalogData.{CatalogData, column, projection}
 use Rattle.cs_schema.specs.Rows.{Row, cell}
 use Rattle.cs_schema.proofs.Lists.{flat_more}
 use Rattle.cs_segment.specs.SegmentData.{kinds_at}
 use Rattle.cs_delta.specs.Image.{ImageData, Pair}
 use Rattle.cs_delta.specs.KindedImage.{KindedImage, image_column}
-use Rattle.cs_safety.specs.PlanData.{PlanData, is_planned}
-use Rattle.cs_safety.specs.Paths.{holds_column}
-use Rattle.cs_rows.specs.Walk.{Contents, At, stand, is_astray, image_cell, walked_cell, walked_row, segment_rows}
+use Rattle.cs_safety.specs.PlanData.{PlanData}
+use Rattle.cs_rows.specs.Walk.{Contents, At, stand, image_cell, walked_cell, walked_row, segment_rows}
 use Rattle.cs_rows.specs.Survivors.{SurvivorsData, contents_of, image_at, held}
 use Rattle.cs_rows.specs.Steps.{PlanFits}
-use Rattle.cs_rows.specs.Routes.{IsRoute}
+use Rattle.cs_rows.specs.Columns.{index_of, rows_from}
 use Rattle.cs_rows.proofs.RangeLemmas.{in_segment, done, map_append}
-use Rattle.cs_rows.proofs.RowLemmas.{none_below, column_cell, position_first}
+use Rattle.cs_rows.proofs.RowLemmas.{column_cell, read_there}
 use Rattle.cs_rows.proofs.StepLemmas.{stand_anchor}
-
--- ---- walks that stay at the anchor
-
-pub find_nothing : {X : Type 0} (p : X → Bool) (xs : List X) → ((x : X) → p x ≡ false) → find p xs ≡ None
-find_nothing p [] h = refl
-find_nothing p (x ∷ xs) h = ap (λ (b : Bool). cond b (Some x) (find p xs)) (h x) ∙ find_nothing p xs h
-
-pub stays : (C : CatalogData) (S : Contents) (P : PlanData) → IsRoute C P [] → (at : At) → is_astray C S P at ≡ false
-stays C S P is at = none_below (λ q. is_planned P q && is_none (stand C S P at q)) (length C.projections) (λ q h. go q h (is_planned P q) refl)
-  where
-    first : (b : Bool) → (b || false) ≡ true → b ≡ true
-    first true g = refl
-    first false g = g
-
-    go : (q : ℕ) → q < length C.projections → (b : Bool) → is_planned P q ≡ b → (b && is_none (stand C S P at q)) ≡ false
-    go q h true e = ap is_none (sym (stand_anchor C S P at (length C.projections) q (eqb-true q P.anchor (first (q == P.anchor) (is.all q h e)))))
-    go q h false e = refl
-
--- ---- a column that is read at the anchor
 
 -- the column's index in the anchor
 abbrev pub place : CatalogData → PlanData → ℕ → ℕ
@@ -81,33 +61,31 @@ module _ (C : CatalogData) (S : Contents) (P : PlanData) (c : ℕ) where
         (λ i. e i ++ column_walked s i)
         ∙ sym (ap (map f) (flat_more (segment_rows S P.anchor) 0 s ∙ ap (λ (k : ℕ). done S P.anchor s ++ segment_rows S P.anchor k) z) ∙ map_append f (done S P.anchor s) (segment_rows S P.anchor s))
 
--- the column of the table is at this index in each image of the anchor
-module _ (C : CatalogData) (S : SurvivorsData) (P : PlanData) (fits : PlanFits C P) (c : ℕ) (h : c < length C.columns) (here : slice_index P.source c ≡ P.anchor) where
-  found : (place C P c < length (projection C P.anchor).columns) × ((get_or (projection C P.anchor).columns (place C P c) 0 == c) ≡ true)
-  found = position_first (λ d. d == c) (projection C P.anchor).columns 0 (subst (λ (q : ℕ). IsTrue (holds_column C q c)) here (fits.holds c h))
+    -- a part of the column of a segment's image is the cells of the rows there
+    pub part_walked : (s start stop : ℕ) → start ≤ stop → stop ≤ length (S.image P.anchor s).pairs → take (stop - start) (drop start (image_column (S.image P.anchor s) (place C P c))) ≡ map (λ at. walked_cell C S P at c) (rows_from s start (stop - start))
+    part_walked s start stop order within =
+        let m : ImageData = S.image P.anchor s in
+        let all : List Value = image_column m (place C P c) in
+        let n : ℕ = stop - start in
+        let f : At → Value = λ at. walked_cell C S P at c in
+        let v : Value = Value.Int (pos 0) in
+        let rows : List At = rows_from s start n in
+        let long : length all ≡ length m.pairs = length-map m.pairs (λ (x : Pair). cell x.1 (place C P c)) in
+        let many : length rows ≡ n = length-map-range_with_len (in_segment s) start n in
+        fill_by_all (λ k. f (s, start + k)) (take n (drop start all)) n v (length-take-le n (drop start all) (omega (arith, order, within, long, length-drop start all)))
+        (λ k h. get_or-take n (drop start all) k v h ∙ get_or-drop start all k v ∙ column_cell m (start + k) (place C P c) (omega (arith, h, within)) ∙ sym (cell_there (s, start + k)))
+        ∙ sym (fill_by_all (λ k. f (s, start + k)) (map f rows) n v (length-map rows f ∙ many)
+        (λ k h. get_or-map f rows k (0, 0) v (omega (arith, h, many)) ∙ ap f (get_or-map-range_with_len (in_segment s) start n k (start + k) (0, 0) h refl)))
 
-  pub column_there : (m : KindedImage) → m.kinds ≡ kinds_at C P.anchor
-      → (place C P c < length m.kinds) × (slice_index_or m.kinds (place C P c) Kind.Int ≡ (column C c).kind)
-  column_there m kinds =
-      let j : ℕ = place C P c in
-      let n : ℕ = length (projection C P.anchor).columns in
-      let b : j < n = found.0 in
-      let wide : length m.kinds ≡ n = ap length kinds ∙ length-map-range_with_len (kind_at C P.anchor) 0 n in (
-        omega (arith, wide, b),
-        ap (λ (ks : List Kind). slice_index_or ks j Kind.Int) kinds ∙ get_or-map-range_with_len (kind_at C P.anchor) 0 n j j Kind.Int b (zero-add j) ∙ ap (λ (x : ℕ). (column C x).kind) (eqb-true _ c found.1),
-      )
-
-  -- `column_there`, and the cells, for another name of the anchor and of the index
-  pub column_of_image : (q j s : ℕ) (m : KindedImage) → q ≡ P.anchor → j ≡ place C P c → image_at S q s ≡ Some m → m.kinds ≡ kinds_at C q
-      → (j < length m.kinds) × (slice_index_or m.kinds j Kind.Int ≡ (column C c).kind) × (image_column m.image j ≡ image_column ((contents_of S).image P.anchor s) (place C P c))
-  column_of_image q j s m a b e kinds =
-      let f : image_at S P.anchor s ≡ Some m = subst (λ (p : ℕ). image_at S p s ≡ Some m) a e in
-      let there = column_there m (kinds ∙ ap (kinds_at C) a) in (
-        subst (λ (k : ℕ). k < length m.kinds) (sym b) there.0,
-        ap (λ (k : ℕ). slice_index_or m.kinds k Kind.Int) b ∙ there.1,
-        ap (image_column m.image) b ∙ ap (λ (o : Option KindedImage). image_column (held o) (place C P c)) (sym f),
-      )
-
-  -- a segment whose image is absent has no cells
-  pub no_cells : (q s : ℕ) → q ≡ P.anchor → image_at S q s ≡ None → [] ≡ image_column ((contents_of S).image P.anchor s) (place C P c)
-  no_cells q s a e = ap (λ (o : Option KindedImage). image_column (held o) (place C P c)) (sym (subst (λ (p : ℕ). image_at S p s ≡ None) a e))
+-- the column of the table in an image of the anchor, for another name of the anchor and of the index
+pub column_of_image : (C : CatalogData) (S : SurvivorsData) (P : PlanData) (fits : PlanFits C P) (c : ℕ) → c < length C.columns → slice_index P.source c ≡ P.anchor
+    → (q j s : ℕ) (m : KindedImage) → q ≡ P.anchor → j ≡ index_of C P c → image_at S q s ≡ Some m → m.kinds ≡ kinds_at C q
+    → (j < length m.kinds) × (slice_index_or m.kinds j Kind.Int ≡ (column C c).kind) × (image_column m.image j ≡ image_column ((contents_of S).image P.anchor s) (place C P c))
+column_of_image C S P fits c h here q j s m a b e kinds =
+    let f : image_at S P.anchor s ≡ Some m = subst (λ (p : ℕ). image_at S p s ≡ Some m) a e in
+    let there = read_there C P fits c h q j m.kinds (a ∙ sym here) b kinds in
+    let at : j ≡ place C P c = b ∙ ap (λ (p : ℕ). position_or_len (λ d. d == c) (projection C p).columns) here in (
+      there.0,
+      there.1,
+      ap (image_column m.image) at ∙ ap (λ (o : Option KindedImage). image_column (held o) (place C P c)) (sym f),
+    )

@@ -1,14 +1,14 @@
 -- The walk of a plan through survivors, stated of a `PlanWalk`.
-use Rattle.std.specs.Prelude.{ℕ, ◌≡◌, ◌++◌, Bool, List, map, length, None, Result}
-use Rattle.std.specs.List.{find}
-use Rattle.cs_schema.specs.declared.cells.Cells.{Cells}
+use Rattle.std.specs.Prelude.{ℕ, ◌≡◌, ◌<◌, ◌≤◌, ◌++◌, Bool, true, false, List, [], map, length, slice_index_or, None, Result}
+use Rattle.std.specs.List.{find, flat_map}
 use Rattle.cs_schema.specs.declared.cells.Value.{Value}
 use Rattle.cs_schema.specs.Rows.{Row}
 use Rattle.cs_rows.specs.Walk.{At, Stray, is_astray, projection_rows, walked, walked_cell, walked_row}
 use Rattle.cs_rows.specs.Survivors.{contents_of}
-use Rattle.cs_rows.specs.Columns.{PlacesAre, ArePlaces, Pushed, AreWalked, IsRowFault}
+use Rattle.cs_rows.specs.Columns.{PlacesAre, AreReachedIn, IsRowFault}
 use Rattle.cs_rows.specs.Range.{rows_between, walked_among}
 use Rattle.cs_rows.specs.declared.fault.WalkFault.{WalkFault}
+use Rattle.cs_rows.specs.declared.follow.FollowedRows.{FollowedRows}
 use Rattle.cs_rows.specs.declared.plan_walk.PlanWalk.{PlanWalk}
 
 -- the walk from an anchor row is led astray
@@ -27,24 +27,21 @@ IsFirstAstray walk rows = IsRowFault walk.survivors.now.catalog (contents_of wal
 abbrev pub AreReached : PlanWalk → At → List At → Type 0
 AreReached walk row places = PlacesAre walk.survivors.now.catalog (contents_of walk.survivors.now) walk.plan.now row places (length walk.survivors.now.catalog.projections)
 
--- the rows that the walks from a block of a segment's rows reach; the block starts at `start`
-abbrev pub AreReachedFrom : PlanWalk → ℕ → ℕ → List (List At) → Type 0
-AreReachedFrom walk s start block = ArePlaces walk.survivors.now.catalog (contents_of walk.survivors.now) walk.plan.now s start block
-
 -- the cells of the table's column c to which anchor rows lead
 abbrev pub cells_of : PlanWalk → List At → ℕ → List Value
 cells_of walk rows c = map (λ at. walked_cell walk.survivors.now.catalog (contents_of walk.survivors.now) walk.plan.now at c) rows
 
--- the cells to which anchor rows lead have been appended to each column of the table
-abbrev pub AreAppended : PlanWalk → List At → List Cells → List Cells → Type 0
-AreAppended walk rows before after = Pushed walk.survivors.now.catalog (contents_of walk.survivors.now) walk.plan.now rows before after (length walk.survivors.now.catalog.columns)
+-- for each projection other than the anchor in which a column is read, the rows of it to which anchor rows lead
+abbrev pub AreFollowed : PlanWalk → List At → List (List At) → Type 0
+AreFollowed walk ats ids =
+    (q : ℕ)
+    → q < length walk.survivors.now.catalog.projections
+    → slice_index_or walk.elsewhere.items q false ≡ true
+    → AreReachedIn walk.survivors.now.catalog (contents_of walk.survivors.now) walk.plan.now q ats (slice_index_or ids q [])
 
--- if the columns were the cells to which some anchor rows lead, they now are those of these rows and of `more`
-abbrev pub Extends : PlanWalk → List At → List Cells → List Cells → Type 0
-Extends walk more before after =
-    (rows : List At)
-    → AreWalked walk.survivors.now.catalog (contents_of walk.survivors.now) walk.plan.now rows before
-    → AreWalked walk.survivors.now.catalog (contents_of walk.survivors.now) walk.plan.now (rows ++ more) after
+-- if these were the rows to which some anchor rows lead, they now are those of these rows and of `more`
+abbrev pub Extends : PlanWalk → List At → List (List At) → List (List At) → Type 0
+Extends walk more before after = (ats : List At) → AreFollowed walk ats before → AreFollowed walk (ats ++ more) after
 
 -- the rows of the anchor, segment by segment
 abbrev pub anchor_rows : PlanWalk → List At
@@ -54,6 +51,12 @@ anchor_rows walk = projection_rows walk.survivors.now.catalog (contents_of walk.
 abbrev pub anchor_rows_between : PlanWalk → ℕ → ℕ → List At
 anchor_rows_between walk start end = rows_between walk.survivors.now.catalog (contents_of walk.survivors.now) walk.plan.now start end
 
+-- the rows to which a range of the anchor's rows leads
+pub record IsFollowed (walk : PlanWalk) (followed : FollowedRows) : Type 0 where
+  pub count : length followed.ids.items ≡ length walk.survivors.now.catalog.projections
+  pub order : followed.from ≤ followed.to
+  pub are : AreFollowed walk (anchor_rows_between walk followed.from followed.to) followed.ids.items
+
 -- the rows of the table to which these anchor rows lead, or the first of these that is led astray
 abbrev pub walked_from : PlanWalk → List At → Result (List Row) Stray
 walked_from walk rows = walked_among walk.survivors.now.catalog (contents_of walk.survivors.now) walk.plan.now rows
@@ -61,6 +64,11 @@ walked_from walk rows = walked_among walk.survivors.now.catalog (contents_of wal
 -- the rows of the table to which the anchor's rows lead
 abbrev pub walked_rows : PlanWalk → List Row
 walked_rows walk = map (walked_row walk.survivors.now.catalog (contents_of walk.survivors.now) walk.plan.now) (anchor_rows walk)
+
+-- the rows of the table to which followed rows lead, one part after the other
+abbrev pub followed_rows : PlanWalk → List FollowedRows → List Row
+followed_rows walk parts =
+    flat_map (λ (part : FollowedRows). map (walked_row walk.survivors.now.catalog (contents_of walk.survivors.now) walk.plan.now) (anchor_rows_between walk part.from part.to)) parts
 
 -- the rows of the table to which the anchor's rows lead, or the first of these that is led astray
 abbrev pub walk_result : PlanWalk → Result (List Row) Stray

@@ -1,5 +1,5 @@
 -- The walk of a range of the anchor's rows.
-use Rattle.std.specs.Prelude.{ℕ, ◌≡◌, ◌<◌, List, map, length, slice_index, drop, take, Result, Ok, Err}
+use Rattle.std.specs.Prelude.{ℕ, ◌≡◌, List, map, drop, take, Result, Ok, Err}
 use Rattle.std.specs.List.{find}
 use Rattle.std.specs.Option.{option_map_or}
 use Rattle.cs_schema.specs.CatalogData.{CatalogData}
@@ -24,7 +24,3 @@ IsPlanOf C P = (L : Sites) × IsPlan C L P
 abbrev pub IsWalkFault : Result (List Row) Stray → WalkFault → Type 0
 IsWalkFault walk WalkFault.Memory = Unit {0}
 IsWalkFault walk (WalkFault.Astray p s row) = walk ≡ Err (p, s, row)
-
--- each column of the table is read at the anchor; the walk may still reach other projections
-abbrev pub ReadsAnchorAlone : CatalogData → PlanData → Type 0
-ReadsAnchorAlone C P = (c : ℕ) → c < length C.columns → slice_index P.source c ≡ P.anchor

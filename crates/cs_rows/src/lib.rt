@@ -3,18 +3,20 @@
 //! `walk_range` returns the rows that a plan's walk finds from a range of its anchor's rows, and `walk_rows` the full
 //! rows that the walks from a range of surviving rows find. Each fails at the first row that is led astray. A row costs
 //! one look-up in a join index for each projection that it reaches, and allocates only for its cells. `Walked::append`
-//! concatenates walked rows; `Walked::once` removes later rows with the same key. `rebuild` calls `walk_fresh_rows` and
-//! `join_once`, which together give the rows that `walk_rows`, `append` and `once` give. `laws` states what putting an
-//! image or a join index changes.
+//! concatenates walked rows; `Walked::once` removes later rows with the same key. `walk_range` is `PlanWalk::follow` and
+//! `PlanWalk::gather`, which `rebuild` calls by themselves, so that a column is built once for all ranges. It also calls
+//! `walk_fresh_rows` and `join_once`, which together give the rows that `walk_rows`, `append` and `once` give. `laws`
+//! states what putting an image or a join index changes.
 #![tactic(auto)]
 
-mod block;
 pub mod by_rows;
 mod catalog_of;
 mod columns;
 pub mod counts;
 mod desk;
 mod fault;
+pub mod follow;
+mod gather;
 pub mod joining;
 pub mod laws;
 pub mod lent;
@@ -28,14 +30,15 @@ pub mod plan_walk;
 pub mod range;
 mod repeats;
 mod route;
+mod row_ids;
 mod rows_by_int;
 mod sources;
 pub mod steps;
 pub mod survivors;
 pub mod table;
 pub mod walked;
-pub mod whole;
 
+pub use follow::FollowedRows;
 pub use lent::Lent;
 pub use once::join_once;
 pub use plan_walk::PlanWalk;

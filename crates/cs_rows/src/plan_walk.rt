@@ -3,12 +3,13 @@ ghost use Rattle.std.specs.Prelude.{◌≡◌, ◌<◌, ◌==◌, ℕ, length, s
 ghost use Rattle.cs_schema.specs.CatalogData.{column};
 ghost use Rattle.cs_schema.specs.CatalogRules.{IsCatalog};
 ghost use Rattle.cs_rows.specs.Steps.{PlanFits};
-ghost use Rattle.cs_rows.specs.Columns.{AreReads, read_of};
+ghost use Rattle.cs_rows.specs.Columns.{AreElsewhere, AreIndices};
 ghost use Rattle.cs_rows.specs.Range.{IsPlanOf};
 ghost use Rattle.cs_rows.specs.Routes.{IsRoute};
 
 use crate::catalog_of;
-use crate::numbers::{place_in, source};
+use crate::marks::no_marks;
+use crate::numbers::{anchor, place_in, source};
 use crate::route::find_route;
 use crate::survivors::Survivors;
 use cs_safety::Plan;
@@ -21,28 +22,42 @@ use std::alloc::{AllocError, Global};
 pub struct PlanWalk<'p, 'a> {
     pub survivors: &'a Survivors<'a>,
     pub plan: &'p Plan,
-    pub(crate) reads: Vec<(usize, usize)>,
+    /// For each column of the table, its index in the projection in which it is read.
+    pub(crate) indices: Vec<usize>,
+    /// For each projection, whether a column is read there and it is not the anchor.
+    pub(crate) elsewhere: Vec<bool>,
     pub(crate) route: Vec<(usize, usize)>,
     pub ghost fits: { PlanFits survivors.now.catalog plan.now },
-    pub ghost reads_are: { AreReads survivors.now.catalog plan.now reads.items },
+    pub ghost indices_are: { AreIndices survivors.now.catalog plan.now indices.items },
+    pub ghost elsewhere_are: { AreElsewhere survivors.now.catalog plan.now elsewhere.items },
     pub ghost route_is: { IsRoute survivors.now.catalog plan.now route.items },
 }
 
-/// For each column of the table, the projection in which it is read and its index there.
-fn find_reads(
-    alloc: Global,
-    catalog: &Catalog,
-    plan: &Plan,
-) -> Result<Vec<(usize, usize)>, AllocError>
+/// For each column of the table, its index in the projection in which it is read.
+fn find_indices(alloc: Global, catalog: &Catalog, plan: &Plan) -> Result<Vec<usize>, AllocError>
     requires { PlanFits catalog.now plan.now }
-    ensures { IfOk result (λ reads. AreReads catalog.now plan.now reads.items) }
+    ensures { IfOk result (λ indices. AreIndices catalog.now plan.now indices.items) }
 {
-    let mut reads: Vec<(usize, usize)> = Vec::new(alloc);
+    let mut indices: Vec<usize> = Vec::new(alloc);
     for c in 0..catalog.column_count() {
         let q = source(plan, c);
-        reads.push((q as usize, place_in(catalog.columns_of(q), c)))?;
+        indices.push(place_in(catalog.columns_of(q), c))?;
     }
-    Ok(reads)
+    Ok(indices)
+}
+
+/// For each projection, whether a column is read there and it is not the anchor.
+fn find_elsewhere(alloc: Global, catalog: &Catalog, plan: &Plan) -> Result<Vec<bool>, AllocError>
+    requires { PlanFits catalog.now plan.now }
+    ensures { IfOk result (λ elsewhere. AreElsewhere catalog.now plan.now elsewhere.items) }
+{
+    let mut elsewhere = no_marks(alloc, catalog.projection_count() as usize)?;
+    for c in 0..catalog.column_count() {
+        let q = source(plan, c);
+        elsewhere[q as usize] = true;
+    }
+    elsewhere[anchor(plan) as usize] = false;
+    Ok(elsewhere)
 }
 
 impl<'p, 'a> PlanWalk<'p, 'a> {
@@ -59,12 +74,14 @@ impl<'p, 'a> PlanWalk<'p, 'a> {
         ensures plan { IfOk result (λ walk. walk.plan.now ≡ plan.now) }
         ensures survivors { IfOk result (λ walk. walk.survivors.now ≡ survivors.now) }
     {
-        let reads = find_reads(alloc, catalog, plan)?;
+        let indices = find_indices(alloc, catalog, plan)?;
+        let elsewhere = find_elsewhere(alloc, catalog, plan)?;
         let route = find_route(alloc, catalog, plan)?;
         Ok(PlanWalk {
             survivors,
             plan,
-            reads,
+            indices,
+            elsewhere,
             route,
         })
     }

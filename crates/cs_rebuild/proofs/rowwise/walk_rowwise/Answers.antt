@@ -22,7 +22,7 @@ returns-in-Ok-join_once-clause-rows g c =
     let e : Reached → Stray = λ x. (x.0, x.1.0, x.1.1) in
     let f : List Reached → List Row = filter_map (fresh_row C L S) in
     let cover = subst (λ n. n ≤ c.count_pieces-pieces.result * c.args.run.now.cut) (c.surviving_row_count-rows.ensures ∙ ap (λ (D : CatalogData). length (surviving_rows D L S)) c.requires.same) c.count_pieces-pieces.ensures.0 in
-    let whole = all_walked (is_stray_row C L S) e f (surviving_rows C L S) c.args.run.now.cut refl (filter_map-append (fresh_row C L S)) c.count_pieces-pieces.result cover c.in-Ok.ensures.ok.sound c.in-Ok.all.items c.in-Ok.ensures.ok.len (λ i w at. (c.in-Ok.ensures.ok.each i w at).1) in
+    let whole = all_walked (is_stray_row C L S) e f (surviving_rows C L S) c.args.run.now.cut refl (filter_map-append (fresh_row C L S)) (λ (w : WalkedData). w.rows) c.count_pieces-pieces.result cover c.in-Ok.ensures.ok.sound c.in-Ok.all.items c.in-Ok.ensures.ok.len (λ i w at. (c.in-Ok.ensures.ok.each i w at).1) in
     walk_by_rows_found C L S (fresh_rows_alike C L S c.projection_count-rules.ensures.rules.key) _ (sym whole) ∙ ap (λ r. Ok r) (sym (ap (λ (w : WalkedData). w.rows) c.of_walk.ensures ∙ c.in-Ok-join_once.ensures.rows ∙ ap (λ (ps : List WalkedData). without_repeats C (flat_map (λ (piece : WalkedData). piece.rows) ps)) c.as_slice.ensures.value))
 
 pub returns-clause-err : goal.returns-clause-err
