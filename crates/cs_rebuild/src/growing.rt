@@ -1,4 +1,4 @@
-//! Making the file of a lost segment. Each column is hashed while the next one is encoded; the last ones are hashed in
+//! Making the file of a lost segment. Each column is hashed while the next one is encoded; the last one is hashed in
 //! `finish`.
 ghost use Rattle.std.specs.Prelude.{◌≤◌, ◌+◌, ◌-◌, ◌*◌, ℕ, length, IfOk, OnOk};
 ghost use Rattle.cs_schema.specs.CatalogData.{projection};
@@ -34,11 +34,6 @@ fn text_room(column: &Cells, code: Code, rows: usize) -> usize
     let run = if code == Code::Runs { 8 } else { 0 };
     let row = cell.saturating_add(run).min(ROW_BYTES);
     rows.saturating_mul(row)
-}
-
-/// Whether a column is slow to encode, since each of its cells is looked at.
-fn is_slow(code: Code) -> bool {
-    code == Code::Runs || code == Code::Bitmaps
 }
 
 impl LostSegment<'_> {
@@ -144,42 +139,7 @@ impl LostSegment<'_> {
         Ok(text)
     }
 
-    /// Writes the columns before the last two to an empty file, and encodes those two. The last one is encoded from the
-    /// start, in parallel with the others.
-    fn grow_beside<R: Threads + Sync, G: Gate + Sync>(
-        &self,
-        run: &Run<'_, R, G>,
-        file: &mut GrowingFile,
-        last: usize,
-    ) -> (
-        Result<Vec<Vec<u8>>, AllocError>,
-        Result<Vec<Vec<u8>>, AllocError>,
-    )
-        requires last { (1 ≤ last) × HasColumn self.now last }
-        requires base { HasBase self.now }
-        ensures file { OnOk result.0 ((s : ℕ) → HoldsFirst self.now s 0 file.old → HoldsFirst self.now s (last - 1) file.new) }
-        ensures before { IfOk result.0 (λ made. IsTextAt self.now (last - 1) (joined made.items)) }
-        ensures text { IfOk result.1 (λ made. IsTextAt self.now last (joined made.items)) }
-    {
-        let before = last - 1;
-        // `join` guarantees nothing for a closure over a struct of references
-        join_mut(
-            run.rt,
-            &mut || -> Result<Vec<Vec<u8>>, AllocError>
-                requires { HasColumn self.now before × HasBase self.now }
-                ensures file { OnOk result ((s : ℕ) → HoldsFirst self.entry.now s 0 file.entry.now
-                    → HoldsFirst self.entry.now s before file.exit.now) }
-                ensures text { IfOk result (λ made. IsTextAt self.entry.now before (joined made.items)) }
-            { self.grow_up_to(run, file, before) },
-            &mut || -> Result<Vec<Vec<u8>>, AllocError>
-                requires { HasColumn self.now last }
-                ensures { IfOk result (λ made. IsTextAt self.entry.now last (joined made.items)) }
-            { self.text(run, last) },
-        )
-    }
-
-    /// Writes all columns, up to `last`, to an empty file. If the last one is slow to encode, that starts at once. No
-    /// worker waits until the last columns are hashed.
+    /// Writes all columns, up to `last`, to an empty file. The last one waits for `finish`.
     fn grow<R: Threads + Sync, G: Gate + Sync>(
         &self,
         run: &Run<'_, R, G>,
@@ -190,17 +150,12 @@ impl LostSegment<'_> {
         requires base { HasBase self.now }
         ensures { OnOk result ((s : ℕ) → HoldsFirst self.now s 0 file.old → HoldsFirst self.now s (last + 1) file.new) }
     {
-        if last > 0 && is_slow(self.store.catalog.code(self.p, last)) {
-            let (before, text) = self.grow_beside(run, file, last);
-            self.put(file, last - 1, before?)?;
-            return self.put(file, last, text?);
-        }
         let text = self.grow_up_to(run, file, last)?;
         self.put(file, last, text)
     }
 
-    /// The file of the segment without its digest. Its last columns may still wait for `finish`, which adds them
-    /// without a worker. Each encoded column is freed once it is in the file.
+    /// The file of the segment without its digest. Its last column still waits for `finish`. Each encoded column is freed
+    /// once it is in the file.
     pub fn begin<R: Threads + Sync, G: Gate + Sync>(
         &self,
         run: &Run<'_, R, G>,
