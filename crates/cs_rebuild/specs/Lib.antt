@@ -1,7 +1,7 @@
 pub mod Answers
 pub mod Building
 pub mod Encoding
-pub mod Held
+pub mod SharedFiles
 pub mod SegmentEncoder
 pub mod StoreFacts
 pub mod Comparing
