@@ -11,7 +11,7 @@ use Rattle.cs_order.specs.Orders.{row_at}
 use Rattle.cs_jix.specs.JoinIndex.{Place}
 use Rattle.cs_rebuild.specs.OnStore.{held_on, table_on}
 use Rattle.cs_rebuild.specs.declared.ordered_store.OrderedStore.{OrderedStore}
-use Rattle.cs_rebuild.specs.declared.places.Entries.{Entries}
+use Rattle.cs_rebuild.specs.declared.places.ExpectedJoinIndex.{ExpectedJoinIndex}
 use Rattle.cs_rebuild.proofs.OrderFacts.{row_there, count_there}
 use Rattle.cs_diagnosis.specs.Conflicts.{IsKeyConflict}
 use Rattle.cs_diagnosis.proofs.Keys.{AreKeysPositive}
@@ -22,7 +22,7 @@ position_below m key i e =
     let l = (position-Some (λ x. x == key) (image_keys m) i 0 e).0 in
     omega (arith, l, length-map m.pairs (λ (x : Rattle.cs_delta.specs.Image.Pair). x.0))
 
-module _ (e : Entries) where
+module _ (e : ExpectedJoinIndex) where
   abbrev g : OrderedStore
   g = e.store.now
 

@@ -9,13 +9,13 @@ ghost use Rattle.cs_board.specs.Pieces.{AnswersInOrder};
 ghost use Rattle.cs_rows.specs.Survivors.{contents_of};
 ghost use Rattle.cs_recovery.specs.Conflicts.{site_of};
 ghost use Rattle.cs_rebuild.specs.OnStore.{held_on, table_on};
-ghost use Rattle.cs_rebuild.specs.Verifying.{raw_entry};
+ghost use Rattle.cs_rebuild.specs.Verifying.{entry_or_zero};
 ghost use Rattle.cs_diagnosis.specs.Conflicts.{IsKeyConflict, IsJoinConflict, JoinConflictAt};
 
 use crate::sites::site_alone;
 use cs_jix::JoinIndex;
-use cs_rebuild::places::Entries;
-use cs_rebuild::{Fault, Gate, OrderedStore, Round, Run, Tasks, raw_entry};
+use cs_rebuild::places::ExpectedJoinIndex;
+use cs_rebuild::{Fault, Gate, OrderedStore, Round, Run, Tasks, entry_or_zero};
 use cs_schema::Loss;
 use std::alloc::AllocError;
 use std::marker::Sync;
@@ -23,7 +23,7 @@ use std::thread::Threads;
 
 /// The site with which the entry for a key is in conflict, if any: the site of the row's segment if the row has another
 /// key there, or the join index's own site if every key would be wrong.
-fn key_conflict(entries: &Entries<'_>, site: u8, entry: (u16, u32), key: u32) -> Option<u8>
+fn key_conflict(entries: &ExpectedJoinIndex<'_>, site: u8, entry: (u16, u32), key: u32) -> Option<u8>
     requires survives { Survives entries.now.store.now.catalog.now entries.now.store.now.loss
         (NameData.Jix entries.now.p entries.now.s entries.now.q) }
     requires site { site ≡ site_of entries.now.store.now.catalog.now (NameData.Seg entries.now.p entries.now.s) }
@@ -75,14 +75,14 @@ fn others_of(store: &OrderedStore<'_>, p: u16, s: u16, q: u16, join: &JoinIndex,
     ensures { IsJoinConflict store.now.catalog.now store.now.loss (held_on store.now) (table_on store.now) (p, s, q) (site, result) }
 {
     let _rules = store.catalog.projection_count();
-    let entries = Entries::new(store, p, s, q);
+    let entries = ExpectedJoinIndex::new(store, p, s, q);
     let top = entries.top();
     if join.top() != top {
         return site_alone(site);
     }
     let mut others = Loss::none();
     for i in 0..top {
-        match key_conflict(&entries, site, raw_entry(join, i + 1), i + 1) {
+        match key_conflict(&entries, site, entry_or_zero(join, i + 1), i + 1) {
             None => {}
             Some(other) => {
                 if other == site {

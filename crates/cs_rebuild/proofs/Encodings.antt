@@ -1,4 +1,4 @@
--- The pieces of a column: what they hold, and that they fit its encoding.
+-- The chunks of a column: what they hold, and that they fit its code.
 use Rattle.std.proofs.Common.{◌≡◌, ℕ, suc, ◌+◌, ◌-◌, ◌*◌, ◌/◌, ◌<◌, ◌≤◌, List, [], ◌∷◌, ◌++◌, map, take, drop, length, refl, sym, ap, subst, ◌∙◌, Some, arith, pos}
 use Rattle.std.specs.Prelude.{slice_index, ◌≤ℤ◌}
 use Rattle.std.specs.List.{slice_get}
@@ -13,12 +13,14 @@ use Rattle.cs_schema.specs.CatalogData.{CatalogData, ColumnData, no_column, proj
 use Rattle.cs_schema.specs.Order.{row_limit}
 use Rattle.cs_schema.specs.Rows.{Row, cell}
 use Rattle.cs_schema.proofs.Lists.{slice_get_map}
-use Rattle.cs_codec.specs.ColumnText.{FitsCode, int_of}
+use Rattle.cs_codec.specs.ColumnText.{int_of}
 use Rattle.cs_codec.specs.Columns.{cells_at}
 use Rattle.cs_piece.specs.Columns.{CanEncode}
 use Rattle.cs_order.specs.Orders.{row_at}
 use Rattle.cs_recovery.proofs.Afresh.{fits_code}
-use Rattle.cs_rebuild.specs.Encoding.{pieces_of, values_at, cut_at, Rises}
+use Rattle.cs_rebuild.specs.Encoding.{pieces_of, cut_at, Rises}
+use Rattle.cs_rebuild.specs.SegmentEncoder.{CanEncodeAt, code_in, kind_in, values_in}
+use Rattle.cs_rebuild.specs.declared.segment_encoder.SegmentEncoder.{SegmentEncoder}
 use Rattle.cs_rebuild.proofs.PlacedCells.{each_there}
 
 -- ---- cells of a walked column
@@ -39,15 +41,6 @@ cells_are rows n (r ∷ rs) below =
     ∙ ap (λ l. cell (row_at rows r) n ∷ l) (cells_are rows n rs (λ k l. below (suc k) (omega arith)))
 
 -- ---- parts of a list
-
--- the values of a projection's column are those of the table's column at the rows with these numbers
-pub placed_values : (C : CatalogData) (p j : ℕ) (rows : List Row) (numbers : List ℕ) (n : ℕ) (v : List Value) → n ≡ slice_index (projection C p).columns j → v ≡ map (λ (row : Row). cell row n) rows
-    → ((k : ℕ) → k < length numbers → slice_index numbers k < length rows) → cells_at v numbers ≡ values_at C p rows j numbers
-placed_values C p j rows numbers n v number held below =
-    let long : length v ≡ length rows = ap length held ∙ length-map rows (λ (row : Row). cell row n) in
-    each_there v numbers (Value.Int (pos 0)) (λ k l. let b = below k l in omega (arith, b, long))
-    ∙ ap (λ l. map (cell l) numbers) held ∙ cells_are rows n numbers below
-    ∙ ap (λ m. map (λ r. cell (row_at rows r) m) numbers) number
 
 pub rises_take : (n : ℕ) (v : List Value) → Rises v → Rises (take n v)
 rises_take n v rises i l =
@@ -81,59 +74,60 @@ few_cut cut k n numbers few =
     let b = length-drop (k * cut) numbers in
     omega (arith, few, a, b)
 
--- ---- the pieces of a column
+-- ---- the chunks of a column
 
-module _ (C : CatalogData) (p : ℕ) (rows : List Row) (j : ℕ) (numbers : List ℕ) where
-  abbrev MayRise : Type 0
-  MayRise = code_at C p j ≡ Code.Differences → (kind_at C p j ≡ Kind.Int) × Rises (values_at C p rows j numbers)
-
+module _ (e : SegmentEncoder) (j : ℕ) (numbers : List ℕ) where
   abbrev value_of : ℕ → Value
-  value_of r = cell (row_at rows r) (slice_index (projection C p).columns j)
+  value_of r = cell (row_at e.store.now.walked.rows r) (slice_index (projection e.store.now.catalog.now e.p).columns j)
 
-  pub few_values : length numbers ≤ row_limit → length (values_at C p rows j numbers) ≤ row_limit
-  few_values few = let l = length-map numbers value_of in omega (arith, few, l)
+  -- the values of the table's column at the rows with these numbers
+  pub placed_values : (n : ℕ) (v : List Value) → n ≡ slice_index (projection e.store.now.catalog.now e.p).columns j → v ≡ map (λ (row : Row). cell row n) e.store.now.walked.rows → CanEncodeAt e j numbers → cells_at v numbers ≡ values_in e j numbers
+  placed_values n v number held can =
+      let rows = e.store.now.walked.rows in
+      let long : length v ≡ length rows = ap length held ∙ length-map rows (λ (row : Row). cell row n) in
+      each_there v numbers (Value.Int (pos 0)) (λ k l. let b = can.below k l in omega (arith, b, long))
+      ∙ ap (λ l. map (cell l) numbers) held ∙ cells_are rows n numbers can.below
+      ∙ ap (λ m. map (λ r. cell (row_at rows r) m) numbers) number
 
-  -- the ints of a piece never decrease if those of the column never do
-  pub cut_rises : MayRise → (cut k : ℕ) → code_at C p j ≡ Code.Differences → (kind_at C p j ≡ Kind.Int) × Rises (values_at C p rows j (cut_at cut numbers k))
-  cut_rises rise cut k e =
-      let r = rise e in
-      let same : take cut (drop (k * cut) (map value_of numbers)) ≡ map value_of (cut_at cut numbers k) = ap (take cut) (drop-map value_of (k * cut) numbers) ∙ take-map value_of cut (drop (k * cut) numbers) in
-      (r.0, subst Rises same (rises_take cut (drop (k * cut) (map value_of numbers)) (rises_drop (k * cut) (map value_of numbers) r.1)))
+  pub can_encode : CanEncodeAt e j numbers → CanEncode (code_in e j) (kind_in e j) (values_in e j numbers)
+  can_encode can =
+      let long = length-map numbers value_of in
+      let few = can.few in
+      record { count = omega (arith, few, long); order = fits_code (code_in e j) (kind_in e j) (values_in e j numbers) can.rises }
 
-  -- each piece fits
-  pub cut_fits : MayRise → (cut k : ℕ) → FitsCode (code_at C p j) (kind_at C p j) (values_at C p rows j (cut_at cut numbers k))
-  cut_fits rise cut k = fits_code (code_at C p j) (kind_at C p j) (values_at C p rows j (cut_at cut numbers k)) (cut_rises rise cut k)
+  pub can_encode_cut : (cut k : ℕ) → CanEncodeAt e j numbers → CanEncodeAt e j (cut_at cut numbers k)
+  can_encode_cut cut k can = record {
+    below = below_cut cut k (length e.store.now.walked.rows) numbers can.below;
+    few = few_cut cut k row_limit numbers can.few;
+    rises = λ same.
+        let r = can.rises same in
+        let values : take cut (drop (k * cut) (map value_of numbers)) ≡ map value_of (cut_at cut numbers k) = ap (take cut) (drop-map value_of (k * cut) numbers) ∙ take-map value_of cut (drop (k * cut) numbers) in
+        (r.0, subst Rises values (rises_take cut (drop (k * cut) (map value_of numbers)) (rises_drop (k * cut) (map value_of numbers) r.1)));
+  }
 
-  -- and so do the first cells
-  pub front_fits : MayRise → length numbers ≤ row_limit → (n : ℕ) → CanEncode (code_at C p j) (kind_at C p j) (values_at C p rows j (take n numbers))
-  front_fits rise few n =
-      let a = length-take n numbers in
-      let b : length (map value_of (take n numbers)) ≡ length (take n numbers) = length-map (take n numbers) value_of in
-      record {
-        count = omega (arith, few, a, b);
-        order = fits_code (code_at C p j) (kind_at C p j) (values_at C p rows j (take n numbers)) (λ e. let r = rise e in (r.0, subst Rises (take-map value_of n numbers) (rises_take n (map value_of numbers) r.1)));
-      }
+  pub can_encode_first : (n : ℕ) → CanEncodeAt e j numbers → CanEncodeAt e j (take n numbers)
+  can_encode_first n can = let none : 0 * n ≡ 0 = grind arith in subst (λ m. CanEncodeAt e j (take n (drop m numbers))) none (can_encode_cut n 0 can)
 
-  -- the first pieces, and one more
-  pub one_more : (cut k : ℕ) → values_at C p rows j (take (k * cut) numbers) ++ values_at C p rows j (cut_at cut numbers k) ≡ values_at C p rows j (take ((k + 1) * cut) numbers)
+  -- the first chunks, and one more
+  pub one_more : (cut k : ℕ) → values_in e j (take (k * cut) numbers) ++ values_in e j (cut_at cut numbers k) ≡ values_in e j (take ((k + 1) * cut) numbers)
   one_more cut k =
-      let e : k * cut + cut ≡ (k + 1) * cut = grind arith in
-      sym (ap (λ n. map value_of (take n numbers)) (sym e) ∙ ap (map value_of) (take-add (k * cut) cut numbers) ∙ map-append value_of (take (k * cut) numbers) (take cut (drop (k * cut) numbers)))
+      let same : k * cut + cut ≡ (k + 1) * cut = grind arith in
+      sym (ap (λ n. map value_of (take n numbers)) (sym same) ∙ ap (map value_of) (take-add (k * cut) cut numbers) ∙ map-append value_of (take (k * cut) numbers) (take cut (drop (k * cut) numbers)))
 
-  -- no pieces yet
-  pub none_of : (cut : ℕ) → values_at C p rows j (take (0 * cut) numbers) ≡ []
+  -- no chunks yet
+  pub none_of : (cut : ℕ) → values_in e j (take (0 * cut) numbers) ≡ []
   none_of cut = let a : 0 * cut ≡ 0 = grind arith in ap (λ n. map value_of (take n numbers)) a
 
-  -- the first piece
-  pub first_cut : (cut : ℕ) → values_at C p rows j (cut_at cut numbers 0) ≡ values_at C p rows j (take (1 * cut) numbers)
+  -- the first chunk
+  pub first_cut : (cut : ℕ) → values_in e j (cut_at cut numbers 0) ≡ values_in e j (take (1 * cut) numbers)
   first_cut cut =
       let a : 0 * cut ≡ 0 = grind arith in
       let b : cut ≡ 1 * cut = grind arith in
       ap (λ n. map value_of (take cut (drop n numbers))) a ∙ ap (λ n. map value_of (take n numbers)) b
 
-  -- all pieces
-  pub all_cuts : (cut per n : ℕ) → 1 ≤ cut → per ≡ pieces_of (length numbers) cut → per ≤ n → values_at C p rows j (take (n * cut) numbers) ≡ values_at C p rows j numbers
-  all_cuts cut per n some e more = ap (map value_of) (take_all (n * cut) numbers covered)
+  -- all chunks
+  pub all_cuts : (cut chunks n : ℕ) → 1 ≤ cut → chunks ≡ pieces_of (length numbers) cut → chunks ≤ n → values_in e j (take (n * cut) numbers) ≡ values_in e j numbers
+  all_cuts cut chunks n some same more = ap (map value_of) (take_all (n * cut) numbers covered)
     where
       q : ℕ
       q = (length numbers + cut - 1) / cut
@@ -144,6 +138,6 @@ module _ (C : CatalogData) (p : ℕ) (rows : List Row) (j : ℕ) (numbers : List
       covered : length numbers ≤ n * cut
       covered =
           let l : length numbers + cut - 1 < q * cut + cut = lt-div-mul-add (omega (arith, some)) in
-          let most : q ≤ n = omega (arith, e, more) in
+          let most : q ≤ n = omega (arith, same, more) in
           let t = times q n most in
           omega (arith, l, t, some)

@@ -9,7 +9,7 @@ use Rattle.cs_schema.specs.Lists.{IsIn, numbers_below}
 use Rattle.cs_schema.proofs.Ascending.{false≢true}
 use Rattle.cs_schema.proofs.Lists.{in_at}
 use Rattle.cs_jix.specs.JoinIndex.{Place, no_place, placed_entry}
-use Rattle.cs_rebuild.specs.Verifying.{raw_entry}
+use Rattle.cs_rebuild.specs.Verifying.{entry_or_zero}
 
 both : (a b : Bool) → a ≡ true → b ≡ true → (a && b) ≡ true
 both true b e f = f
@@ -66,9 +66,9 @@ module _ {A B : Type 0} (E : A → B → Bool) where
         go false k = refl
 
 -- if an entry without a key has no segment, the entry for a key is the stored one
-pub raw_is : (xs : List Place) → ((e : Place) → IsIn e xs → e.1 ≡ 0 → e.0 ≡ 0) → (i : ℕ) → i < length xs → raw_entry xs (i + 1) ≡ get_or xs i no_place
+pub raw_is : (xs : List Place) → ((e : Place) → IsIn e xs → e.1 ≡ 0 → e.0 ≡ 0) → (i : ℕ) → i < length xs → entry_or_zero xs (i + 1) ≡ get_or xs i no_place
 raw_is xs h i l =
-    ap (raw_entry xs) (let step : i + 1 ≡ suc i = omega arith in step) ∙ ap (λ o. unwrap_or (placed_entry o) no_place) there ∙ by_key ((get_or xs i no_place).1 == 0) refl
+    ap (entry_or_zero xs) (let step : i + 1 ≡ suc i = omega arith in step) ∙ ap (λ o. unwrap_or (placed_entry o) no_place) there ∙ by_key ((get_or xs i no_place).1 == 0) refl
   where
     there : slice_get xs i ≡ Some (get_or xs i no_place)
     there = slice_get-get_or xs i no_place l

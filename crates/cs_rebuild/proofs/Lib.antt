@@ -8,7 +8,7 @@ pub mod Entries
 pub mod Firsts
 pub mod StoreFacts
 pub mod Indexes
-pub mod JoinedColumns
+pub mod SegmentFiles
 pub mod Keeping
 pub mod Names
 pub mod Numbers

@@ -1,8 +1,8 @@
 pub mod Answers
 pub mod Building
 pub mod Encoding
-pub mod Held
-pub mod Joining
+pub mod SharedFiles
+pub mod SegmentEncoder
 pub mod StoreFacts
 pub mod Comparing
 pub mod Verifying
@@ -15,5 +15,4 @@ pub mod Rounds
 pub mod Writing
 pub mod LostFiles
 pub mod OnStore
-pub mod StoreColumns
 pub mod SegmentSources

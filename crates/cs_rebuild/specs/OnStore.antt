@@ -1,13 +1,15 @@
 -- The parts of a recovery, stated of an `OrderedStore`.
-use Rattle.std.specs.Prelude.{◌≡◌, ℕ, List, Option}
+use Rattle.std.specs.Prelude.{◌≡◌, ℕ, List, Option, map}
 use Rattle.std.specs.Option.{option_or}
 use Rattle.cs_schema.specs.CatalogData.{CatalogData}
 use Rattle.cs_schema.specs.FileNames.{FileContents}
 use Rattle.cs_schema.specs.Losses.{Sites}
-use Rattle.cs_schema.specs.Rows.{Row}
+use Rattle.cs_schema.specs.Order.{rows_of}
+use Rattle.cs_schema.specs.Rows.{Row, project}
 use Rattle.cs_rows.specs.Survivors.{SurvivorsData, contents_of}
 use Rattle.cs_rows.specs.Walk.{Contents}
 use Rattle.cs_order.specs.Tables.{table_of}
+use Rattle.cs_segment.specs.SegmentFile.{base_of, segment_text}
 use Rattle.cs_delta.specs.Image.{ImageData}
 use Rattle.cs_jix.specs.JoinIndex.{Place}
 use Rattle.cs_store.specs.declared.fault.Fault.{Fault}
@@ -24,6 +26,10 @@ held_on g = contents_of g.survivors.now
 -- the table of the walked rows
 abbrev pub table_on : OrderedStore → List Row
 table_on g = table_of g.catalog.now g.walked.rows
+
+-- the file of a segment of the table
+abbrev pub segment_file_on : OrderedStore → ℕ → ℕ → List ℕ
+segment_file_on g p s = segment_text g.catalog.now p s (base_of g.catalog.now p (map (project g.catalog.now p) (rows_of g.catalog.now (table_on g) p s)))
 
 -- the image of a segment after the recovery
 abbrev pub image_on : OrderedStore → ℕ → ℕ → ImageData

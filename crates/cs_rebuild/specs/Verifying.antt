@@ -17,7 +17,7 @@ use Rattle.cs_recovery.specs.Holding.{agrees}
 use Rattle.cs_schema.specs.Lists.{IsIn}
 use Rattle.cs_recovery.specs.Places.{entries_for, entry_for}
 use Rattle.cs_rebuild.specs.OnStore.{held_on, table_on}
-use Rattle.cs_rebuild.specs.declared.places.Entries.{Entries}
+use Rattle.cs_rebuild.specs.declared.places.ExpectedJoinIndex.{ExpectedJoinIndex}
 
 -- the image of a segment does not have the table's rows
 abbrev pub is_misplaced : CatalogData → Contents → List Row → ℕ × ℕ → Bool
@@ -27,8 +27,8 @@ is_misplaced C S T a = not (pointwise (pointwise value_eq) (image_rows (S.image 
 abbrev pub misplaced_at : CatalogData → Contents → List Row → ℕ × ℕ → Option Fault
 misplaced_at C S T a = when (is_misplaced C S T a) (Fault.Misplaced a.0 a.1)
 
-abbrev pub PlacedFaultAt : CatalogData → Contents → List Row → List (ℕ × ℕ) → ℕ → Option Fault → Type 0
-PlacedFaultAt C S T segments i fault = fault ≡ option_and_then (misplaced_at C S T) (slice_get segments i)
+abbrev pub ImageFaultAt : CatalogData → Contents → List Row → List (ℕ × ℕ) → ℕ → Option Fault → Type 0
+ImageFaultAt C S T segments i fault = fault ≡ option_and_then (misplaced_at C S T) (slice_get segments i)
 
 -- a join index does not lead to the places of its rows
 abbrev pub is_misled : CatalogData → Sites → Contents → List Row → ℕ × ℕ × ℕ → Bool
@@ -38,19 +38,19 @@ is_misled C L S T a = not (pointwise (agrees C L a.2) (S.join a.0 a.1 a.2) (entr
 abbrev pub misled_at : CatalogData → Sites → Contents → List Row → ℕ × ℕ × ℕ → Option Fault
 misled_at C L S T a = when (is_misled C L S T a) (Fault.Misled a.0 a.1 a.2)
 
-abbrev pub JoinedFaultAt : CatalogData → Sites → Contents → List Row → List (ℕ × ℕ × ℕ) → ℕ → Option Fault → Type 0
-JoinedFaultAt C L S T joins i fault = fault ≡ option_and_then (misled_at C L S T) (slice_get joins i)
+abbrev pub JoinIndexFaultAt : CatalogData → Sites → Contents → List Row → List (ℕ × ℕ × ℕ) → ℕ → Option Fault → Type 0
+JoinIndexFaultAt C L S T joins i fault = fault ≡ option_and_then (misled_at C L S T) (slice_get joins i)
 
 -- the entry for a key as the file has it: an entry without a key has no segment
-abbrev pub raw_entry : List Place → ℕ → Place
-raw_entry entries key = unwrap_or (entry_at entries key) no_place
+abbrev pub entry_or_zero : List Place → ℕ → Place
+entry_or_zero entries key = unwrap_or (entry_at entries key) no_place
 
 -- no entry of a join index has a segment and no key
 abbrev pub HasNoKeylessPlace : List Place → Type 0
 HasNoKeylessPlace entries = (e : Place) → IsIn e entries → e.1 ≡ 0 → e.0 ≡ 0
 
 -- the entries for the keys above `from` and up to `to` agree with the expected ones
-abbrev pub AreLed : Entries → List Place → ℕ → ℕ → Type 0
+abbrev pub AreLed : ExpectedJoinIndex → List Place → ℕ → ℕ → Type 0
 AreLed e entries from to =
     (m : ℕ) → from ≤ m → m < to
     → agrees e.store.now.catalog.now e.store.now.loss e.q (slice_index_or entries m no_place)

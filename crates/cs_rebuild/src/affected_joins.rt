@@ -7,7 +7,7 @@ ghost use Rattle.cs_rebuild.specs.OnStore.{IsEntryOn, IsSound, written_on, entri
 ghost use Rattle.cs_rebuild.specs.LostFiles.{IsFileOf, IsAffectedJoin, join_name, joins_at, joins_in, affected_joins};
 
 use crate::ordered_store::OrderedStore;
-use crate::places::Entries;
+use crate::places::ExpectedJoinIndex;
 use crate::run::Run;
 use crate::thresholds::LEAST_ENTRIES;
 use cs_board::Gate;
@@ -96,7 +96,7 @@ fn least_entries(workers: u32, joins: usize) -> usize {
 /// The entries of a join index after the recovery, made by several threads.
 fn entries_of<R: Threads + Sync, G: Gate + Sync>(
     run: &Run<'_, R, G>,
-    entries: &Entries<'_>,
+    entries: &ExpectedJoinIndex<'_>,
     least: usize,
 ) -> Result<Vec<(u16, u32)>, AllocError>
     ensures { IfOk result (λ list. list.items ≡ entries_on entries.now.store.now entries.now.p entries.now.s entries.now.q) }
@@ -127,7 +127,7 @@ fn join_bytes<R: Threads + Sync, G: Gate + Sync>(
 {
     let _rules = store.catalog.projection_count();
     let (p, s, q) = join;
-    let entries = entries_of(run, &Entries::new(store, p, s, q), least)?;
+    let entries = entries_of(run, &ExpectedJoinIndex::new(store, p, s, q), least)?;
     write_jix(run.alloc, p, s, q, entries.as_slice())
 }
 

@@ -3,14 +3,14 @@ ghost use Rattle.std.specs.Prelude.{◌≡◌, Some, IfOk};
 ghost use Rattle.cs_store.specs.FileSet.{Files, contents_of};
 ghost use Rattle.cs_safety.specs.Safety.{IsSafe};
 ghost use Rattle.cs_rebuild.specs.Answers.{IsAnswer, IsAnswerOfRead};
-ghost use Rattle.cs_rebuild.specs.Held.{held_files};
+ghost use Rattle.cs_rebuild.specs.SharedFiles.{shared_files};
 ghost use Rattle.cs_rebuild.specs.Reading.{AreDigests, resealed};
 
 use crate::digests::least_unsealed;
 use crate::endings::answer_survivors;
-use crate::held::Held;
 use crate::reading::read_bodies;
 use crate::run::Run;
+use crate::shared_files::SharedFiles;
 use crate::sound_files::unless_bad;
 use crate::wanted::{Answer, Wanted};
 use cs_board::Gate;
@@ -25,10 +25,10 @@ fn compare_digests<R: Threads + Sync, G>(
     run: &Run<'_, R, G>,
     catalog: &Catalog,
     loss: Loss,
-    files: &mut Held<'_>,
+    files: &mut SharedFiles<'_>,
 ) -> Result<Option<FileName>, AllocError>
-    requires held { (F : Files) × held_files files.old ≡ Some F }
-    ensures { IfOk result (λ unsealed. (F : Files) → held_files files.old ≡ Some F → AreDigests catalog.now loss (contents_of F) unsealed) }
+    requires held { (F : Files) × shared_files files.old ≡ Some F }
+    ensures { IfOk result (λ unsealed. (F : Files) → shared_files files.old ≡ Some F → AreDigests catalog.now loss (contents_of F) unsealed) }
 {
     let unsealed = least_unsealed(run, catalog, loss, files.files());
     files.release();
@@ -41,12 +41,12 @@ fn answer_bodies<R: Threads + Sync, G: Gate + Sync>(
     run: &Run<'_, R, G>,
     catalog: &Catalog,
     loss: Loss,
-    files: &mut Held<'_>,
+    files: &mut SharedFiles<'_>,
     wanted: Wanted,
 ) -> Result<Result<Answer, Fault>, Fault>
     requires safe { IsSafe catalog.now loss }
-    requires held { (F : Files) × held_files files.old ≡ Some F }
-    ensures { (F : Files) → held_files files.old ≡ Some F → IsAnswerOfRead wanted catalog.now (resealed (contents_of F)) loss result }
+    requires held { (F : Files) × shared_files files.old ≡ Some F }
+    ensures { (F : Files) → shared_files files.old ≡ Some F → IsAnswerOfRead wanted catalog.now (resealed (contents_of F)) loss result }
 {
     let read = read_bodies(run, catalog, loss, files.files());
     files.release();
@@ -62,29 +62,29 @@ fn answer_beside<R: Threads + Sync, G: Gate + Sync>(
     run: &Run<'_, R, G>,
     catalog: &Catalog,
     loss: Loss,
-    files: &mut Held<'_>,
-    shared: &mut Held<'_>,
+    files: &mut SharedFiles<'_>,
+    shared: &mut SharedFiles<'_>,
     wanted: Wanted,
 ) -> (
     Result<Option<FileName>, AllocError>,
     Result<Result<Answer, Fault>, Fault>,
 )
     requires safe { IsSafe catalog.now loss }
-    requires held { (F : Files) × (held_files files.old ≡ Some F) × (held_files shared.old ≡ Some F) }
-    ensures digests { IfOk result.0 (λ unsealed. (F : Files) → held_files files.old ≡ Some F → AreDigests catalog.now loss (contents_of F) unsealed) }
-    ensures answer { (F : Files) → held_files shared.old ≡ Some F → IsAnswerOfRead wanted catalog.now (resealed (contents_of F)) loss result.1 }
+    requires held { (F : Files) × (shared_files files.old ≡ Some F) × (shared_files shared.old ≡ Some F) }
+    ensures digests { IfOk result.0 (λ unsealed. (F : Files) → shared_files files.old ≡ Some F → AreDigests catalog.now loss (contents_of F) unsealed) }
+    ensures answer { (F : Files) → shared_files shared.old ≡ Some F → IsAnswerOfRead wanted catalog.now (resealed (contents_of F)) loss result.1 }
 {
     // `join` guarantees nothing for a closure over a struct of references
     join_mut(
         run.rt,
         &mut || -> Result<Option<FileName>, AllocError>
-            requires { (F : Files) × held_files files.now ≡ Some F }
-            ensures { IfOk result (λ unsealed. (F : Files) → held_files files.entry.now ≡ Some F
+            requires { (F : Files) × shared_files files.now ≡ Some F }
+            ensures { IfOk result (λ unsealed. (F : Files) → shared_files files.entry.now ≡ Some F
                 → AreDigests catalog.entry.now loss (contents_of F) unsealed) }
         { compare_digests(run, catalog, loss, files) },
         &mut || -> Result<Result<Answer, Fault>, Fault>
-            requires { IsSafe catalog.now loss × ((F : Files) × held_files shared.now ≡ Some F) }
-            ensures { (F : Files) → held_files shared.entry.now ≡ Some F
+            requires { IsSafe catalog.now loss × ((F : Files) × shared_files shared.now ≡ Some F) }
+            ensures { (F : Files) → shared_files shared.entry.now ≡ Some F
                 → IsAnswerOfRead wanted catalog.entry.now (resealed (contents_of F)) loss result }
         { answer_bodies(run, catalog, loss, shared, wanted) },
     )
@@ -96,13 +96,13 @@ pub fn answer<R: Threads + Sync, G: Gate + Sync>(
     run: &Run<'_, R, G>,
     catalog: &Catalog,
     loss: Loss,
-    files: &mut Held<'_>,
-    shared: &mut Held<'_>,
+    files: &mut SharedFiles<'_>,
+    shared: &mut SharedFiles<'_>,
     wanted: Wanted,
 ) -> Result<Answer, Fault>
     requires safe { IsSafe catalog.now loss }
-    requires held { (F : Files) × (held_files files.old ≡ Some F) × (held_files shared.old ≡ Some F) }
-    ensures { (F : Files) → held_files files.old ≡ Some F → IsAnswer wanted catalog.now (contents_of F) loss result }
+    requires held { (F : Files) × (shared_files files.old ≡ Some F) × (shared_files shared.old ≡ Some F) }
+    ensures { (F : Files) → shared_files files.old ≡ Some F → IsAnswer wanted catalog.now (contents_of F) loss result }
 {
     let _rules = catalog.projection_count();
     let (unsealed, answered) = answer_beside(run, catalog, loss, files, shared, wanted);

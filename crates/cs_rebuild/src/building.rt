@@ -4,7 +4,7 @@ ghost use Rattle.cs_store.specs.FileSet.{contents_of};
 ghost use Rattle.cs_recovery.specs.BuildAnswers.{BuildClauses, IsBuildAnswer, every_site as sites_of};
 ghost use Rattle.cs_recovery.specs.Columns.{AreTableColumns, rows_in};
 
-use crate::columns_of_rows::{lend_columns, see_columns};
+use crate::columns_of_rows::{assert_cell_bounds, lend_columns};
 use crate::ordered_store::store_of;
 use crate::ordering::orders_of;
 use crate::run::Run;
@@ -45,7 +45,7 @@ pub fn build<R: Threads + Sync, G: Gate + Sync>(
     ensures clauses { BuildClauses catalog.now (rows_in rows.now) result }
 {
     let _rules = catalog.projection_count();
-    see_columns(rows);
+    assert_cell_bounds(rows);
     let walked = match lend_columns(run.alloc, rows) {
         Ok(walked) => walked,
         Err(_) => return Err(Fault::Memory),

@@ -31,7 +31,7 @@ pub fn are_columns(catalog: &Catalog, rows: &[Cells]) -> bool
 }
 
 /// Establishes that ints have 64 bits, as their type says.
-fn see_ints(ints: &[i64])
+fn assert_int_bounds(ints: &[i64])
     ensures { All (FitsSigned w64) ints.now }
 {
     for int in ints {
@@ -40,7 +40,7 @@ fn see_ints(ints: &[i64])
 }
 
 /// Establishes that texts are UTF-8 of at most 255 bytes, as their type says.
-fn see_texts(texts: &Texts)
+fn assert_text_bounds(texts: &Texts)
     ensures { All IsShortText texts.now }
 {
     for at in 0..texts.len() {
@@ -49,21 +49,21 @@ fn see_texts(texts: &Texts)
 }
 
 /// Establishes that the cells of a column are of its kind, as its type says.
-fn see_cells(column: &Cells)
+fn assert_column_bounds(column: &Cells)
     ensures { IsOneKind column.now }
 {
     match column {
-        Cells::Ints(ints) => see_ints(ints),
-        Cells::Texts(texts) => see_texts(texts),
+        Cells::Ints(ints) => assert_int_bounds(ints),
+        Cells::Texts(texts) => assert_text_bounds(texts),
     }
 }
 
 /// Establishes that the cells of each column are of its kind.
-pub fn see_columns(rows: &[Cells])
+pub fn assert_cell_bounds(rows: &[Cells])
     ensures { All IsOneKind rows.now }
 {
     for column in rows {
-        see_cells(column);
+        assert_column_bounds(column);
     }
 }
 

@@ -7,7 +7,7 @@ ghost use Rattle.std.specs.List.Sorted.{IsStrictlySortedBy};
 ghost use Rattle.cs_store.specs.FileSet.{contents_of};
 ghost use Rattle.cs_rebuild.specs.Reading.{AreDigests, AreDigestsAmong, AreSealedAmong, AreThere};
 
-use crate::groups::are_sealed_at_once;
+use crate::hash_batches::are_sealed_at_once;
 use crate::run::Run;
 use cs_schema::{Catalog, FileName, Loss};
 use cs_segment::seal::is_sealed;

@@ -2,16 +2,14 @@
 ghost use Rattle.std.specs.Prelude.{◌≡◌, ◌<◌, ◌++◌, All, Some, map, length, IfOk, OnOk};
 ghost use Rattle.cs_schema.specs.CatalogData.{HasSegment, segments};
 ghost use Rattle.cs_schema.specs.Order.{rows_of};
-ghost use Rattle.cs_schema.specs.Rows.{project};
-ghost use Rattle.cs_segment.specs.SegmentFile.{segment_text, base_of};
 ghost use Rattle.cs_delta.specs.DeltaFile.{delta_text, no_changes};
-ghost use Rattle.cs_rebuild.specs.OnStore.{table_on, written_on};
+ghost use Rattle.cs_rebuild.specs.OnStore.{segment_file_on, table_on, written_on};
 ghost use Rattle.cs_rebuild.specs.LostFiles.{IsToWrite, IsFileOf, name_of, base_names, names_in, lost_names};
 
-use crate::encoding::LostSegment;
 use crate::ordered_store::OrderedStore;
 use crate::run::Run;
-use cs_board::{Gate, Round};
+use crate::segment_encoder::SegmentEncoder;
+use cs_board::Gate;
 use cs_delta::write_empty_delta;
 use cs_schema::FileName;
 use rayon::prelude::*;
@@ -79,7 +77,7 @@ fn listed_files(alloc: Global, store: &OrderedStore<'_>) -> Result<Vec<LostFile>
     Ok(files)
 }
 
-/// The file of a lost segment. Its columns are encoded in one round.
+/// The file of a lost segment.
 fn segment_bytes<R: Threads + Sync, G: Gate + Sync>(
     run: &Run<'_, R, G>,
     store: &OrderedStore<'_>,
@@ -87,16 +85,9 @@ fn segment_bytes<R: Threads + Sync, G: Gate + Sync>(
     s: u16,
 ) -> Result<Vec<u8>, AllocError>
     requires segment { HasSegment store.now.catalog.now p s }
-    ensures { IfOk result (λ bytes. bytes.items ≡ segment_text store.now.catalog.now p s
-        (base_of store.now.catalog.now p (map (project store.now.catalog.now p)
-        (rows_of store.now.catalog.now (table_on store.now) p s)))) }
+    ensures { IfOk result (λ bytes. bytes.items ≡ segment_file_on store.now p s) }
 {
-    let _rules = store.catalog.projection_count();
-    let segment = LostSegment::of(run.alloc, store, p, s, run.cut);
-    let pieces = (store.catalog.width(p) as u32).wrapping_mul(segment.per);
-    run.gate.opened(Round::Columns, pieces);
-    let file = segment.begin(run, s)?;
-    file.finish()
+    SegmentEncoder::new(run.alloc, store, p, s, run.cut).encode(run)
 }
 
 /// The file of a lost segment's delta, which has no changes.

@@ -19,7 +19,7 @@ use cs_safety::alive;
 /// The entries of a join index after a recovery, computed on demand. What does not depend on the key is looked up once,
 /// since there may be a million keys.
 #[derive(Drop)]
-pub struct Entries<'a> {
+pub struct ExpectedJoinIndex<'a> {
     pub store: &'a OrderedStore<'a>,
     pub p: u16,
     pub s: u16,
@@ -58,7 +58,7 @@ fn kept_image<'a>(store: &OrderedStore<'a>, p: u16, s: u16) -> Option<&'a Image>
     }
 }
 
-impl<'a> Entries<'a> {
+impl<'a> ExpectedJoinIndex<'a> {
     /// The entries of the join index from a segment to a projection.
     pub fn new(store: &'a OrderedStore<'a>, p: u16, s: u16, q: u16) -> Self
         requires segment { HasSegment store.now.catalog.now p s }
@@ -67,7 +67,7 @@ impl<'a> Entries<'a> {
         ensures segment { (result.p ≡ p) × (result.s ≡ s) }
         ensures target { result.q ≡ q }
     {
-        Entries {
+        ExpectedJoinIndex {
             store,
             p,
             s,

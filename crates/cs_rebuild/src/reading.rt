@@ -20,7 +20,7 @@ ghost use Rattle.cs_rebuild.specs.WorkLaws.{one_files_fault};
 use crate::files_of::{SegmentFiles, SegmentSource};
 use crate::rounds::Tasks;
 use crate::run::Run;
-use crate::surviving::surviving_segments;
+use crate::segment_lists::surviving_segments;
 use cs_board::{Gate, Round};
 use cs_rows::Survivors;
 use cs_schema::{Catalog, Loss};

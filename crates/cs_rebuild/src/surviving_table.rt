@@ -21,7 +21,7 @@ use std::thread::Threads;
 
 /// Copies of a column's cells at these indices. The column is the borrowed one if there is one, and the owned one is
 /// freed.
-fn pick_column(
+fn take_column(
     alloc: Global,
     made: Cells,
     lent: Option<&Cells>,
@@ -40,7 +40,7 @@ fn pick_column(
 }
 
 /// The rows with these numbers, in columns. Each owned column is freed before the next is copied.
-fn pick_columns(
+fn take_columns(
     alloc: Global,
     catalog: &Catalog,
     made: Vec<Cells>,
@@ -58,7 +58,7 @@ fn pick_columns(
     let mut columns = Vec::new(alloc);
     for c in 0..catalog.column_count() {
         let own = replace(&mut made[c], Cells::new(alloc, Kind::Int));
-        columns.push(pick_column(alloc, own, lent.column(c), numbers)?)?;
+        columns.push(take_column(alloc, own, lent.column(c), numbers)?)?;
     }
     Ok(columns)
 }
@@ -77,5 +77,5 @@ pub fn rows_by_key<R: Threads + Sync, G>(
 {
     let numbers = key_order(run.rt, run.alloc, &walked, catalog)?;
     let (made, lent) = walked.into_columns();
-    pick_columns(run.alloc, catalog, made, &lent, numbers.as_slice())
+    take_columns(run.alloc, catalog, made, &lent, numbers.as_slice())
 }

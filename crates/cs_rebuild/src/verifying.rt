@@ -8,13 +8,13 @@ ghost use Rattle.cs_rows.specs.Survivors.{contents_of as held_by};
 ghost use Rattle.cs_rebuild.specs.OnStore.{IsStoreOf, contradiction_on};
 ghost use Rattle.cs_rebuild.specs.Steps.{AreRead, AreOrdered, AreSound, IsUnordered};
 
-use crate::joined::verify_joins;
 use crate::ordered_store::{OrderedStore, store_of};
 use crate::ordering::orders_of;
-use crate::placed::verify_images;
 use crate::run::Run;
+use crate::segment_lists::{joins_of, surviving_segments};
 use crate::sound_store::SoundStore;
-use crate::surviving::{joins_of, surviving_segments};
+use crate::verify_images::verify_images;
+use crate::verify_join_indexes::verify_joins;
 use crate::walking::walk_all;
 use cs_board::Gate;
 use cs_rows::Survivors;

@@ -19,7 +19,7 @@ use std::marker::Sync;
 use std::thread::{Threads, join_mut};
 
 /// One set of the files of the lost segments and of the affected join indexes.
-fn put_together(
+fn collect_files(
     alloc: Global,
     store: &OrderedStore<'_>,
     lost: Vec<(FileName, Vec<u8>)>,
@@ -91,7 +91,7 @@ pub fn write_files<R: Threads + Sync, G: Gate + Sync>(
         Ok(lost) => lost,
         Err(_) => return Err(Fault::Memory),
     };
-    match put_together(run.alloc, store, lost, joins) {
+    match collect_files(run.alloc, store, lost, joins) {
         Ok(files) => Ok(files),
         Err(_) => Err(Fault::Memory),
     }

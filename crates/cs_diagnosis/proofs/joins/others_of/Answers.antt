@@ -43,8 +43,8 @@ returns-then-other-site c =
     let top = c.top-top.ensures ∙ same_top g c.new-entries.result.store.now e.store c.args.p c.args.s c.args.q c.new-entries.result.p c.new-entries.result.s c.new-entries.result.q e.segment.0 e.segment.1 in
     let i = c.loop-i.i in
     let inside : i < length join = omega (arith, c.loop-i-test.true, c.if-top.false, c.top.ensures) in
-    let entry = c.raw_entry.ensures ∙ raw_is join (λ x m none. g.entries c.args.p c.args.s c.args.q x c.requires.survives (subst (IsIn x) c.requires.join m) none) i inside in
-    let conflict = same_conflict g c.new-entries.result.store.now e.store c.args.p c.args.s c.args.q c.new-entries.result.p c.new-entries.result.s c.new-entries.result.q e.segment.0 e.segment.1 e.target (i + 1) c.raw_entry.result (get_or join i no_place) entry (Some c.in-Some.other) c.in-Some.ensures.conflict in
+    let entry = c.entry_or_zero.ensures ∙ raw_is join (λ x m none. g.entries c.args.p c.args.s c.args.q x c.requires.survives (subst (IsIn x) c.requires.join m) none) i inside in
+    let conflict = same_conflict g c.new-entries.result.store.now e.store c.args.p c.args.s c.args.q c.new-entries.result.p c.new-entries.result.s c.new-entries.result.q e.segment.0 e.segment.1 e.target (i + 1) c.entry_or_zero.result (get_or join i no_place) entry (Some c.in-Some.other) c.in-Some.ensures.conflict in
     let own = subst (λ x. IsKeyConflict C g.loss S (table_of C rows) c.args.p c.args.s c.args.q (i + 1) (get_or join i no_place) (Some x)) (c.if-other-site.true ∙ c.requires.site) conflict in
     subst (λ x. IsJoinConflict C g.loss S (table_of C rows) (c.args.p, c.args.s, c.args.q) (x, c.site_alone-then-other-site.result)) (sym c.requires.site)
     (contradicts C g.loss S rows c.args.p c.args.s c.args.q join c.requires.join c.site_alone-then-other-site.result
@@ -61,14 +61,14 @@ loop-i-preserved c =
     let top = c.top-top.ensures ∙ same_top g c.new-entries.result.store.now e.store c.args.p c.args.s c.args.q c.new-entries.result.p c.new-entries.result.s c.new-entries.result.q e.segment.0 e.segment.1 in
     let i = c.loop-i.i in
     let inside : i < length join = omega (arith, c.loop-i-test.true, c.if-top.false, c.top.ensures) in
-    let entry = c.raw_entry.ensures ∙ raw_is join (λ x m none. g.entries c.args.p c.args.s c.args.q x c.requires.survives (subst (IsIn x) c.requires.join m) none) i inside in
+    let entry = c.entry_or_zero.ensures ∙ raw_is join (λ x m none. g.entries c.args.p c.args.s c.args.q x c.requires.survives (subst (IsIn x) c.requires.join m) none) i inside in
     elim c.match-key_conflict.branch [
       | in-None w ↦
           subst (AgreeBelow C g.loss S rows c.args.p c.args.s c.args.q join (i + 1)) (sym w.others-is)
-          (agrees_too C g.loss S rows c.args.p c.args.s c.args.q join i c.loop-i.others c.loop-i.invariant (same_conflict g c.new-entries.result.store.now e.store c.args.p c.args.s c.args.q c.new-entries.result.p c.new-entries.result.s c.new-entries.result.q e.segment.0 e.segment.1 e.target (i + 1) c.raw_entry.result (get_or join i no_place) entry None w.in-None.ensures.conflict))
+          (agrees_too C g.loss S rows c.args.p c.args.s c.args.q join i c.loop-i.others c.loop-i.invariant (same_conflict g c.new-entries.result.store.now e.store c.args.p c.args.s c.args.q c.new-entries.result.p c.new-entries.result.s c.new-entries.result.q e.segment.0 e.segment.1 e.target (i + 1) c.entry_or_zero.result (get_or join i no_place) entry None w.in-None.ensures.conflict))
       | in-Some+else-other-site w ↦
           subst (AgreeBelow C g.loss S rows c.args.p c.args.s c.args.q join (i + 1)) (sym w.others-is)
-          (conflicts_too C g.loss S rows c.args.p c.args.s c.args.q join i c.loop-i.others c.loop-i.invariant w.in-Some.other (same_conflict g c.new-entries.result.store.now e.store c.args.p c.args.s c.args.q c.new-entries.result.p c.new-entries.result.s c.new-entries.result.q e.segment.0 e.segment.1 e.target (i + 1) c.raw_entry.result (get_or join i no_place) entry (Some w.in-Some.other) w.in-Some.ensures.conflict) w.with-others.result w.with-others.ensures.members)
+          (conflicts_too C g.loss S rows c.args.p c.args.s c.args.q join i c.loop-i.others c.loop-i.invariant w.in-Some.other (same_conflict g c.new-entries.result.store.now e.store c.args.p c.args.s c.args.q c.new-entries.result.p c.new-entries.result.s c.new-entries.result.q e.segment.0 e.segment.1 e.target (i + 1) c.entry_or_zero.result (get_or join i no_place) entry (Some w.in-Some.other) w.in-Some.ensures.conflict) w.with-others.result w.with-others.ensures.members)
     ]
 
 pub returns : goal.returns

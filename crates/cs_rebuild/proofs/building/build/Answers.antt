@@ -41,7 +41,7 @@ store_of-store-requires-clause-table g c =
     let C = c.args.catalog.now in
     let w = c.in-Ok.walked in
     let rows : w.rows ≡ rows_in c.args.rows.now = ap (λ (x : WalkedData). x.rows) c.in-Ok.ensures in
-    let are : (row : Row) → IsIn row w.rows → IsRow C row = λ row i. rows_are C c.args.rows.now c.requires c.see_columns.ensures row (subst (IsIn row) rows i) in
+    let are : (row : Row) → IsIn row w.rows → IsRow C row = λ row i. rows_are C c.args.rows.now c.requires c.assert_cell_bounds.ensures row (subst (IsIn row) rows i) in
     (held_afresh C c.projection_count-rules.ensures.rules w are c.in-Ok-new.survivors c.in-Ok-orders_of.ensures.sound).table
 
 pub of-sound-requires : goal.of-sound-requires
@@ -49,7 +49,7 @@ of-sound-requires g c =
     let C = c.args.catalog.now in
     let w = c.in-Ok.walked in
     let rows : w.rows ≡ rows_in c.args.rows.now = ap (λ (x : WalkedData). x.rows) c.in-Ok.ensures in
-    let are : (row : Row) → IsIn row w.rows → IsRow C row = λ row i. rows_are C c.args.rows.now c.requires c.see_columns.ensures row (subst (IsIn row) rows i) in
+    let are : (row : Row) → IsIn row w.rows → IsRow C row = λ row i. rows_are C c.args.rows.now c.requires c.assert_cell_bounds.ensures row (subst (IsIn row) rows i) in
     let held = held_afresh C c.projection_count-rules.ensures.rules w are c.in-Ok-new.survivors c.in-Ok-orders_of.ensures.sound in
     let e = c.store_of-store.ensures in
     (no_files, on_store (λ D L v x. HoldsTable D no_files L v x) (sym e.catalog) (sym (e.loss ∙ c.every_site.ensures)) (sym e.survivors) (sym e.walked) held)
@@ -65,4 +65,4 @@ returns-clause-answer g c =
     subst (λ (l : List Row). IsBuildAnswer C l r) rows (built_answer C c.projection_count-rules.ensures.rules w.rows c.in-Ok-new.survivors c.in-Ok-orders_of.ensures.sound r files c.write_files.ensures.err)
 
 pub returns-clause-clauses : goal.returns-clause-clauses
-returns-clause-clauses g c = build_ends c.args.catalog.now c.projection_count-rules.ensures.rules (rows_in c.args.rows.now) (rows_are c.args.catalog.now c.args.rows.now c.requires c.see_columns.ensures) _ (returns-clause-answer g c)
+returns-clause-clauses g c = build_ends c.args.catalog.now c.projection_count-rules.ensures.rules (rows_in c.args.rows.now) (rows_are c.args.catalog.now c.args.rows.now c.requires c.assert_cell_bounds.ensures) _ (returns-clause-answer g c)

@@ -1,9 +1,0 @@
-use Rattle.std.proofs.Common.{◌≡◌, ℕ, ◌<◌, List, Bor, Some}
-use Rattle.std.specs.Prelude.{slice_index_or}
-use Rattle.std.specs.List.{slice_get}
-use Rattle.cs_schema.specs.Lists.{IsIn}
-use Rattle.cs_rebuild.proofs.groups.files_in.Given as goal
-
--- the group's files so far
-abbrev pub invariant-loop-i : goal.invariant-loop-i
-invariant-loop-i l = (k : ℕ) (f : Bor (List ℕ)) → k < l.i → slice_get l.files k ≡ Some f → slice_index_or l.groups k 0 ≡ l.group → IsIn f l.own.items

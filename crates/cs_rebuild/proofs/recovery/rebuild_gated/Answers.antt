@@ -1,8 +1,0 @@
-use Rattle.std.proofs.Common.{refl}
-use Rattle.cs_rebuild.proofs.recovery.rebuild_gated.Goals as goal
-
-pub rebuild_held-requires-clause-held : goal.rebuild_held-requires-clause-held
-rebuild_held-requires-clause-held g c κs within = (c.args.files.now, refl, refl)
-
-pub returns-clause-clauses : goal.returns-clause-clauses
-returns-clause-clauses g c = c.rebuild_held.ensures.clauses c.args.files.now refl
