@@ -1,4 +1,4 @@
-use Rattle.std.proofs.Common.{◌++◌, ◌∷◌, [], take}
+use Rattle.std.proofs.Common.{take}
 use Rattle.cs_file_system.specs.Calls.{IsNoMore}
 use Rattle.cs_folder_work.specs.Folders.{IsFolderAt}
 use Rattle.cs_folder_work.proofs.FolderLemmas.{AreParted}
