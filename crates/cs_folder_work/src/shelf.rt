@@ -175,7 +175,7 @@ impl<R: Files + Copy + Drop> FolderShelf<R> {
         }
     }
 
-    /// Brings the names in the folders of the files that change to the disk, and those in the store's.
+    /// Brings the names in the folders of the files that change to the disk.
     fn sync_all(&self) -> io::Result<()> {
         let changed = match &self.taken {
             Some(taken) => taken.record.names(self.alloc)?,

@@ -1,8 +1,10 @@
 //! In which folder each file of a store stands.
-ghost use Rattle.std.specs.Prelude.{◌≡◌, IfOk, IfSome, IsTrue, string_bytes};
-ghost use Rattle.std.specs.List.{All, Contains};
+ghost use Rattle.std.specs.Prelude.{◌≡◌, ◌↔◌, None, IfErr, IfOk, IfSome, IsTrue, OnErr, string_bytes};
+ghost use Rattle.std.specs.IoError.{error_kind};
+ghost use Rattle.std.specs.List.{All};
+ghost use Rattle.std.specs.List.Sorted.{IsPermutation};
 ghost use Rattle.cs_file_system.specs.Calls.{IsNoMore};
-ghost use Rattle.cs_folder_work.specs.Folders.{HasFolder, IsFolderOf, IsInPart, IsOther, number_in};
+ghost use Rattle.cs_folder_work.specs.Folders.{AreRefused, IsFolderOf, IsInPart, IsOther, IsOutside, IsPartOf, number_in};
 
 use cs_file_system::{FileSystem, Identity};
 use cs_schema::FileName;
@@ -98,13 +100,18 @@ impl StoreFolders {
     }
 
     /// Whether the file of a name stands in the folder of the store.
-    pub fn is_in_store(&self, name: FileName) -> bool {
+    pub fn is_in_store(&self, name: FileName) -> bool
+        ensures { IsTrue result ↔ (number_in self.now.places name ≡ None) }
+    {
         self.places.number_of(name).is_none()
     }
 
-    /// The folder of a name, as long as it is there. Nothing is written where a disk is no longer mounted.
+    /// The folder of a name, as long as it is there. Nothing is written where a disk is no longer mounted. The store's own
+    /// folder counts as there.
     pub fn reach<F: FileSystem>(&self, files: &mut F, name: FileName) -> io::Result<&str>
         ensures folder { IfOk result (λ folder. IsFolderOf F.has_identity self.now name folder.now) }
+        ensures away { IfErr result (λ error. error_kind error ≡ ErrorKind.NotConnected) }
+        ensures outside { OnErr result (IsOutside self.now name) }
         ensures same { IsNoMore (F.made files.old) (F.made files.new) }
     {
         match self.places.number_of(name) {
@@ -116,6 +123,7 @@ impl StoreFolders {
     /// The folder with this number, as long as it is there.
     pub fn reach_other<F: FileSystem>(&self, files: &mut F, number: usize) -> io::Result<&str>
         ensures folder { IfOk result (λ folder. IsOther F.has_identity self.now number folder.now) }
+        ensures away { IfErr result (λ error. error_kind error ≡ ErrorKind.NotConnected) }
         ensures same { IsNoMore (F.made files.old) (F.made files.new) }
     {
         if let Some(Some(other)) = self.others.get(number) {
@@ -127,77 +135,53 @@ impl StoreFolders {
         Err(io::Error::from(ErrorKind::NotConnected))
     }
 
-    /// Those of these names whose files stand in the folder with this number; if it is none, in the store's.
-    fn names_at(
+    /// These names, those of one folder after another: first those of the store's, then those of the others by their numbers.
+    fn sorted_by_folder(
         &self,
         alloc: Global,
         names: &[FileName],
-        number: Option<usize>,
     ) -> Result<Vec<FileName>, AllocError>
-        ensures only { IfOk result (λ here. All (λ name. number_in self.now.places name ≡ number) here.items) }
-        ensures each { IfOk result (λ here. All (λ name. number_in self.now.places name ≡ number → Contains here.items name) names.now) }
+        ensures { IfOk result (λ sorted. IsPermutation names.now sorted.items) }
     {
-        let mut here = Vec::new(alloc);
-        for name in names {
-            if self.places.number_of(*name) == number {
-                here.push(*name)?;
-            }
-        }
-        Ok(here)
+        let mut sorted = Vec::from_slice(alloc, names)?;
+        sorted.sort_by_key(|name| self.places.number_of(*name))?;
+        Ok(sorted)
     }
 
-    /// Whether a name has a folder: the store's, or one that has its number.
-    fn has_folder(&self, name: FileName) -> bool
-        ensures { IsTrue result → HasFolder self.now name }
-    {
-        match self.places.number_of(name) {
-            Some(number) => number < self.others.len(),
-            None => true,
-        }
-    }
-
-    /// Whether each of these names has a folder.
-    fn have_folders(&self, names: &[FileName]) -> bool
-        ensures { IsTrue result → All (HasFolder self.now) names.now }
-    {
-        for name in names {
-            if !self.has_folder(*name) {
-                return false;
-            }
-        }
-        true
-    }
-
-    /// These names by their folders: first those of the store's, be there any or not, then those of each other folder that
-    /// has any. Each of these folders is there.
+    /// These names by their folders: first those of the store's, then those of each other folder that has any. Each of these
+    /// folders is there. The store's is the first even if no name is in it: what work keeps there gets its record.
     pub fn parts<F: FileSystem>(
         &self,
         files: &mut F,
         alloc: Global,
         names: &[FileName],
     ) -> io::Result<Vec<Part<'_>>>
-        ensures folders { IfOk result (λ parts. All (λ part. All (λ name. IsFolderOf F.has_identity self.now name part.folder.now) part.names.items) parts.items) }
+        ensures folders { IfOk result (λ parts. All (IsPartOf F.has_identity self.now names.now) parts.items) }
         ensures each { IfOk result (λ parts. All (IsInPart parts.items) names.now) }
+        ensures refused { IfErr result (AreRefused self.now names.now) }
         ensures same { IsNoMore (F.made files.old) (F.made files.new) }
     {
-        if !self.have_folders(names) {
-            return Err(io::Error::from(ErrorKind::NotConnected));
-        }
+        let sorted = self.sorted_by_folder(alloc, names)?;
         let mut parts = Vec::new(alloc);
-        parts.push(Part {
+        let mut part = Part {
             folder: self.store(),
-            names: self.names_at(alloc, names, None)?,
-        })?;
-        for number in 0..self.others.len() {
-            let here = self.names_at(alloc, names, Some(number))?;
-            if !here.is_empty() {
-                let folder = self.reach_other(files, number)?;
-                parts.push(Part {
+            names: Vec::new(alloc),
+        };
+        let mut last = None;
+        for name in sorted.as_slice() {
+            let number = self.places.number_of(*name);
+            if number != last {
+                let folder = self.reach(files, *name)?;
+                parts.push(part)?;
+                part = Part {
                     folder,
-                    names: here,
-                })?;
+                    names: Vec::new(alloc),
+                };
+                last = number;
             }
+            part.names.push(*name)?;
         }
+        parts.push(part)?;
         Ok(parts)
     }
 
