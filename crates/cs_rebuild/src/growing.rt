@@ -2,7 +2,7 @@
 //! `finish`.
 ghost use Rattle.std.specs.Prelude.{◌≤◌, ◌+◌, ◌-◌, ◌*◌, ℕ, length, IfOk, OnOk};
 ghost use Rattle.cs_schema.specs.CatalogData.{projection};
-ghost use Rattle.cs_segment.specs.Growing.{joined};
+ghost use Rattle.cs_segment.specs.SegmentWriter.{joined};
 ghost use Rattle.cs_rebuild.specs.Joining.{HoldsFirst, IsTextAt, HasBase, HasColumn};
 
 use crate::columns::table_column;
@@ -11,7 +11,7 @@ use crate::run::Run;
 use cs_board::Gate;
 use cs_schema::limits::TEXT_BYTES;
 use cs_schema::{Cells, Code};
-use cs_segment::GrowingFile;
+use cs_segment::SegmentWriter;
 use std::alloc::AllocError;
 use std::marker::Sync;
 use std::mem::replace;
@@ -61,7 +61,7 @@ impl LostSegment<'_> {
     fn push<R: Threads + Sync, G: Gate + Sync>(
         &self,
         run: &Run<'_, R, G>,
-        file: &mut GrowingFile,
+        file: &mut SegmentWriter,
         j: usize,
         text: Vec<Vec<u8>>,
     ) -> Result<(), AllocError>
@@ -77,7 +77,7 @@ impl LostSegment<'_> {
     }
 
     /// Appends an encoded column to those that wait for `finish`, without reading it.
-    fn put(&self, file: &mut GrowingFile, j: usize, text: Vec<Vec<u8>>) -> Result<(), AllocError>
+    fn put(&self, file: &mut SegmentWriter, j: usize, text: Vec<Vec<u8>>) -> Result<(), AllocError>
         requires column { HasColumn self.now j }
         requires base { HasBase self.now }
         requires text { IsTextAt self.now j (joined text.items) }
@@ -93,7 +93,7 @@ impl LostSegment<'_> {
     fn push_beside<R: Threads + Sync, G: Gate + Sync>(
         &self,
         run: &Run<'_, R, G>,
-        file: &mut GrowingFile,
+        file: &mut SegmentWriter,
         next: usize,
         text: Vec<Vec<u8>>,
     ) -> (Result<(), AllocError>, Result<Vec<Vec<u8>>, AllocError>)
@@ -125,7 +125,7 @@ impl LostSegment<'_> {
     fn grow_up_to<R: Threads + Sync, G: Gate + Sync>(
         &self,
         run: &Run<'_, R, G>,
-        file: &mut GrowingFile,
+        file: &mut SegmentWriter,
         last: usize,
     ) -> Result<Vec<Vec<u8>>, AllocError>
         requires last { HasColumn self.now last }
@@ -149,7 +149,7 @@ impl LostSegment<'_> {
     fn grow_beside<R: Threads + Sync, G: Gate + Sync>(
         &self,
         run: &Run<'_, R, G>,
-        file: &mut GrowingFile,
+        file: &mut SegmentWriter,
         last: usize,
     ) -> (
         Result<Vec<Vec<u8>>, AllocError>,
@@ -183,7 +183,7 @@ impl LostSegment<'_> {
     fn grow<R: Threads + Sync, G: Gate + Sync>(
         &self,
         run: &Run<'_, R, G>,
-        file: &mut GrowingFile,
+        file: &mut SegmentWriter,
         last: usize,
     ) -> Result<(), AllocError>
         requires last { HasColumn self.now last }
@@ -205,13 +205,13 @@ impl LostSegment<'_> {
         &self,
         run: &Run<'_, R, G>,
         s: u16,
-    ) -> Result<GrowingFile, AllocError>
+    ) -> Result<SegmentWriter, AllocError>
         requires base { HasBase self.now }
         ensures { IfOk result (HoldsFirst self.now s (length (projection self.now.store.now.catalog.now self.now.p).columns)) }
     {
         let catalog = self.store.catalog;
         let rows = self.numbers.len() as u32;
-        let mut file = GrowingFile::begin(self.alloc, catalog, self.p, s, rows)?;
+        let mut file = SegmentWriter::begin(self.alloc, catalog, self.p, s, rows)?;
         // otherwise the content is copied each time the file grows
         file.reserve(self.room())?;
         self.grow(run, &mut file, catalog.width(self.p) - 1)?;

@@ -3,7 +3,7 @@ ghost use Rattle.std.specs.Prelude.{◌≡◌, ◌≤◌, ◌∷◌, ◌++◌, [
 ghost use Rattle.cs_schema.specs.declared.kinds.Code.{Code as CodeData};
 ghost use Rattle.cs_schema.specs.CatalogData.{code_at, kind_at};
 ghost use Rattle.cs_piece.specs.Pieces.{IsPieceOf};
-ghost use Rattle.cs_segment.specs.Growing.{joined};
+ghost use Rattle.cs_segment.specs.SegmentWriter.{joined};
 ghost use Rattle.cs_rebuild.specs.Joining.{ArePiecesOf, IsTextAt, HasColumn, column_values};
 
 use crate::encoding::LostSegment;

@@ -2,7 +2,7 @@
 ghost use Rattle.std.specs.Prelude.{◌≡◌, ◌<◌, None, length, IfOk};
 ghost use Rattle.cs_schema.specs.declared.kinds.Code.{Code as CodeData};
 ghost use Rattle.cs_schema.specs.CatalogData.{projection, code_at};
-ghost use Rattle.cs_segment.specs.Growing.{joined};
+ghost use Rattle.cs_segment.specs.SegmentWriter.{joined};
 ghost use Rattle.cs_rebuild.specs.Joining.{IsRunsPart, IsTextAt, HasColumn};
 ghost use Rattle.cs_rebuild.specs.WorkLaws.{one_value};
 

@@ -1,5 +1,5 @@
 use Rattle.std.proofs.Common.{◌≡◌, ◌+◌, ◌-◌, sym, subst, arith}
-use Rattle.cs_segment.specs.Growing.{joined}
+use Rattle.cs_segment.specs.SegmentWriter.{joined}
 use Rattle.cs_rebuild.specs.Joining.{HoldsFirst, IsTextAt}
 use Rattle.cs_rebuild.proofs.encoding.LostSegment.grow_up_to.Goals as goal
 

@@ -1,7 +1,7 @@
 use Rattle.std.proofs.Common.{◌≡◌, ◌+◌, ◌*◌, length, take}
 use Rattle.cs_schema.specs.declared.kinds.Code.{Code}
 use Rattle.cs_codec.specs.ColumnText.{column_text}
-use Rattle.cs_segment.specs.Growing.{joined}
+use Rattle.cs_segment.specs.SegmentWriter.{joined}
 use Rattle.cs_rebuild.specs.Encoding.{values_at}
 use Rattle.cs_rebuild.specs.Joining.{IsPieceAt}
 use Rattle.cs_rebuild.proofs.Rests.{AreLeft}

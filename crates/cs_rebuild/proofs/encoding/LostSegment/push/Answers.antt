@@ -1,4 +1,4 @@
-use Rattle.cs_segment.specs.Growing.{joined}
+use Rattle.cs_segment.specs.SegmentWriter.{joined}
 use Rattle.cs_rebuild.proofs.JoinedColumns.{on_then, fits_column, column_put}
 use Rattle.cs_rebuild.proofs.encoding.LostSegment.push.Goals as goal
 
