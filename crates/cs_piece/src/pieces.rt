@@ -10,12 +10,12 @@ ghost use Rattle.cs_schema.specs.Values.{values, kind_of, value_eq};
 ghost use Rattle.cs_piece.specs.Columns.{CanEncode};
 ghost use Rattle.cs_piece.specs.Pieces.{IsPieceOf, PiecesFit, TellsFit, IsJoined, IsTextOf, IsShortTextOf};
 
-use cs_codec::ColumnEncoding;
 use cs_codec::bitmaps::{Bitmaps, BitmapsPart};
 use cs_codec::differences::{Differences, DifferencesPart};
 use cs_codec::plain::{Plain, PlainPart, encode_at};
 use cs_codec::run_places::write_part;
 use cs_codec::runs::{Runs, RunsPart};
+use cs_codec::{Cell, Column, ColumnEncoding};
 use cs_schema::{Cells, Code, Texts, Word};
 use std::alloc::{AllocError, Global};
 
@@ -82,6 +82,17 @@ impl Piece {
     }
 }
 
+/// Encodes all cells of a column.
+fn encode_all<C: Cell, L: Column<C>, E: ColumnEncoding<C, L>>(
+    alloc: Global,
+    column: &L,
+) -> Result<E::Part, AllocError>
+    requires { E.fits (L.cells column.now) }
+    ensures { IfOk result (λ part. E.is_part part (L.cells column.now)) }
+{
+    E::encode(alloc, column, 0, column.len())
+}
+
 /// Encodes these cells as one piece.
 pub fn encode_piece(alloc: Global, code: Code, cells: &Cells) -> Result<Piece, AllocError>
     requires { CanEncode code (kind_of cells.now) (values cells.now) }
@@ -89,60 +100,25 @@ pub fn encode_piece(alloc: Global, code: Code, cells: &Cells) -> Result<Piece, A
 {
     Ok(match (code, cells) {
         (Code::Runs, Cells::Ints(cells)) => {
-            Piece::IntRuns(<Runs as ColumnEncoding<i64, Vec<i64>>>::encode(
-                alloc,
-                cells,
-                0,
-                cells.len(),
-            )?)
+            Piece::IntRuns(encode_all::<i64, Vec<i64>, Runs>(alloc, cells)?)
         }
         (Code::Runs, Cells::Texts(cells)) => {
-            Piece::TextRuns(<Runs as ColumnEncoding<Word, Texts>>::encode(
-                alloc,
-                cells,
-                0,
-                cells.len(),
-            )?)
+            Piece::TextRuns(encode_all::<Word, Texts, Runs>(alloc, cells)?)
         }
         (Code::Bitmaps, Cells::Ints(cells)) => {
-            Piece::IntBitmaps(<Bitmaps as ColumnEncoding<i64, Vec<i64>>>::encode(
-                alloc,
-                cells,
-                0,
-                cells.len(),
-            )?)
+            Piece::IntBitmaps(encode_all::<i64, Vec<i64>, Bitmaps>(alloc, cells)?)
         }
         (Code::Bitmaps, Cells::Texts(cells)) => {
-            Piece::TextBitmaps(<Bitmaps as ColumnEncoding<Word, Texts>>::encode(
-                alloc,
-                cells,
-                0,
-                cells.len(),
-            )?)
+            Piece::TextBitmaps(encode_all::<Word, Texts, Bitmaps>(alloc, cells)?)
         }
         (Code::Differences, Cells::Ints(cells)) => {
-            Piece::RisingInts(<Differences as ColumnEncoding<i64, Vec<i64>>>::encode(
-                alloc,
-                cells,
-                0,
-                cells.len(),
-            )?)
+            Piece::RisingInts(encode_all::<i64, Vec<i64>, Differences>(alloc, cells)?)
         }
         (Code::Plain, Cells::Ints(cells)) => {
-            Piece::PlainInts(<Plain as ColumnEncoding<i64, Vec<i64>>>::encode(
-                alloc,
-                cells,
-                0,
-                cells.len(),
-            )?)
+            Piece::PlainInts(encode_all::<i64, Vec<i64>, Plain>(alloc, cells)?)
         }
         (Code::Plain, Cells::Texts(cells)) => {
-            Piece::PlainTexts(<Plain as ColumnEncoding<Word, Texts>>::encode(
-                alloc,
-                cells,
-                0,
-                cells.len(),
-            )?)
+            Piece::PlainTexts(encode_all::<Word, Texts, Plain>(alloc, cells)?)
         }
         (Code::Differences, Cells::Texts(_)) => Piece::NoTexts,
     })

@@ -9,7 +9,7 @@ use Rattle.std.proofs.Math.Nat.{lt-div-mul-add}
 use Rattle.cs_codec.specs.RunParts.{part_none, part_text, parts_follow, whole_part}
 use Rattle.cs_codec.specs.Texts.{runs_text}
 use Rattle.cs_rebuild.specs.Encoding.{pieces_of}
-use Rattle.cs_segment.specs.Growing.{joined}
+use Rattle.cs_segment.specs.SegmentWriter.{joined}
 
 module _ (v : List Value) (cut n : ℕ) where
   -- the index at which the k-th piece begins

@@ -18,7 +18,7 @@ use Rattle.cs_piece.specs.declared.pieces.Piece.{Piece}
 use Rattle.cs_piece.specs.Pieces.{IsPieceOf, IsTextOf, IsShortTextOf}
 use Rattle.cs_piece.proofs.ShortTexts.{short_text}
 use Rattle.cs_segment.specs.Bodies.{body_part}
-use Rattle.cs_segment.specs.Growing.{joined}
+use Rattle.cs_segment.specs.SegmentWriter.{joined}
 use Rattle.cs_segment.specs.SegmentFile.{IsBase, base_column, sealed, segment_text}
 use Rattle.cs_segment.proofs.PieceColumns.{text_more, text_whole}
 use Rattle.cs_rebuild.specs.Encoding.{base_at, values_at, Rises}

@@ -12,7 +12,7 @@ use Rattle.cs_codec.specs.RunParts.{part_text}
 use Rattle.cs_piece.specs.declared.pieces.Piece.{Piece}
 use Rattle.cs_piece.specs.Pieces.{IsPieceOf}
 use Rattle.cs_board.specs.Pieces.{AnswersInOrder}
-use Rattle.cs_segment.specs.Growing.{joined}
+use Rattle.cs_segment.specs.SegmentWriter.{joined}
 use Rattle.cs_segment.specs.Parts.{text_before}
 use Rattle.cs_segment.specs.SegmentFile.{Base}
 use Rattle.cs_rebuild.specs.Encoding.{base_at, cut_at, values_at, Rises}

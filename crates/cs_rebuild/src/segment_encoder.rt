@@ -14,7 +14,7 @@ use crate::run::Run;
 use cs_board::{Gate, Round};
 use cs_schema::limits::TEXT_BYTES;
 use cs_schema::{Cells, Code};
-use cs_segment::GrowingFile;
+use cs_segment::SegmentWriter;
 use std::alloc::{AllocError, Global};
 use std::marker::Sync;
 use std::mem::replace;
@@ -105,7 +105,7 @@ impl<'a> SegmentEncoder<'a> {
     fn append<R: Threads + Sync, G: Gate + Sync>(
         &self,
         run: &Run<'_, R, G>,
-        file: &mut GrowingFile,
+        file: &mut SegmentWriter,
         j: usize,
         body: Vec<Vec<u8>>,
     ) -> Result<(), AllocError>
@@ -119,7 +119,7 @@ impl<'a> SegmentEncoder<'a> {
     }
 
     /// Appends the encoded column `j` to those that wait for `finish`, without reading it.
-    fn queue(&self, file: &mut GrowingFile, j: usize, body: Vec<Vec<u8>>) -> Result<(), AllocError>
+    fn queue(&self, file: &mut SegmentWriter, j: usize, body: Vec<Vec<u8>>) -> Result<(), AllocError>
         requires column { HasColumn self.now j }
         requires body { IsBody self.now j body }
         ensures { OnOk result (Appends self.now j file.old file.new) }
@@ -133,7 +133,7 @@ impl<'a> SegmentEncoder<'a> {
     fn append_beside<R: Threads + Sync, G: Gate + Sync>(
         &self,
         run: &Run<'_, R, G>,
-        file: &mut GrowingFile,
+        file: &mut SegmentWriter,
         next: usize,
         body: Vec<Vec<u8>>,
     ) -> (Result<(), AllocError>, Result<Vec<Vec<u8>>, AllocError>)
@@ -162,7 +162,7 @@ impl<'a> SegmentEncoder<'a> {
     fn append_columns<R: Threads + Sync, G: Gate + Sync>(
         &self,
         run: &Run<'_, R, G>,
-        file: &mut GrowingFile,
+        file: &mut SegmentWriter,
     ) -> Result<(), AllocError>
         requires { HoldsFirst self.now 0 file.old }
         ensures { OnOk result (HoldsFirst self.now (column_count self.now) file.new) }
@@ -188,7 +188,7 @@ impl<'a> SegmentEncoder<'a> {
         let tasks = (catalog.width(self.p) as u32).wrapping_mul(self.chunks);
         run.gate.opened(Round::Columns, tasks);
         let rows = self.numbers.len() as u32;
-        let mut file = GrowingFile::begin(self.alloc, catalog, self.p, self.s, rows)?;
+        let mut file = SegmentWriter::begin(self.alloc, catalog, self.p, self.s, rows)?;
         // otherwise the content is copied each time the file grows
         file.reserve(self.size())?;
         self.append_columns(run, &mut file)?;

@@ -15,7 +15,7 @@ use Rattle.cs_piece.proofs.ShortTexts.{column_texts_are_short}
 use Rattle.cs_segment.specs.Bytes.{be32}
 use Rattle.cs_segment.specs.SegmentFile.{code_number, kind_number}
 use Rattle.cs_segment.specs.Parts.{parts_text, AllFrom, IsColumnAt, AreParts}
-use Rattle.cs_segment.specs.Bodies.{body_part, BeginsWithBody, bodies_text, AreShort, AreBodies, IsColumnIn, AreColumnsIn, AreFirstIn, NoColumnIn}
+use Rattle.cs_segment.specs.Bodies.{body_part, BeginsWithBody, bodies_text, AreShort, AreBodies, IsColumnIn, AreFirstIn, NoColumnIn}
 use Rattle.cs_segment.proofs.Numbers.{same_fronts, be32_begins}
 
 abbrev head : Code → Kind → List ℕ
@@ -171,13 +171,13 @@ columns_from C p rows a (b ∷ bodies) (c ∷ columns) l each =
       kinds = ap (λ (k : Kind). k ∷ map kind_of columns) h.kind_is ∙ ap (λ (ks : List Kind). kind_at C p a ∷ ks) rest.kinds;
     }
 
-module _ (C : CatalogData) (p rows : ℕ) (bodies : List (List ℕ)) (columns : List Cells) (h : AreColumnsIn C p rows bodies columns) where
+module _ (C : CatalogData) (p rows : ℕ) (bodies : List (List ℕ)) (columns : List Cells) (h : AreFirstIn C p rows bodies (length bodies) columns) where
   all : Columns C p rows 0 bodies columns
-  all = columns_from C p rows 0 bodies columns h.width (λ k d l. let Q : ℕ → Type 0 = λ n. IsColumnIn C p rows n (get_or bodies k []) (get_or columns k d) in let e : k ≡ 0 + k = omega arith in subst Q e (h.each k d l))
+  all = columns_from C p rows 0 bodies columns h.count_is (λ k d l. let Q : ℕ → Type 0 = λ n. IsColumnIn C p rows n (get_or bodies k []) (get_or columns k d) in let e : k ≡ 0 + k = omega arith in subst Q e (h.each k d l))
 
   -- the columns that the bodies encode have the bytes as their parts
   pub parts_of_bodies : (bytes : List ℕ) → AreBodies C p bytes bodies → AreParts C p bytes rows (map values columns)
-  parts_of_bodies bytes b = record { text = b.text ∙ all.text; width = length-values ∙ h.width ∙ b.width; columns_are = all.columns_are }
+  parts_of_bodies bytes b = record { text = b.text ∙ all.text; width = length-values ∙ h.count_is ∙ b.width; columns_are = all.columns_are }
     where
       length-values : length (map values columns) ≡ length columns
       length-values = lengths columns
@@ -189,8 +189,7 @@ module _ (C : CatalogData) (p rows : ℕ) (bodies : List (List ℕ)) (columns : 
   pub kinds_of_bodies : (bytes : List ℕ) → AreBodies C p bytes bodies → map kind_of columns ≡ map (kind_at C p) (range_with_len 0 (length (projection C p).columns))
   kinds_of_bodies bytes b = all.kinds ∙ ap (λ n. map (kind_at C p) (range_with_len 0 n)) b.width
 
--- one more column has been read
-pub one_more_column : (C : CatalogData) (p rows : ℕ) (bodies : List (List ℕ)) (columns : List Cells) (cells : Cells) (j : ℕ) → length columns ≡ j → ((k : ℕ) (d : Cells) → k < j → IsColumnIn C p rows k (get_or bodies k []) (get_or columns k d)) → IsColumnIn C p rows j (get_or bodies j []) cells
+one_more_column : (C : CatalogData) (p rows : ℕ) (bodies : List (List ℕ)) (columns : List Cells) (cells : Cells) (j : ℕ) → length columns ≡ j → ((k : ℕ) (d : Cells) → k < j → IsColumnIn C p rows k (get_or bodies k []) (get_or columns k d)) → IsColumnIn C p rows j (get_or bodies j []) cells
     → (k : ℕ) (d : Cells) → k < j + 1 → IsColumnIn C p rows k (get_or bodies k []) (get_or (columns ++ cells ∷ []) k d)
 one_more_column C p rows bodies columns cells j count each new k d l = go (eqb_tells k j)
   where
@@ -205,12 +204,10 @@ one_more_column C p rows bodies columns cells j count each new k d l = go (eqb_t
 pub none_read : (C : CatalogData) (p rows : ℕ) (bodies : List (List ℕ)) → AreFirstIn C p rows bodies 0 []
 none_read C p rows bodies = record { count_is = refl; each = λ j d l. absurd (omega arith) }
 
+-- one more column has been decoded
 pub one_more_read : (C : CatalogData) (p rows : ℕ) (bodies : List (List ℕ)) (columns more : List Cells) (cells : Cells) (j count : ℕ) → AreFirstIn C p rows bodies j columns → IsColumnIn C p rows j (get_or bodies j []) cells → j + 1 ≡ count → more ≡ columns ++ cells ∷ [] → AreFirstIn C p rows bodies count more
 one_more_read C p rows bodies columns more cells j count h new e same =
     subst (AreFirstIn C p rows bodies count) (sym same) (subst (λ n. AreFirstIn C p rows bodies n (columns ++ cells ∷ [])) e (record {
       count_is = length_push columns cells ∙ ap (λ n. n + 1) h.count_is;
       each = one_more_column C p rows bodies columns cells j h.count_is h.each new;
     }))
-
-pub all_read : (C : CatalogData) (p rows : ℕ) (bodies : List (List ℕ)) (count : ℕ) (columns : List Cells) → count ≡ length bodies → AreFirstIn C p rows bodies count columns → AreColumnsIn C p rows bodies columns
-all_read C p rows bodies count columns e h = record { width = h.count_is ∙ e; each = λ j d l. h.each j d (omega arith) }

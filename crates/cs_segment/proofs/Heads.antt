@@ -1,5 +1,5 @@
 -- The header of a segment's file.
-use Rattle.std.proofs.Common.{◌≡◌, ℕ, ◌+◌, ◌^◌, ◌<◌, ◌≤◌, List, [], ◌++◌, map, length, refl, sym, ap, subst, ◌∙◌, arith}
+use Rattle.std.proofs.Common.{◌≡◌, ℕ, ◌+◌, ◌^◌, ◌<◌, ◌≤◌, List, [], ◌++◌, length, refl, sym, ap, subst, ◌∙◌, arith}
 use Rattle.std.specs.Prelude.{codes}
 use Rattle.std.proofs.lemmas.List.{append_cancel_left}
 use Rattle.cs_schema.specs.CatalogData.{CatalogData, projection}
@@ -8,10 +8,9 @@ use Rattle.cs_segment.specs.SegmentFile.{sealed, Base, IsBase, IsSegmentFile, ba
 use Rattle.cs_segment.specs.Parts.{BeginsWithHead, head_text, parts_text, IsColumnAt, AreParts}
 use Rattle.cs_segment.proofs.Numbers.{be16_begins, be32_begins}
 use Rattle.cs_segment.proofs.Sealing.{sealed_once}
-use Rattle.cs_schema.specs.declared.cells.Cells.{Cells}
-use Rattle.cs_schema.specs.Values.{values}
-use Rattle.cs_segment.specs.Bodies.{AreBodies, AreColumnsIn, NoColumnIn, HoldsBodies, HoldsColumns, HoldsNone}
-use Rattle.cs_segment.proofs.BodyLists.{bodies_of_parts, column_refused, parts_of_bodies, kinds_of_bodies}
+use Rattle.cs_segment.specs.Bodies.{AreBodies}
+use Rattle.cs_segment.specs.SegmentData.{IsNoSegment}
+use Rattle.cs_segment.proofs.BodyLists.{bodies_of_parts}
 use Rattle.cs_segment.proofs.PartLists.{parts_of, all-at, all-made}
 
 pub named_is : (p s width : ℕ) (bytes named : List ℕ) (rows : ℕ) (rest : List ℕ) → bytes ≡ codes "CSSEG001" ++ named → BeginsWithHead p s width bytes rows rest → named ≡ be16 p ++ (be16 s ++ (be32 rows ++ (be16 width ++ rest)))
@@ -103,46 +102,8 @@ file_found C p s width bytes body parts b e w h a = record {
 -- ---- a file without its digest
 
 module _ (C : CatalogData) (p s width : ℕ) (front : List ℕ) (narrow : width ≤ 32) (is : width ≡ length (projection C p).columns) where
-  -- two readings find the same header
-  same_head : (m n : ℕ) (x y : List ℕ) → BeginsWithHead p s width front m x → BeginsWithHead p s (length (projection C p).columns) front n y → (m ≡ n) × (x ≡ y)
-  same_head m n x y h k = one_head p s width front m n x y narrow h (let Q : ℕ → Type 0 = λ w. BeginsWithHead p s w front n y in subst Q (sym is) k)
+  pub no_head : ((rows : ℕ) (rest : List ℕ) → BeginsWithHead p s width front rows rest → ⊥) → IsNoSegment C p s (sealed front)
+  no_head none b file = none b.rows (parts_text C p 0 b.columns) (file_head C p s width (sealed front) front b refl is file)
 
-  pub no_head : ((rows : ℕ) (rest : List ℕ) → BeginsWithHead p s width front rows rest → ⊥) → HoldsNone C p s front
-  no_head none rows parts columns h a = none rows parts (let Q : ℕ → Type 0 = λ w. BeginsWithHead p s w front rows parts in subst Q (sym is) h)
-
-  pub no_bodies : (rows : ℕ) (parts : List ℕ) → BeginsWithHead p s width front rows parts → ((bodies : List (List ℕ)) → AreBodies C p parts bodies → ⊥) → HoldsNone C p s front
-  no_bodies rows parts h none n rest columns k a =
-      let same = same_head rows n parts rest h k in
-      let Q : List ℕ → Type 0 = λ x. AreParts C p x n columns in
-      let there = bodies_of_parts C p n parts columns (subst Q (sym same.1) a) in
-      none _ there
-
-  pub bodies_held : (rows : ℕ) (parts : List ℕ) (bodies : List (List ℕ)) → BeginsWithHead p s width front rows parts → AreBodies C p parts bodies → HoldsBodies C p s front rows bodies
-  bodies_held rows parts bodies h b = record { parts = parts; head = (let Q : ℕ → Type 0 = λ w. BeginsWithHead p s w front rows parts in subst Q is h); bodies_are = b; narrow = omega (arith, is, narrow) }
-
-module _ (C : CatalogData) (p s : ℕ) (front : List ℕ) (rows : ℕ) (bodies : List (List ℕ)) (held : HoldsBodies C p s front rows bodies) where
-  pub no_column : NoColumnIn C p rows bodies → HoldsNone C p s front
-  no_column none n rest columns k a =
-      let same = same_head C p s (length (projection C p).columns) front held.narrow refl rows n held.parts rest held.head k in
-      let Q : List ℕ → Type 0 = λ x. AreParts C p x rows columns in
-      let R : ℕ → Type 0 = λ m. AreParts C p rest m columns in
-      column_refused C p rows held.parts bodies columns held.bodies_are (subst Q (sym same.1) (subst R (sym same.0) a)) none
-
-  pub columns_held : (columns : List Cells) → AreColumnsIn C p rows bodies columns → HoldsColumns C p s front rows columns
-  columns_held columns h = record {
-    parts = held.parts;
-    head = held.head;
-    parts_are = parts_of_bodies C p rows bodies columns h held.parts held.bodies_are;
-    kinds = kinds_of_bodies C p rows bodies columns h held.parts held.bodies_are;
-  }
-
-pub no_file : (C : CatalogData) (p s : ℕ) (bytes front : List ℕ) (b : Base) → bytes ≡ sealed front → HoldsNone C p s front → IsSegmentFile C p s bytes b → ⊥
-no_file C p s bytes front b e none file =
-    none b.rows (parts_text C p 0 b.columns) b.columns (file_head C p s (length (projection C p).columns) bytes front b e refl file) (parts_of_base C p b file.base)
-
-module _ (C : CatalogData) (p s : ℕ) (bytes front : List ℕ) (rows : ℕ) (columns : List Cells) (e : bytes ≡ sealed front) (held : HoldsColumns C p s front rows columns) where
-  abbrev base : Base
-  base = record { rows = rows; columns = map values columns }
-
-  pub file_of_columns : IsSegmentFile C p s bytes base
-  file_of_columns = file_found C p s (length (projection C p).columns) bytes front held.parts base e refl held.head held.parts_are
+  pub no_bodies : (rows : ℕ) (parts : List ℕ) → BeginsWithHead p s width front rows parts → ((bodies : List (List ℕ)) → AreBodies C p parts bodies → ⊥) → IsNoSegment C p s (sealed front)
+  no_bodies rows parts h none b file = none _ (bodies_of_parts C p rows parts b.columns (file_parts C p s width (sealed front) front parts rows b narrow refl is h file))

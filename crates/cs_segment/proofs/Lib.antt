@@ -7,3 +7,4 @@ pub mod Heads
 pub mod OneText
 pub mod PieceColumns
 pub mod SegmentColumns
+pub mod ReaderLemmas

@@ -1,19 +1,13 @@
 -- The bodies of a segment's columns in its file, and reading them.
-use Rattle.std.specs.Prelude.{◌≡◌, ℕ, ◌+◌, ◌-◌, ◌^◌, ◌<◌, ◌≤◌, List, [], ◌∷◌, ◌++◌, map, length, slice_index_or, take, Vec, Bool, false, IsTrue, Result, Err, IfOk}
+use Rattle.std.specs.Prelude.{◌≡◌, ℕ, ◌+◌, ◌-◌, ◌^◌, ◌<◌, List, [], ◌∷◌, ◌++◌, length, slice_index_or, take, Bool, false, IsTrue}
 use Rattle.cs_schema.specs.declared.cells.Cells.{Cells}
 use Rattle.cs_schema.specs.declared.kinds.Kind.{Kind}
 use Rattle.cs_schema.specs.declared.kinds.Code.{Code}
 use Rattle.cs_schema.specs.CatalogData.{CatalogData, projection, code_at, kind_at}
-use Rattle.cs_schema.specs.CatalogRules.{IsCatalog}
 use Rattle.cs_schema.specs.Values.{values, kind_of}
 use Rattle.cs_piece.specs.Columns.{IsColumnOf, NoColumn}
 use Rattle.cs_segment.specs.Bytes.{be32}
-use Rattle.std.specs.Global.{Global}
-use Rattle.cs_segment.specs.declared.fault.FileFault.{FileFault}
-use Rattle.cs_schema.specs.declared.cells.Value.{Value}
 use Rattle.cs_segment.specs.SegmentFile.{code_number, kind_number, sealed}
-use Rattle.cs_segment.specs.SegmentData.{kinds_at}
-use Rattle.cs_segment.specs.Parts.{BeginsWithHead, AreParts}
 
 -- a column's header: its code, its kind, and the number of bytes of its body
 abbrev pub part_front : Code → Kind → ℕ → List ℕ
@@ -48,16 +42,6 @@ pub record IsColumnIn (C : CatalogData) (p rows j : ℕ) (body : List ℕ) (cell
   pub kind_is : kind_of cells ≡ kind_at C p j
   pub column_is : IsColumnOf (code_at C p j) (kind_at C p j) body rows (values cells)
 
--- the columns are those of these bodies
-pub record AreColumnsIn (C : CatalogData) (p rows : ℕ) (bodies : List (List ℕ)) (columns : List Cells) : Type 0 where
-  pub width : length columns ≡ length bodies
-  pub each : (j : ℕ) (d : Cells) → j < length bodies → IsColumnIn C p rows j (slice_index_or bodies j []) (slice_index_or columns j d)
-
--- what reading the j-th body gives
-pub record IsReadAt (C : CatalogData) (p rows : ℕ) (bodies : List (List ℕ)) (j : ℕ) (result : Result Cells FileFault) : Type 0 where
-  pub found : IfOk result (IsColumnIn C p rows j (slice_index_or bodies j []))
-  pub refused : result ≡ Err FileFault.Damaged → NoColumn (code_at C p j) (kind_at C p j) (slice_index_or bodies j []) rows
-
 -- the columns are those of the first `count` bodies
 pub record AreFirstIn (C : CatalogData) (p rows : ℕ) (bodies : List (List ℕ)) (count : ℕ) (columns : List Cells) : Type 0 where
   pub count_is : length columns ≡ count
@@ -68,35 +52,6 @@ pub record NoColumnIn (C : CatalogData) (p rows : ℕ) (bodies : List (List ℕ)
   pub j : ℕ
   pub within : j < length bodies
   pub none : NoColumn (code_at C p j) (kind_at C p j) (slice_index_or bodies j []) rows
-
--- `front`, a file without its digest, is the header of this many rows and the parts of columns with these bodies
-pub record HoldsBodies (C : CatalogData) (p s : ℕ) (front : List ℕ) (rows : ℕ) (bodies : List (List ℕ)) : Type 0 where
-  pub parts : List ℕ
-  pub head : BeginsWithHead p s (length (projection C p).columns) front rows parts
-  pub bodies_are : AreBodies C p parts bodies
-  pub narrow : length (projection C p).columns ≤ 32
-
--- `front` is the header of this many rows and the parts of these columns
-pub record HoldsColumns (C : CatalogData) (p s : ℕ) (front : List ℕ) (rows : ℕ) (columns : List Cells) : Type 0 where
-  pub parts : List ℕ
-  pub head : BeginsWithHead p s (length (projection C p).columns) front rows parts
-  pub parts_are : AreParts C p parts rows (map values columns)
-  pub kinds : map kind_of columns ≡ kinds_at C p
-
--- no columns give `front`: it is not a header followed by the parts of a projection's columns
-abbrev pub HoldsNone : CatalogData → ℕ → ℕ → List ℕ → Type 0
-HoldsNone C p s front = (rows : ℕ) (parts : List ℕ) (columns : List (List Value)) → BeginsWithHead p s (length (projection C p).columns) front rows parts → AreParts C p parts rows columns → ⊥
-
--- what reading the first `count` bodies gives
-pub record AreFirstRead (C : CatalogData) (p rows : ℕ) (bodies : List (List ℕ)) (count : ℕ) (result : Result (Vec Cells Global) FileFault) : Type 0 where
-  pub found : IfOk result (λ columns. AreFirstIn C p rows bodies count columns.items)
-  pub refused : result ≡ Err FileFault.Damaged → NoColumnIn C p rows bodies
-
--- what reading a file without its digest gives
-pub record AreReadOf (C : CatalogData) (p s : ℕ) (front : List ℕ) (result : Result (ℕ × Vec Cells Global) FileFault) : Type 0 where
-  pub found : IfOk result (λ r. HoldsColumns C p s front r.0 r.1.items)
-  pub refused : result ≡ Err FileFault.Damaged → HoldsNone C p s front
-  pub rules : IsCatalog C
 
 -- whether the bytes end with the digest of the bytes before it
 pub record IsSealed (bytes : List ℕ) (result : Bool) : Type 0 where

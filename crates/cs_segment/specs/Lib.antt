@@ -4,6 +4,7 @@ pub mod SegmentData
 pub mod SegmentView
 pub mod Parts
 pub mod Bodies
+pub mod SegmentReader
 pub mod SegmentPieces
-pub mod Growing
+pub mod SegmentWriter
 pub mod Laws

@@ -1,8 +1,9 @@
 -- A segment as plain data.
-use Rattle.std.specs.Prelude.{◌≡◌, ℕ, List, map, length}
+use Rattle.std.specs.Prelude.{◌≡◌, ℕ, List, map, length, Result, Err, IfOk}
 use Rattle.cs_schema.specs.declared.kinds.Kind.{Kind}
 use Rattle.cs_schema.specs.CatalogData.{CatalogData, projection}
 use Rattle.cs_schema.specs.Lists.{numbers_below}
+use Rattle.cs_segment.specs.declared.fault.FileFault.{FileFault}
 use Rattle.cs_segment.specs.SegmentFile.{Base, IsSegmentFile}
 use Rattle.cs_schema.specs.CatalogData.{kind_at}
 
@@ -22,3 +23,13 @@ pub record IsSegmentOf (C : CatalogData) (p s : ℕ) (bytes : List ℕ) (segment
   pub s_is : segment.s ≡ s
   pub kinds_are : segment.kinds ≡ kinds_at C p
   pub file : IsSegmentFile C p s bytes segment.base
+
+-- the bytes are the file of no base of this segment
+abbrev pub IsNoSegment : CatalogData → ℕ → ℕ → List ℕ → Type 0
+IsNoSegment C p s bytes = (b : Base) → IsSegmentFile C p s bytes b → ⊥
+
+-- the result of reading bytes as the file of this segment
+pub record ReadsSegment (C : CatalogData) (p s : ℕ) (bytes : List ℕ) (result : Result SegmentData FileFault) : Type 0 where
+  pub found : IfOk result (IsSegmentOf C p s bytes)
+  pub refused : result ≡ Err FileFault.Damaged → IsNoSegment C p s bytes
+  pub only : IfOk result (λ segment. (b : Base) → IsSegmentFile C p s bytes b → b ≡ segment.base)

@@ -19,18 +19,14 @@ fn body_of(code: Code, kind: Kind, bytes: &[u8]) -> Option<(&[u8], &[u8])>
     ensures none { IfNone result ((body rest : List ℕ) → BeginsWithBody code kind bytes.now body rest → ⊥) }
 {
     let head = [code_number(code), kind_number(kind)];
-    let Some(counted) = after(bytes, &head) else {
-        return None;
-    };
-    let Some((len, text)) = number(counted) else {
-        return None;
-    };
-    parts(text, len as usize)
+    let counted = after(bytes, &head)?;
+    let (length, rest) = number(counted)?;
+    parts(rest, length as usize)
 }
 
 /// Finds the bodies of a projection's columns. The bytes have to be the columns one after the other, each with its
 /// header, and nothing else; `Damaged` if they are not.
-pub fn find_bodies<'a>(
+pub(crate) fn find_bodies<'a>(
     alloc: Global,
     catalog: &Catalog,
     p: u16,

@@ -15,10 +15,7 @@ pub fn number(bytes: &[u8]) -> Option<(u32, &[u8])>
     ensures found { IfSome result (λ r. (bytes.now ≡ be32 r.0 ++ r.1.now) × (r.0 < 2 ^ 32)) }
     ensures none { IfNone result (length bytes.now < 4) }
 {
-    if bytes.len() < 4 {
-        return None;
-    }
-    let (front, rest) = bytes.split_at(4);
+    let (front, rest) = parts(bytes, 4)?;
     Some((
         u32::from_be_bytes([front[0], front[1], front[2], front[3]]),
         rest,
@@ -41,9 +38,6 @@ pub fn short(bytes: &[u8]) -> Option<(u16, &[u8])>
     ensures found { IfSome result (λ r. (bytes.now ≡ be16 r.0 ++ r.1.now) × (r.0 < 2 ^ 16)) }
     ensures none { IfNone result (length bytes.now < 2) }
 {
-    if bytes.len() < 2 {
-        return None;
-    }
-    let (front, rest) = bytes.split_at(2);
+    let (front, rest) = parts(bytes, 2)?;
     Some((u16::from_be_bytes([front[0], front[1]]), rest))
 }

@@ -6,19 +6,19 @@
 
 pub mod bodies;
 pub mod bytes;
-mod digested;
 pub mod fault;
 pub mod format;
-pub mod growing;
+mod hashing_buffer;
 pub mod laws;
-pub mod parallel;
+pub mod parallel_read;
 mod reader;
 pub mod seal;
 pub mod segment;
+pub mod segment_writer;
 pub mod writing;
 
 pub use fault::FileFault;
-pub use growing::GrowingFile;
-pub use parallel::{par_read_segment, par_read_text};
+pub use parallel_read::{par_read_segment, par_read_text};
 pub use segment::{Segment, read_segment, read_text};
+pub use segment_writer::SegmentWriter;
 pub use writing::write_segment;

@@ -45,20 +45,13 @@ pub fn is_sealed(bytes: &[u8]) -> bool
     unseal(bytes).is_some()
 }
 
-/// The bytes of a file before the last 32, which should be the digest. Of a shorter file, none.
-fn text_of(bytes: &[u8]) -> &[u8]
-    ensures { result.now ≡ take (length bytes.now - 32) bytes.now }
-{
-    &bytes[..bytes.len().saturating_sub(DIGEST)]
-}
-
-/// The bytes of each file before the last 32.
+/// The bytes of each file before the last 32, which should be the digest. Of a shorter file, none.
 fn texts_of<'a>(alloc: Global, files: &[&'a [u8]]) -> Result<Vec<&'a [u8]>, AllocError>
     ensures { IfOk result (λ texts. map (λ t. t.now) texts.items ≡ map (λ f. take (length f.now - 32) f.now) files.now) }
 {
     let mut texts = Vec::with_capacity(alloc, files.len())?;
     for file in files {
-        texts.push(text_of(file))?;
+        texts.push(&file[..file.len().saturating_sub(DIGEST)])?;
     }
     Ok(texts)
 }

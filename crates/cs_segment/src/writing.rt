@@ -7,7 +7,7 @@ ghost use Rattle.cs_segment.specs.SegmentFile.{Base, segment_text};
 ghost use Rattle.cs_segment.specs.Parts.{part_text};
 ghost use Rattle.cs_segment.specs.SegmentPieces.{ArePiecesOf, AreOfSomeBase};
 
-use crate::growing::GrowingFile;
+use crate::segment_writer::SegmentWriter;
 use cs_piece::{Piece, write_piece};
 use cs_schema::{Catalog, Code, Kind};
 use std::alloc::{AllocError, Global};
@@ -15,7 +15,7 @@ use std::alloc::{AllocError, Global};
 /// Appends a column that is given as a piece.
 fn write_part(
     alloc: Global,
-    file: &mut GrowingFile,
+    file: &mut SegmentWriter,
     code: Code,
     kind: Kind,
     piece: &Piece,
@@ -24,8 +24,9 @@ fn write_part(
     ensures { OnOk result ((v : List Value) → IsPieceOf piece.now code kind v → FitsColumn code kind v
         → file.new ≡ file.old ++ part_text code kind v) }
 {
-    let text = write_piece(alloc, piece)?;
-    file.push(code, kind, &text)
+    let mut body = Vec::new(alloc);
+    body.push(write_piece(alloc, piece)?)?;
+    file.put_pieces(code, kind, body)
 }
 
 /// The file of segment `s` of projection `p`, which has `rows` rows. The pieces are its columns in the projection's
@@ -42,7 +43,7 @@ pub fn write_segment(
     requires pieces { AreOfSomeBase catalog.now p rows pieces.now }
     ensures { IfOk result (λ out. (b : Base) → ArePiecesOf catalog.now p rows pieces.now b → out.items ≡ segment_text catalog.now p s b) }
 {
-    let mut file = GrowingFile::begin(alloc, catalog, p, s, rows)?;
+    let mut file = SegmentWriter::begin(alloc, catalog, p, s, rows)?;
     for (j, piece) in pieces.iter().enumerate() {
         let code = catalog.code(p, j);
         let kind = catalog.column_kind(p, j);

@@ -1,10 +1,10 @@
 //! A file that grows column by column.
 ghost use Rattle.std.specs.Prelude.{◌<◌, ◌≤◌, length, IfOk};
-ghost use Rattle.cs_segment.specs.Growing.{joined};
+ghost use Rattle.cs_segment.specs.SegmentWriter.{joined};
 
 use super::{PLAIN, two_orders};
 use cs_schema::{Catalog, Code, Kind};
-use cs_segment::GrowingFile;
+use cs_segment::SegmentWriter;
 use std::alloc::{AllocError, AllocGlobal, Global};
 use std::thread::Threads;
 use test_support::files::sealed;
@@ -28,7 +28,7 @@ fn piece_of(alloc: Global, text: &[u8; 32]) -> Result<Vec<Vec<u8>>, AllocError>
 /// Puts a column of plain ints into a file, deferred or not.
 fn put(
     rt: &(impl Threads + Sync + AllocGlobal),
-    file: &mut GrowingFile,
+    file: &mut SegmentWriter,
     text: &[u8; 32],
     waits: bool,
 ) -> Result<(), AllocError> {
@@ -47,7 +47,7 @@ fn grown(
 ) -> Result<Vec<u8>, AllocError>
     requires { 0 < length catalog.now.projections }
 {
-    let mut file = GrowingFile::begin(rt.alloc(), catalog, 0, 0, 4)?;
+    let mut file = SegmentWriter::begin(rt.alloc(), catalog, 0, 0, 4)?;
     put(rt, &mut file, FIRST, waits[0])?;
     put(rt, &mut file, SECOND, waits[1])?;
     file.finish()

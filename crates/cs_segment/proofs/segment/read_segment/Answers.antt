@@ -1,25 +1,8 @@
-use Rattle.std.proofs.Common.{map, refl}
-use Rattle.std.proofs.lemmas.Result.{err_from_is_err_and}
-use Rattle.cs_schema.specs.Values.{values}
-use Rattle.cs_segment.proofs.Heads.{no_file, file_of_columns}
-use Rattle.cs_segment.proofs.OneText.{one_segment}
+use Rattle.std.proofs.Common.{List, ℕ, sym, subst}
+use Rattle.cs_segment.specs.SegmentData.{ReadsSegment}
 use Rattle.cs_segment.proofs.segment.read_segment.Goals as goal
 
-pub returns-in_err-rows-clause-refused : goal.returns-in_err-rows-clause-refused
-returns-in_err-rows-clause-refused c = λ damaged b file.
-    let q = err_from_is_err_and c.from_residual.result c.from_residual.ensures.1 in
-    no_file c.args.catalog.now c.args.p c.args.s c.args.bytes.now c.in-Some.front.now b c.in-Some.ensures.found (c.in_err-rows.ensures.refused (let r1 = q.1 in let r2 = q.2 in cc)) file
-
-pub returns-clause-found : goal.returns-clause-found
-returns-clause-found c = record {
-  p_is = refl;
-  s_is = refl;
-  kinds_are = c.in_ok-rows.ensures.found.kinds;
-  file = file_of_columns c.args.catalog.now c.args.p c.args.s c.args.bytes.now c.in-Some.front.now c.in_ok-rows.rows c.in_ok-rows.columns.items c.in-Some.ensures.found c.in_ok-rows.ensures.found;
-}
-
-pub returns-clause-only : goal.returns-clause-only
-returns-clause-only c = λ b file.
-    one_segment c.args.catalog.now c.read_columns.ensures.rules c.args.p c.args.s c.requires c.args.bytes.now b
-    (record { rows = c.in_ok-rows.rows; columns = map values c.in_ok-rows.columns.items }) file
-    (file_of_columns c.args.catalog.now c.args.p c.args.s c.args.bytes.now c.in-Some.front.now c.in_ok-rows.rows c.in_ok-rows.columns.items c.in-Some.ensures.found c.in_ok-rows.ensures.found)
+pub returns-in-Some : goal.returns-in-Some
+returns-in-Some c =
+    let Q : List ℕ → Type 0 = λ b. ReadsSegment c.args.catalog.now c.args.p c.args.s b c.read_text.result in
+    subst Q (sym c.in-Some.ensures.found) c.read_text.ensures

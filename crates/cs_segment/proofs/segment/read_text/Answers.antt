@@ -1,26 +1,14 @@
-use Rattle.std.proofs.Common.{map, refl}
+use Rattle.std.proofs.Common.{arith}
 use Rattle.std.proofs.lemmas.Result.{err_from_is_err_and}
-use Rattle.cs_schema.specs.Values.{values}
-use Rattle.cs_segment.specs.SegmentFile.{sealed}
-use Rattle.cs_segment.proofs.Heads.{no_file, file_of_columns}
-use Rattle.cs_segment.proofs.OneText.{one_segment}
+use Rattle.cs_segment.proofs.ReaderLemmas.{no_column, segment_read}
 use Rattle.cs_segment.proofs.segment.read_text.Goals as goal
 
-pub returns-in_err-rows-clause-refused : goal.returns-in_err-rows-clause-refused
-returns-in_err-rows-clause-refused c = λ damaged b file.
-    let q = err_from_is_err_and c.from_residual.result c.from_residual.ensures.1 in
-    no_file c.args.catalog.now c.args.p c.args.s (sealed c.args.text.now) c.args.text.now b refl (c.in_err-rows.ensures.refused (let r1 = q.1 in let r2 = q.2 in cc)) file
+pub returns-in_err-columns : goal.returns-in_err-columns
+returns-in_err-columns c =
+    let q = err_from_is_err_and c.from_residual-in_err-columns.result c.from_residual-in_err-columns.ensures.1 in
+    let none = no_column c.args.catalog.now c.args.p c.args.s c.args.text.now c.in_ok-reader.reader c.in_ok-reader.ensures.found c.requires in
+    rw q.1 (record { found = tt; refused = λ damaged. none (c.in_err-columns.ensures.refused (let r2 = q.2 in cc)); only = tt })
 
-pub returns-clause-found : goal.returns-clause-found
-returns-clause-found c = record {
-  p_is = refl;
-  s_is = refl;
-  kinds_are = c.in_ok-rows.ensures.found.kinds;
-  file = file_of_columns c.args.catalog.now c.args.p c.args.s (sealed c.args.text.now) c.args.text.now c.in_ok-rows.rows c.in_ok-rows.columns.items refl c.in_ok-rows.ensures.found;
-}
-
-pub returns-clause-only : goal.returns-clause-only
-returns-clause-only c = λ b file.
-    one_segment c.args.catalog.now c.read_columns.ensures.rules c.args.p c.args.s c.requires (sealed c.args.text.now) b
-    (record { rows = c.in_ok-rows.rows; columns = map values c.in_ok-rows.columns.items }) file
-    (file_of_columns c.args.catalog.now c.args.p c.args.s (sealed c.args.text.now) c.args.text.now c.in_ok-rows.rows c.in_ok-rows.columns.items refl c.in_ok-rows.ensures.found)
+pub returns : goal.returns
+returns c =
+    segment_read c.args.catalog.now c.args.p c.args.s c.args.text.now c.in_ok-reader.reader c.in_ok-reader.ensures.found c.requires c.in_ok-columns.columns.items c.len.result (omega arith) c.in_ok-columns.ensures.found

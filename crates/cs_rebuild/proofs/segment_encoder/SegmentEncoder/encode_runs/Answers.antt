@@ -8,7 +8,7 @@ use Rattle.cs_schema.specs.declared.kinds.Code.{Code}
 use Rattle.cs_codec.specs.ColumnText.{cell_bytes}
 use Rattle.cs_codec.specs.RunParts.{part_text}
 use Rattle.cs_order.specs.Orders.{row_at}
-use Rattle.cs_segment.specs.Growing.{joined}
+use Rattle.cs_segment.specs.SegmentWriter.{joined}
 use Rattle.cs_rebuild.specs.Encoding.{pieces_of}
 use Rattle.cs_rebuild.specs.SegmentEncoder.{code_in, kind_in, values_in}
 use Rattle.cs_rebuild.proofs.RunTexts.{AreParts, parts_whole}

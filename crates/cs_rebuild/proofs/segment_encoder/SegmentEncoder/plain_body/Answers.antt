@@ -4,7 +4,7 @@ use Rattle.cs_schema.specs.declared.kinds.Code.{Code}
 use Rattle.cs_codec.specs.ColumnText.{column_text}
 use Rattle.cs_piece.specs.Pieces.{IsPieceOf}
 use Rattle.cs_board.specs.Pieces.{AnswersInOrder}
-use Rattle.cs_segment.specs.Growing.{joined}
+use Rattle.cs_segment.specs.SegmentWriter.{joined}
 use Rattle.cs_rebuild.specs.Encoding.{cut_at}
 use Rattle.cs_rebuild.specs.SegmentEncoder.{IsChunk, code_in, kind_in, values_in}
 use Rattle.cs_rebuild.proofs.Encodings.{all_cuts, none_of, one_more}

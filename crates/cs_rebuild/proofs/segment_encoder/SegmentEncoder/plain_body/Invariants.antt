@@ -2,7 +2,7 @@ use Rattle.std.proofs.Common.{◌≡◌, ◌+◌, ◌*◌, length, take}
 use Rattle.std.specs.Vec.Iter.{into_iter_items, into_iter_len}
 use Rattle.cs_schema.specs.declared.kinds.Code.{Code}
 use Rattle.cs_codec.specs.ColumnText.{column_text}
-use Rattle.cs_segment.specs.Growing.{joined}
+use Rattle.cs_segment.specs.SegmentWriter.{joined}
 use Rattle.cs_rebuild.specs.SegmentEncoder.{IsChunk, values_in}
 use Rattle.cs_rebuild.proofs.Rests.{AnswersFrom}
 use Rattle.cs_rebuild.proofs.segment_encoder.SegmentEncoder.plain_body.Given as goal
