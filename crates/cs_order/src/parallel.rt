@@ -34,7 +34,7 @@ pub fn orders<R: Threads + Sync>(
     ensures fit { IfOk result (λ _. first_full catalog.now (table_of catalog.now walked.now.rows) ≡ None) }
     ensures fault { IfErr result (IsOrderFault catalog.now walked.now.rows) }
 {
-    match Table::lent_by(alloc, walked) {
+    match Table::borrowing(alloc, walked) {
         Ok(table) => table_orders(rt, alloc, &table, catalog),
         Err(_) => Err(OrderFault::Memory),
     }

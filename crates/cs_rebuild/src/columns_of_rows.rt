@@ -6,7 +6,7 @@ ghost use Rattle.cs_rows.specs.WalkedView.{AreColumns, walked_data};
 ghost use Rattle.cs_recovery.specs.Columns.{AreTableColumns};
 ghost use Rattle.cs_rebuild.specs.Building.{IsOneKind, IsShortText};
 
-use cs_rows::{Lent, Table};
+use cs_rows::{BorrowedColumns, Table};
 use cs_schema::{Catalog, Cells, Texts};
 use std::alloc::{AllocError, Global};
 
@@ -73,7 +73,7 @@ pub fn lend_columns<'a>(alloc: Global, rows: &'a [Cells]) -> Result<Table<'a>, A
     ensures { IfOk result (λ table. table ≡ walked_data rows.now) }
 {
     let mut made: Vec<Cells> = Vec::new(alloc);
-    let mut lent = Lent::nothing(alloc);
+    let mut lent = BorrowedColumns::none(alloc);
     for c in 0..rows.len() {
         made.push(Cells::new(alloc, rows[c].kind()))?;
         lent.push(Some(&rows[c]))?;

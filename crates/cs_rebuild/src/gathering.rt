@@ -8,7 +8,7 @@ ghost use Rattle.cs_rows.specs.TableView.{over};
 ghost use Rattle.cs_rows.specs.PlanWalks.{IsFollowed, followed_rows, walked_rows};
 ghost use Rattle.cs_rebuild.specs.Walking.{HasTableKinds, AreLentByAnchor, IsTableColumn};
 
-use cs_rows::{FollowedRows, Lent, PlanWalk, Table};
+use cs_rows::{FollowedRows, BorrowedColumns, PlanWalk, Table};
 use cs_schema::Cells;
 use rayon::prelude::*;
 use std::alloc::{AllocError, Global};
@@ -16,10 +16,10 @@ use std::marker::Sync;
 use std::thread::Threads;
 
 /// For each column of the table, the column of the anchor's image that it borrows, if any.
-fn lent_columns<'a>(alloc: Global, walk: &PlanWalk<'_, 'a>) -> Result<Lent<'a>, AllocError>
+fn lent_columns<'a>(alloc: Global, walk: &PlanWalk<'_, 'a>) -> Result<BorrowedColumns<'a>, AllocError>
     ensures { IfOk result (λ lent. AreLentByAnchor walk.now lent) }
 {
-    let mut lent = Lent::nothing(alloc);
+    let mut lent = BorrowedColumns::none(alloc);
     for c in 0..walk.column_count() {
         lent.push(walk.lone_column(c))?;
     }
@@ -31,7 +31,7 @@ fn gather_unless_lent(
     alloc: Global,
     walk: &PlanWalk<'_, '_>,
     parts: &[FollowedRows],
-    lent: &Lent<'_>,
+    lent: &BorrowedColumns<'_>,
     c: usize,
 ) -> Result<Cells, AllocError>
     requires parts { All (IsFollowed walk.now) parts.now }
@@ -52,7 +52,7 @@ fn gather_columns<R: Threads + Sync>(
     alloc: Global,
     walk: &PlanWalk<'_, '_>,
     parts: &[FollowedRows],
-    lent: &Lent<'_>,
+    lent: &BorrowedColumns<'_>,
 ) -> Result<Vec<Cells>, AllocError>
     requires parts { All (IsFollowed walk.now) parts.now }
     requires whole { followed_rows walk.now parts.now ≡ walked_rows walk.now }

@@ -12,7 +12,7 @@ ghost use Rattle.cs_recovery.specs.Columns.{AreColumnsOf};
 use crate::columns::cells_at;
 use crate::run::Run;
 use cs_order::key_order;
-use cs_rows::{Lent, Table};
+use cs_rows::{BorrowedColumns, Table};
 use cs_schema::{Catalog, Cells, Kind};
 use std::alloc::{AllocError, Global};
 use std::marker::Sync;
@@ -44,7 +44,7 @@ fn take_columns(
     alloc: Global,
     catalog: &Catalog,
     made: Vec<Cells>,
-    lent: &Lent<'_>,
+    lent: &BorrowedColumns<'_>,
     numbers: &[u32],
 ) -> Result<Vec<Cells>, AllocError>
     requires columns { AreColumns (over made.items lent.now) }

@@ -18,7 +18,7 @@ use Rattle.cs_schema.specs.Values.{value_eq}
 use Rattle.cs_safety.specs.Paths.{holds_column}
 use Rattle.cs_rows.specs.Walk.{Contents, entry_of, image_cell}
 use Rattle.cs_rows.specs.WalkByRows.{Reached, Found, numbers_of, found_from, source_in, is_full, found_row, full_row, level, is_stray_landing, surviving_rows, without_repeats}
-use Rattle.cs_rows.specs.OwnRows.{has_all, HasAll, is_found_before}
+use Rattle.cs_rows.specs.Superprojections.{has_all, HasAll, is_found_before}
 use Rattle.cs_rows.specs.RangeByRows.{is_stray_row, row_from, fresh_row}
 use Rattle.cs_rows.specs.RowSteps.{row_at, kept_count, kept_rows, projection_kept}
 use Rattle.cs_rows.proofs.RepeatLemmas.{repeats_push}
@@ -26,7 +26,7 @@ use Rattle.cs_rows.proofs.EqualCells.{same_from_eq, eq_from_same}
 use Rattle.cs_rows.proofs.RowLemmas.{some_any}
 use Rattle.cs_rows.proofs.SurvivingRows.{surviving_are}
 use Rattle.cs_rows.proofs.FoundRows.{if_fresh}
-use Rattle.cs_rows.proofs.OwnRows.{Begins, begins, own_row, own_from}
+use Rattle.cs_rows.proofs.Superprojections.{Begins, begins, own_row, own_from}
 use Rattle.cs_schema.proofs.Lists.{in_map, map_in, range_in, in_append, flat_more}
 use Rattle.cs_recovery.proofs.RowLists.{filter_map_in, find_in}
 use Rattle.cs_recovery.proofs.WalkedRows.{in_flat_map, flat_map_in}

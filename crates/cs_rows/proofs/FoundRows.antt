@@ -21,11 +21,11 @@ use Rattle.cs_schema.proofs.Lists.{at_in}
 use Rattle.cs_delta.specs.KindedImage.{KindedImage}
 use Rattle.cs_segment.specs.SegmentData.{kinds_at}
 use Rattle.cs_safety.specs.Paths.{holds_column}
-use Rattle.cs_rows.specs.declared.sources.Source.{Source}
+use Rattle.cs_rows.specs.declared.column_sources.Source.{Source}
 use Rattle.cs_rows.specs.declared.fault.WalkFault.{WalkFault}
 use Rattle.cs_rows.specs.Walk.{Contents, image_cell}
 use Rattle.cs_rows.specs.WalkByRows.{Reached, Found, numbers_of, found_from, source_in, is_full, found_row}
-use Rattle.cs_rows.specs.OwnRows.{is_fresh, is_given}
+use Rattle.cs_rows.specs.Superprojections.{is_fresh, is_given}
 use Rattle.cs_rows.specs.RangeByRows.{is_stray_row, given_row, given_among}
 use Rattle.cs_rows.specs.Range.{IsWalkFault}
 use Rattle.cs_rows.specs.Columns.{ColumnsFit}

@@ -9,7 +9,7 @@ use Rattle.std.proofs.lemmas.List.Folds.{list_any-append}
 use Rattle.cs_schema.specs.CatalogData.{CatalogData, has_join}
 use Rattle.cs_schema.specs.Lists.{member, numbers_below}
 use Rattle.cs_schema.specs.Losses.{Sites}
-use Rattle.cs_rows.specs.declared.levels.Landed.{Landed}
+use Rattle.cs_rows.specs.declared.levels.JoinTarget.{JoinTarget}
 use Rattle.cs_rows.specs.Walk.{Contents, At, entry_of}
 use Rattle.cs_rows.specs.WalkByRows.{Reached, Found, numbers_of, Landing, landing, entrance, looked_at, is_stray_landing, row_landing, lost_landing, level, with_level, found}
 use Rattle.cs_rows.specs.RowSteps.{landing_of, landing_at, landings_of, Stands, LandsWell, AllLandWell, AllStand}
@@ -85,7 +85,7 @@ module _ (C : CatalogData) (L : Sites) (S : Contents) where
   abbrev landed_through : ℕ → Reached → ℕ × Landing
   landed_through q r = (q, landing C L S q (entry_of S r.0 q r.1))
 
-  pub looks : (F : Found) (q : ℕ) (b : Bool) → b ≡ (member (numbers_of F.reached) q || member F.marked q) → b ≡ false → (from : Reached) → entrance C F q ≡ Some from → (l : Landed) → landing_of l ≡ landing C L S q (entry_of S from.0 q from.1) → Some (landing_at q l) ≡ looked_at C L S F q
+  pub looks : (F : Found) (q : ℕ) (b : Bool) → b ≡ (member (numbers_of F.reached) q || member F.marked q) → b ≡ false → (from : Reached) → entrance C F q ≡ Some from → (l : JoinTarget) → landing_of l ≡ landing C L S q (entry_of S from.0 q from.1) → Some (landing_at q l) ≡ looked_at C L S F q
   looks F q b e f from entered l is =
       sym (ap (λ (x : Bool). cond x None (option_map (landed_through q) (entrance C F q))) (sym e ∙ f) ∙ ap (option_map (landed_through q)) entered ∙ ap (λ (x : Landing). Some (q, x)) (sym is))
 
@@ -96,40 +96,40 @@ module _ (C : CatalogData) (L : Sites) (S : Contents) where
   looks_nowhere F q b e f entered = sym (ap (λ (x : Bool). cond x None (option_map (landed_through q) (entrance C F q))) (sym e ∙ f) ∙ ap (option_map (landed_through q)) entered)
 
   -- what a level looks at, with one more projection
-  pub looked_more : (F : Found) (q : ℕ) (xs : List (ℕ × Landed)) (l : Landed) → landings_of xs ≡ filter_map (looked_at C L S F) (numbers_below q) → option_map (landing_at q) (Some l) ≡ looked_at C L S F q → landings_of (xs ++ (q, l) ∷ []) ≡ filter_map (looked_at C L S F) (numbers_below (q + 1))
+  pub looked_more : (F : Found) (q : ℕ) (xs : List (ℕ × JoinTarget)) (l : JoinTarget) → landings_of xs ≡ filter_map (looked_at C L S F) (numbers_below q) → option_map (landing_at q) (Some l) ≡ looked_at C L S F q → landings_of (xs ++ (q, l) ∷ []) ≡ filter_map (looked_at C L S F) (numbers_below (q + 1))
   looked_more F q xs l e h =
-      map_append (λ (x : ℕ × Landed). landing_at x.0 x.1) xs ((q, l) ∷ [])
+      map_append (λ (x : ℕ × JoinTarget). landing_at x.0 x.1) xs ((q, l) ∷ [])
       ∙ ap (λ ys. ys ++ landing_at q l ∷ []) e
       ∙ sym (ap (filter_map (looked_at C L S F)) (numbers_more q) ∙ kept_more (looked_at C L S F) (numbers_below q) q (landing_at q l) (sym h))
 
-  pub looked_past : (F : Found) (q : ℕ) (xs : List (ℕ × Landed)) → landings_of xs ≡ filter_map (looked_at C L S F) (numbers_below q) → None ≡ looked_at C L S F q → landings_of xs ≡ filter_map (looked_at C L S F) (numbers_below (q + 1))
+  pub looked_past : (F : Found) (q : ℕ) (xs : List (ℕ × JoinTarget)) → landings_of xs ≡ filter_map (looked_at C L S F) (numbers_below q) → None ≡ looked_at C L S F q → landings_of xs ≡ filter_map (looked_at C L S F) (numbers_below (q + 1))
   looked_past F q xs e h = e ∙ sym (ap (filter_map (looked_at C L S F)) (numbers_more q) ∙ not_kept (looked_at C L S F) (numbers_below q) q (sym h))
 
 module _ (C : CatalogData) (S : Contents) where
-  rows_stand : (xs : List (ℕ × Landed)) → AllLandWell C S xs → All (Stands C S) (filter_map row_landing (landings_of xs))
+  rows_stand : (xs : List (ℕ × JoinTarget)) → AllLandWell C S xs → All (Stands C S) (filter_map row_landing (landings_of xs))
   rows_stand [] h = All-nil (Stands C S)
-  rows_stand (x ∷ xs) h = go x.1 (All-head (λ (y : ℕ × Landed). LandsWell C S y.0 y.1) x xs h) (rows_stand xs (All-tail (λ (y : ℕ × Landed). LandsWell C S y.0 y.1) x xs h))
+  rows_stand (x ∷ xs) h = go x.1 (All-head (λ (y : ℕ × JoinTarget). LandsWell C S y.0 y.1) x xs h) (rows_stand xs (All-tail (λ (y : ℕ × JoinTarget). LandsWell C S y.0 y.1) x xs h))
     where
-      go : (l : Landed) → LandsWell C S x.0 l → All (Stands C S) (filter_map row_landing (landings_of xs)) → All (Stands C S) (cons_option (row_landing (landing_at x.0 l)) (filter_map row_landing (landings_of xs)))
-      go Landed.Astray w all = all
-      go Landed.Lost w all = all
-      go (Landed.Row at) w all = All-cons (Stands C S) (x.0, at) (filter_map row_landing (landings_of xs)) w all
+      go : (l : JoinTarget) → LandsWell C S x.0 l → All (Stands C S) (filter_map row_landing (landings_of xs)) → All (Stands C S) (cons_option (row_landing (landing_at x.0 l)) (filter_map row_landing (landings_of xs)))
+      go JoinTarget.Astray w all = all
+      go JoinTarget.Lost w all = all
+      go (JoinTarget.Row at) w all = All-cons (Stands C S) (x.0, at) (filter_map row_landing (landings_of xs)) w all
 
-  pub level_stands : (F : Found) (xs : List (ℕ × Landed)) → AllStand C S F → AllLandWell C S xs → AllStand C S (with_level F (landings_of xs))
+  pub level_stands : (F : Found) (xs : List (ℕ × JoinTarget)) → AllStand C S F → AllLandWell C S xs → AllStand C S (with_level F (landings_of xs))
   level_stands F xs h w = record { reached = All-append (Stands C S) F.reached (filter_map row_landing (landings_of xs)) h.reached (rows_stand xs w); last = rows_stand xs w }
 
 -- ---- landings one by one
 
-pub landings_more : (xs : List (ℕ × Landed)) (k : ℕ) (d : ℕ × Landed) → k < length xs → landings_of (take (k + 1) xs) ≡ landings_of (take k xs) ++ landing_at (get_or xs k d).0 (get_or xs k d).1 ∷ []
-landings_more xs k d h = ap landings_of (take_more xs k d h) ∙ map_append (λ (x : ℕ × Landed). landing_at x.0 x.1) (take k xs) (get_or xs k d ∷ [])
+pub landings_more : (xs : List (ℕ × JoinTarget)) (k : ℕ) (d : ℕ × JoinTarget) → k < length xs → landings_of (take (k + 1) xs) ≡ landings_of (take k xs) ++ landing_at (get_or xs k d).0 (get_or xs k d).1 ∷ []
+landings_more xs k d h = ap landings_of (take_more xs k d h) ∙ map_append (λ (x : ℕ × JoinTarget). landing_at x.0 x.1) (take k xs) (get_or xs k d ∷ [])
 
-pub landings_split : (xs : List (ℕ × Landed)) (k : ℕ) (d : ℕ × Landed) → k < length xs → (rest : List (ℕ × Landing)) × (landings_of xs ≡ landings_of (take k xs) ++ landing_at (get_or xs k d).0 (get_or xs k d).1 ∷ rest)
+pub landings_split : (xs : List (ℕ × JoinTarget)) (k : ℕ) (d : ℕ × JoinTarget) → k < length xs → (rest : List (ℕ × Landing)) × (landings_of xs ≡ landings_of (take k xs) ++ landing_at (get_or xs k d).0 (get_or xs k d).1 ∷ rest)
 landings_split [] k d h = absurd (omega arith)
 landings_split (x ∷ xs) zero d h = (landings_of xs, refl)
 landings_split (x ∷ xs) (suc k) d h = let r = landings_split xs k d (omega arith) in (r.0, ap (λ ys. landing_at x.0 x.1 ∷ ys) r.1)
 
 -- one of them is a stray landing
-pub stray_among : (xs : List (ℕ × Landed)) (k : ℕ) (d : ℕ × Landed) → k < length xs → (get_or xs k d).1 ≡ Landed.Astray → list_any is_stray_landing (landings_of xs) ≡ true
+pub stray_among : (xs : List (ℕ × JoinTarget)) (k : ℕ) (d : ℕ × JoinTarget) → k < length xs → (get_or xs k d).1 ≡ JoinTarget.Astray → list_any is_stray_landing (landings_of xs) ≡ true
 stray_among [] k d h e = absurd (omega arith)
 stray_among (x ∷ xs) zero d h e = ap (λ l. is_stray_landing (landing_at x.0 l) || list_any is_stray_landing (landings_of xs)) e
 stray_among (x ∷ xs) (suc k) d h e = ap (λ b. is_stray_landing (landing_at x.0 x.1) || b) (stray_among xs k d (omega arith) e) ∙ or_true (is_stray_landing (landing_at x.0 x.1))
@@ -144,43 +144,43 @@ pub record Entered (reached : List Reached) (marked : List ℕ) (reached' : List
   pub marked_are : marked' ≡ marked ++ filter_map lost_landing ls
   pub none_stray : list_any is_stray_landing ls ≡ false
 
-module _ (reached : List Reached) (marked : List ℕ) (reached' : List Reached) (marked' : List ℕ) (xs : List (ℕ × Landed)) (k : ℕ) (d : ℕ × Landed) (within : k < length xs) (so : Entered reached marked reached' marked' (landings_of (take k xs))) where
-  abbrev now : ℕ × Landed
+module _ (reached : List Reached) (marked : List ℕ) (reached' : List Reached) (marked' : List ℕ) (xs : List (ℕ × JoinTarget)) (k : ℕ) (d : ℕ × JoinTarget) (within : k < length xs) (so : Entered reached marked reached' marked' (landings_of (take k xs))) where
+  abbrev now : ℕ × JoinTarget
   now = get_or xs k d
 
-  stray_more : (l : Landed) → now.1 ≡ l → is_stray_landing (landing_at now.0 l) ≡ false → list_any is_stray_landing (landings_of (take (k + 1) xs)) ≡ false
+  stray_more : (l : JoinTarget) → now.1 ≡ l → is_stray_landing (landing_at now.0 l) ≡ false → list_any is_stray_landing (landings_of (take (k + 1) xs)) ≡ false
   stray_more l e f =
       ap (list_any is_stray_landing) (landings_more xs k d within)
       ∙ list_any-append is_stray_landing (landings_of (take k xs)) (landing_at now.0 now.1 ∷ [])
       ∙ (λ i. so.none_stray i || (is_stray_landing (landing_at now.0 (e i)) || false))
       ∙ ap (λ b. b || false) f
 
-  rows_more : (l : Landed) → now.1 ≡ l → filter_map row_landing (landings_of (take (k + 1) xs)) ≡ filter_map row_landing (landings_of (take k xs)) ++ cons_option (row_landing (landing_at now.0 l)) []
+  rows_more : (l : JoinTarget) → now.1 ≡ l → filter_map row_landing (landings_of (take (k + 1) xs)) ≡ filter_map row_landing (landings_of (take k xs)) ++ cons_option (row_landing (landing_at now.0 l)) []
   rows_more l e =
       ap (filter_map row_landing) (landings_more xs k d within)
       ∙ filter_map-append row_landing (landings_of (take k xs)) (landing_at now.0 now.1 ∷ [])
-      ∙ ap (λ (m : Landed). filter_map row_landing (landings_of (take k xs)) ++ cons_option (row_landing (landing_at now.0 m)) []) e
+      ∙ ap (λ (m : JoinTarget). filter_map row_landing (landings_of (take k xs)) ++ cons_option (row_landing (landing_at now.0 m)) []) e
 
-  lost_more : (l : Landed) → now.1 ≡ l → filter_map lost_landing (landings_of (take (k + 1) xs)) ≡ filter_map lost_landing (landings_of (take k xs)) ++ cons_option (lost_landing (landing_at now.0 l)) []
+  lost_more : (l : JoinTarget) → now.1 ≡ l → filter_map lost_landing (landings_of (take (k + 1) xs)) ≡ filter_map lost_landing (landings_of (take k xs)) ++ cons_option (lost_landing (landing_at now.0 l)) []
   lost_more l e =
       ap (filter_map lost_landing) (landings_more xs k d within)
       ∙ filter_map-append lost_landing (landings_of (take k xs)) (landing_at now.0 now.1 ∷ [])
-      ∙ ap (λ (m : Landed). filter_map lost_landing (landings_of (take k xs)) ++ cons_option (lost_landing (landing_at now.0 m)) []) e
+      ∙ ap (λ (m : JoinTarget). filter_map lost_landing (landings_of (take k xs)) ++ cons_option (lost_landing (landing_at now.0 m)) []) e
 
-  pub entered_lost : now.1 ≡ Landed.Lost → (reached'' : List Reached) (marked'' : List ℕ) → reached'' ≡ reached' → marked'' ≡ marked' ++ now.0 ∷ [] → Entered reached marked reached'' marked'' (landings_of (take (k + 1) xs))
+  pub entered_lost : now.1 ≡ JoinTarget.Lost → (reached'' : List Reached) (marked'' : List ℕ) → reached'' ≡ reached' → marked'' ≡ marked' ++ now.0 ∷ [] → Entered reached marked reached'' marked'' (landings_of (take (k + 1) xs))
   entered_lost e reached'' marked'' r m = record {
-    reached_are = r ∙ so.reached_are ∙ ap (λ ys. reached ++ ys) (sym (rows_more Landed.Lost e ∙ append-nil (filter_map row_landing (landings_of (take k xs)))));
-    marked_are = m ∙ ap (λ ys. ys ++ now.0 ∷ []) so.marked_are ∙ append_assoc marked (filter_map lost_landing (landings_of (take k xs))) (now.0 ∷ []) ∙ ap (λ ys. marked ++ ys) (sym (lost_more Landed.Lost e));
-    none_stray = stray_more Landed.Lost e refl;
+    reached_are = r ∙ so.reached_are ∙ ap (λ ys. reached ++ ys) (sym (rows_more JoinTarget.Lost e ∙ append-nil (filter_map row_landing (landings_of (take k xs)))));
+    marked_are = m ∙ ap (λ ys. ys ++ now.0 ∷ []) so.marked_are ∙ append_assoc marked (filter_map lost_landing (landings_of (take k xs))) (now.0 ∷ []) ∙ ap (λ ys. marked ++ ys) (sym (lost_more JoinTarget.Lost e));
+    none_stray = stray_more JoinTarget.Lost e refl;
   }
 
-  pub entered_row : (at : At) → now.1 ≡ Landed.Row at → (reached'' : List Reached) (marked'' : List ℕ) → reached'' ≡ reached' ++ (now.0, at) ∷ [] → marked'' ≡ marked' → Entered reached marked reached'' marked'' (landings_of (take (k + 1) xs))
+  pub entered_row : (at : At) → now.1 ≡ JoinTarget.Row at → (reached'' : List Reached) (marked'' : List ℕ) → reached'' ≡ reached' ++ (now.0, at) ∷ [] → marked'' ≡ marked' → Entered reached marked reached'' marked'' (landings_of (take (k + 1) xs))
   entered_row at e reached'' marked'' r m = record {
-    reached_are = r ∙ ap (λ ys. ys ++ (now.0, at) ∷ []) so.reached_are ∙ append_assoc reached (filter_map row_landing (landings_of (take k xs))) ((now.0, at) ∷ []) ∙ ap (λ ys. reached ++ ys) (sym (rows_more (Landed.Row at) e));
-    marked_are = m ∙ so.marked_are ∙ ap (λ ys. marked ++ ys) (sym (lost_more (Landed.Row at) e ∙ append-nil (filter_map lost_landing (landings_of (take k xs)))));
-    none_stray = stray_more (Landed.Row at) e refl;
+    reached_are = r ∙ ap (λ ys. ys ++ (now.0, at) ∷ []) so.reached_are ∙ append_assoc reached (filter_map row_landing (landings_of (take k xs))) ((now.0, at) ∷ []) ∙ ap (λ ys. reached ++ ys) (sym (rows_more (JoinTarget.Row at) e));
+    marked_are = m ∙ so.marked_are ∙ ap (λ ys. marked ++ ys) (sym (lost_more (JoinTarget.Row at) e ∙ append-nil (filter_map lost_landing (landings_of (take k xs)))));
+    none_stray = stray_more (JoinTarget.Row at) e refl;
   }
 
 -- all landings
-pub entered_all : (reached : List Reached) (marked : List ℕ) (reached' : List Reached) (marked' : List ℕ) (xs : List (ℕ × Landed)) (k : ℕ) → length xs ≤ k → Entered reached marked reached' marked' (landings_of (take k xs)) → Entered reached marked reached' marked' (landings_of xs)
-entered_all reached marked reached' marked' xs k h so = subst (λ (l : List (ℕ × Landed)). Entered reached marked reached' marked' (landings_of l)) (take_all k xs h) so
+pub entered_all : (reached : List Reached) (marked : List ℕ) (reached' : List Reached) (marked' : List ℕ) (xs : List (ℕ × JoinTarget)) (k : ℕ) → length xs ≤ k → Entered reached marked reached' marked' (landings_of (take k xs)) → Entered reached marked reached' marked' (landings_of xs)
+entered_all reached marked reached' marked' xs k h so = subst (λ (l : List (ℕ × JoinTarget)). Entered reached marked reached' marked' (landings_of l)) (take_all k xs h) so

@@ -6,11 +6,11 @@ use Rattle.std.specs.Option.{is_some, option_map_or}
 use Rattle.std.proofs.lemmas.List.{length-map, get_or-map, get_or_default, same_lists}
 use Rattle.cs_schema.specs.CatalogData.{CatalogData, projection}
 use Rattle.cs_schema.specs.Lists.{numbers_below}
-use Rattle.cs_rows.specs.declared.sources.Source.{Source}
-use Rattle.cs_rows.specs.declared.sources.Reading.{Reading}
+use Rattle.cs_rows.specs.declared.column_sources.Source.{Source}
+use Rattle.cs_rows.specs.declared.column_sources.ColumnSources.{ColumnSources}
 use Rattle.cs_rows.specs.WalkByRows.{Reached, Found, numbers_of}
-use Rattle.cs_rows.specs.OwnRows.{has_all, is_found_before, is_given}
-use Rattle.cs_rows.specs.RowSteps.{IsSource, IsReading, have_all}
+use Rattle.cs_rows.specs.Superprojections.{has_all, is_found_before, is_given}
+use Rattle.cs_rows.specs.RowSteps.{IsSource, AreColumnSources, have_all}
 use Rattle.cs_rows.proofs.FirstLemmas.{first_at, found_in}
 use Rattle.cs_rows.proofs.FoundRows.{holds, full_by_numbers}
 
@@ -51,10 +51,10 @@ and_true true = refl
 and_true false = refl
 
 -- a reading for the projections that were reached says whether the row is given
-pub told_given : (fresh_only : Bool) (C : CatalogData) (F : Found) (reading : Reading) (rs : List Reached) → rs ≡ F.reached → IsReading fresh_only C reading → reading.projections.items ≡ numbers_of rs → reading.given ≡ is_given fresh_only C F
-told_given true C F reading rs same so numbers =
+pub told_given : (fresh_only : Bool) (C : CatalogData) (F : Found) (column_sources : ColumnSources) (rs : List Reached) → rs ≡ F.reached → AreColumnSources fresh_only C column_sources → column_sources.projections.items ≡ numbers_of rs → column_sources.given ≡ is_given fresh_only C F
+told_given true C F column_sources rs same so numbers =
     so.given ∙ ap (λ (ps : List ℕ). have_all C ps && not (is_found_before C ps)) (numbers ∙ ap numbers_of same) ∙ ap (λ (b : Bool). b && not (is_found_before C (numbers_of F.reached))) (full_by_numbers C F)
-told_given false C F reading rs same so numbers = so.given ∙ and_true (have_all C reading.projections.items) ∙ ap (have_all C) (numbers ∙ ap numbers_of same) ∙ full_by_numbers C F
+told_given false C F column_sources rs same so numbers = so.given ∙ and_true (have_all C column_sources.projections.items) ∙ ap (have_all C) (numbers ∙ ap numbers_of same) ∙ full_by_numbers C F
 
 none_read : (C : CatalogData) (n : ℕ) → 0 < n → list_all (λ c. is_some (find (holds C c) [])) (numbers_below n) ≡ false
 none_read C zero h = absurd (omega arith)

@@ -1,6 +1,6 @@
 pub mod Walk
 pub mod WalkByRows
-pub mod OwnRows
+pub mod Superprojections
 pub mod RangeByRows
 pub mod RowSteps
 pub mod WalkedView

@@ -7,7 +7,7 @@ use Rattle.cs_schema.specs.Losses.{Sites}
 use Rattle.cs_schema.specs.Rows.{Row}
 use Rattle.cs_rows.specs.Walk.{Contents, Stray}
 use Rattle.cs_rows.specs.WalkByRows.{Reached, Found, found_from, found_row, full_row, surviving_rows}
-use Rattle.cs_rows.specs.OwnRows.{is_fresh, is_given}
+use Rattle.cs_rows.specs.Superprojections.{is_fresh, is_given}
 
 -- the walk from a row is led astray
 abbrev pub is_stray_row : CatalogData → Sites → Contents → Reached → Bool

@@ -9,29 +9,29 @@ use Rattle.cs_schema.specs.Lists.{numbers_below}
 use Rattle.cs_schema.specs.Losses.{Sites, lost}
 use Rattle.cs_schema.specs.Rows.{Row, cell}
 use Rattle.cs_safety.specs.Paths.{holds_column}
-use Rattle.cs_rows.specs.declared.levels.Landed.{Landed}
-use Rattle.cs_rows.specs.declared.sources.Source.{Source}
-use Rattle.cs_rows.specs.declared.sources.Reading.{Reading}
+use Rattle.cs_rows.specs.declared.levels.JoinTarget.{JoinTarget}
+use Rattle.cs_rows.specs.declared.column_sources.Source.{Source}
+use Rattle.cs_rows.specs.declared.column_sources.ColumnSources.{ColumnSources}
 use Rattle.cs_rows.specs.declared.fault.WalkFault.{WalkFault}
 use Rattle.cs_rows.specs.Walk.{Contents}
 use Rattle.cs_rows.specs.WalkByRows.{Reached, Found, Landing, numbers_of}
 use Rattle.cs_rows.specs.RangeByRows.{is_stray_row}
-use Rattle.cs_rows.specs.OwnRows.{is_found_before}
+use Rattle.cs_rows.specs.Superprojections.{is_found_before}
 use Rattle.cs_rows.specs.Steps.{IsAt}
 
 -- ---- levels
 
-abbrev pub landing_of : Landed → Landing
-landing_of Landed.Astray = Landing.astray
-landing_of Landed.Lost = Landing.in_lost
-landing_of (Landed.Row at) = Landing.at_row at
+abbrev pub landing_of : JoinTarget → Landing
+landing_of JoinTarget.Astray = Landing.astray
+landing_of JoinTarget.Lost = Landing.in_lost
+landing_of (JoinTarget.Row at) = Landing.at_row at
 
 -- a projection that a level looks at, with its landing
-abbrev pub landing_at : ℕ → Landed → ℕ × Landing
+abbrev pub landing_at : ℕ → JoinTarget → ℕ × Landing
 landing_at q l = (q, landing_of l)
 
-abbrev pub landings_of : List (ℕ × Landed) → List (ℕ × Landing)
-landings_of xs = map (λ (x : ℕ × Landed). landing_at x.0 x.1) xs
+abbrev pub landings_of : List (ℕ × JoinTarget) → List (ℕ × Landing)
+landings_of xs = map (λ (x : ℕ × JoinTarget). landing_at x.0 x.1) xs
 
 -- a walk that has found only the row from which it starts
 abbrev pub started : Reached → Found
@@ -42,13 +42,13 @@ abbrev pub Stands : CatalogData → Contents → Reached → Type 0
 Stands C S row = (row.0 < length C.projections) × IsAt C S row.0 row.1
 
 -- a landing at a row is at a row of an image
-abbrev pub LandsWell : CatalogData → Contents → ℕ → Landed → Type 0
-LandsWell C S q Landed.Astray = Unit {0}
-LandsWell C S q Landed.Lost = Unit {0}
-LandsWell C S q (Landed.Row at) = Stands C S (q, at)
+abbrev pub LandsWell : CatalogData → Contents → ℕ → JoinTarget → Type 0
+LandsWell C S q JoinTarget.Astray = Unit {0}
+LandsWell C S q JoinTarget.Lost = Unit {0}
+LandsWell C S q (JoinTarget.Row at) = Stands C S (q, at)
 
-abbrev pub AllLandWell : CatalogData → Contents → List (ℕ × Landed) → Type 0
-AllLandWell C S xs = All (λ (x : ℕ × Landed). LandsWell C S x.0 x.1) xs
+abbrev pub AllLandWell : CatalogData → Contents → List (ℕ × JoinTarget) → Type 0
+AllLandWell C S xs = All (λ (x : ℕ × JoinTarget). LandsWell C S x.0 x.1) xs
 
 -- the rows that a walk has reached are rows of images
 pub record AllStand (C : CatalogData) (S : Contents) (F : Found) : Type 0 where
@@ -73,10 +73,10 @@ have_all C ps = list_all (λ c. is_some (find (λ p. holds_column C p c) ps)) (n
 
 -- Whether rows that are reached in some projections are given, and where each column is read if they are. They are
 -- given if the projections have every column and, with `fresh_only`, no earlier walk finds them.
-pub record IsReading (fresh_only : Bool) (C : CatalogData) (reading : Reading) : Type 0 where
-  pub count : length reading.sources.items ≡ length C.columns
-  pub given : reading.given ≡ (have_all C reading.projections.items && not (fresh_only && is_found_before C reading.projections.items))
-  pub each : reading.given ≡ true → AreSources C reading.projections.items reading.sources.items (length C.columns)
+pub record AreColumnSources (fresh_only : Bool) (C : CatalogData) (column_sources : ColumnSources) : Type 0 where
+  pub count : length column_sources.sources.items ≡ length C.columns
+  pub given : column_sources.given ≡ (have_all C column_sources.projections.items && not (fresh_only && is_found_before C column_sources.projections.items))
+  pub each : column_sources.given ≡ true → AreSources C column_sources.projections.items column_sources.sources.items (length C.columns)
 
 -- where each column is read of a full row that was found through rows of images
 pub record AreSourcesOf (C : CatalogData) (S : Contents) (rs : List Reached) (sources : List Source) : Type 0 where

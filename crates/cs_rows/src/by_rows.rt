@@ -5,18 +5,18 @@ ghost use Rattle.cs_rows.specs.Survivors.{contents_of};
 ghost use Rattle.cs_rows.specs.Columns.{ColumnsFit};
 ghost use Rattle.cs_rows.specs.Range.{IsWalkFault};
 ghost use Rattle.cs_rows.specs.WalkByRows.{found_row};
-ghost use Rattle.cs_rows.specs.OwnRows.{is_given};
+ghost use Rattle.cs_rows.specs.Superprojections.{is_given};
 ghost use Rattle.cs_rows.specs.RangeByRows.{surviving_between, found_among, fresh_among, given_among};
-ghost use Rattle.cs_rows.specs.RowSteps.{Stands, AllStand, IsReading, AreSourcesOf, through, RowPushed, reached_from};
+ghost use Rattle.cs_rows.specs.RowSteps.{Stands, AllStand, AreColumnSources, AreSourcesOf, through, RowPushed, reached_from};
 ghost use Rattle.cs_rows.specs.RowWalks.{NoneAstray, IsFirstAstray, Extends, rows_between, rows_in_projection};
 
 use crate::catalog_of::{self, has_all_columns};
+use crate::column_sources::{ColumnSources, Source};
 use crate::columns::{new_columns, push_cell};
 use crate::counts::{kept_in_projection, kept_in_segment, surviving_row_count};
-use crate::desk::{Desk, new_desk};
 use crate::fault::WalkFault;
-use crate::levels::{Finding, RowWalk, walk_from};
-use crate::sources::{Reading, Source};
+use crate::levels::{ReachedRows, RowWalk, walk_from};
+use crate::scratch::{Scratch, new_scratch};
 use crate::survivors::Survivors;
 use crate::walked::Walked;
 use cs_schema::{Catalog, Cells, Loss};
@@ -50,25 +50,30 @@ fn push_row(
 /// Appends what a walk has found if it is a full row and, with `fresh_only`, no earlier walk finds it.
 fn push_found(
     survivors: &Survivors<'_>,
-    finding: &Finding,
-    reading: &mut Reading,
+    reached_rows: &ReachedRows,
+    column_sources: &mut ColumnSources,
     fresh_only: bool,
     columns: &mut Vec<Cells>,
 ) -> Result<(), AllocError>
-    requires stand { AllStand survivors.now.catalog (contents_of survivors.now) finding.now }
-    requires reading { IsReading fresh_only survivors.now.catalog reading.old }
+    requires stand { AllStand survivors.now.catalog (contents_of survivors.now) reached_rows.now }
+    requires column_sources { AreColumnSources fresh_only survivors.now.catalog column_sources.old }
     requires columns { ColumnsFit survivors.now.catalog columns.old.items }
-    ensures reading { OnOk result (IsReading fresh_only survivors.now.catalog reading.new) }
+    ensures column_sources { OnOk result (AreColumnSources fresh_only survivors.now.catalog column_sources.new) }
     ensures count { length columns.new.items ≡ length columns.old.items }
-    ensures given { OnOk result (is_given fresh_only survivors.now.catalog finding.now ≡ true
-        → RowPushed (found_row survivors.now.catalog (contents_of survivors.now) finding.now)
+    ensures given { OnOk result (is_given fresh_only survivors.now.catalog reached_rows.now ≡ true
+        → RowPushed (found_row survivors.now.catalog (contents_of survivors.now) reached_rows.now)
         columns.old.items columns.new.items (length survivors.now.catalog.columns)) }
-    ensures not_given { OnOk result (is_given fresh_only survivors.now.catalog finding.now ≡ false → columns.new.items ≡ columns.old.items) }
+    ensures not_given { OnOk result (is_given fresh_only survivors.now.catalog reached_rows.now ≡ false → columns.new.items ≡ columns.old.items) }
 {
-    let reached = finding.reached();
-    reading.update(survivors, reached, fresh_only)?;
-    if reading.given {
-        push_row(survivors, reached, reading.sources.as_slice(), columns)?;
+    let reached = reached_rows.reached();
+    column_sources.update(survivors, reached, fresh_only)?;
+    if column_sources.given {
+        push_row(
+            survivors,
+            reached,
+            column_sources.sources.as_slice(),
+            columns,
+        )?;
     }
     Ok(())
 }
@@ -78,19 +83,19 @@ impl RowWalk<'_> {
     fn walk_row(
         &self,
         row: (u16, (u16, u32)),
-        desk: &mut Desk,
+        scratch: &mut Scratch,
         columns: &mut Vec<Cells>,
     ) -> Result<(), WalkFault>
         requires row { Stands self.now.survivors.now.catalog (contents_of self.now.survivors.now) row }
-        requires desk { IsReading self.now.fresh_only self.now.survivors.now.catalog desk.old.reading }
+        requires scratch { AreColumnSources self.now.fresh_only self.now.survivors.now.catalog scratch.old.column_sources }
         requires columns { ColumnsFit self.now.survivors.now.catalog columns.old.items }
-        ensures desk { OnOk result (IsReading self.now.fresh_only self.now.survivors.now.catalog desk.new.reading) }
+        ensures scratch { OnOk result (AreColumnSources self.now.fresh_only self.now.survivors.now.catalog scratch.new.column_sources) }
         ensures fit { OnOk result (ColumnsFit self.now.survivors.now.catalog columns.new.items) }
         ensures sound { OnOk result (NoneAstray self.now (row ∷ [])) }
         ensures cells { OnOk result (Extends self.now (row ∷ []) columns.old.items columns.new.items) }
         ensures fault { IfErr result (IsFirstAstray self.now (row ∷ [])) }
     {
-        if !walk_from(self, row, &mut desk.finding, &mut desk.landings)? {
+        if !walk_from(self, row, &mut scratch.reached_rows, &mut scratch.landings)? {
             return Err(WalkFault::Astray {
                 p: row.0,
                 s: row.1.0,
@@ -99,8 +104,8 @@ impl RowWalk<'_> {
         }
         push_found(
             self.survivors,
-            &desk.finding,
-            &mut desk.reading,
+            &scratch.reached_rows,
+            &mut scratch.column_sources,
             self.fresh_only,
             columns,
         )?;
@@ -112,16 +117,16 @@ impl RowWalk<'_> {
         &self,
         segment: (u16, u16),
         rows: (u32, u32),
-        desk: &mut Desk,
+        scratch: &mut Scratch,
         columns: &mut Vec<Cells>,
     ) -> Result<(), WalkFault>
-        requires desk { IsReading self.now.fresh_only self.now.survivors.now.catalog desk.old.reading }
+        requires scratch { AreColumnSources self.now.fresh_only self.now.survivors.now.catalog scratch.old.column_sources }
         requires columns { ColumnsFit self.now.survivors.now.catalog columns.old.items }
         requires projection { segment.0 < length self.now.survivors.now.catalog.projections }
         requires segment { segment.1 < segments self.now.survivors.now.catalog segment.0 }
         requires order { rows.0 ≤ rows.1 }
         requires within { rows.1 ≤ length ((contents_of self.now.survivors.now).image segment.0 segment.1).pairs }
-        ensures desk { OnOk result (IsReading self.now.fresh_only self.now.survivors.now.catalog desk.new.reading) }
+        ensures scratch { OnOk result (AreColumnSources self.now.fresh_only self.now.survivors.now.catalog scratch.new.column_sources) }
         ensures fit { OnOk result (ColumnsFit self.now.survivors.now.catalog columns.new.items) }
         ensures sound { OnOk result (NoneAstray self.now (reached_from segment.0 segment.1 rows.0 (rows.1 - rows.0))) }
         ensures cells { OnOk result (Extends self.now (reached_from segment.0 segment.1 rows.0 (rows.1 - rows.0))
@@ -129,11 +134,11 @@ impl RowWalk<'_> {
         ensures fault { IfErr result (IsFirstAstray self.now (reached_from segment.0 segment.1 rows.0 (rows.1 - rows.0))) }
     {
         if has_all_columns(self.survivors, segment.0) {
-            return self.walk_own_rows(segment, rows, desk, columns);
+            return self.walk_superprojection(segment, rows, scratch, columns);
         }
         for i in rows.0..rows.1 {
             let row = (segment.0, (segment.1, i));
-            match self.walk_row(row, desk, columns) {
+            match self.walk_row(row, scratch, columns) {
                 Ok(()) => {}
                 Err(fault) => return Err(fault),
             }
@@ -146,14 +151,14 @@ impl RowWalk<'_> {
         &self,
         p: u16,
         range: (usize, usize),
-        desk: &mut Desk,
+        scratch: &mut Scratch,
         columns: &mut Vec<Cells>,
     ) -> Result<(), WalkFault>
-        requires desk { IsReading self.now.fresh_only self.now.survivors.now.catalog desk.old.reading }
+        requires scratch { AreColumnSources self.now.fresh_only self.now.survivors.now.catalog scratch.old.column_sources }
         requires columns { ColumnsFit self.now.survivors.now.catalog columns.old.items }
         requires projection { p < length self.now.survivors.now.catalog.projections }
         requires order { range.0 ≤ range.1 }
-        ensures desk { OnOk result (IsReading self.now.fresh_only self.now.survivors.now.catalog desk.new.reading) }
+        ensures scratch { OnOk result (AreColumnSources self.now.fresh_only self.now.survivors.now.catalog scratch.new.column_sources) }
         ensures fit { OnOk result (ColumnsFit self.now.survivors.now.catalog columns.new.items) }
         ensures sound { OnOk result (NoneAstray self.now (rows_in_projection self.now p range.0 range.1)) }
         ensures cells { OnOk result (Extends self.now (rows_in_projection self.now p range.0 range.1) columns.old.items columns.new.items) }
@@ -164,7 +169,7 @@ impl RowWalk<'_> {
             let count = kept_in_segment(self.survivors, self.loss, p, s) as usize;
             let start = range.0.saturating_sub(first).min(count);
             let end = range.1.saturating_sub(first).min(count);
-            match self.walk_segment((p, s), (start as u32, end as u32), desk, columns) {
+            match self.walk_segment((p, s), (start as u32, end as u32), scratch, columns) {
                 Ok(()) => {}
                 Err(fault) => return Err(fault),
             }
@@ -177,10 +182,10 @@ impl RowWalk<'_> {
     fn walk_projections(
         &self,
         range: (usize, usize),
-        desk: &mut Desk,
+        scratch: &mut Scratch,
         columns: &mut Vec<Cells>,
     ) -> Result<(), WalkFault>
-        requires desk { IsReading self.now.fresh_only self.now.survivors.now.catalog desk.old.reading }
+        requires scratch { AreColumnSources self.now.fresh_only self.now.survivors.now.catalog scratch.old.column_sources }
         requires columns { ColumnsFit self.now.survivors.now.catalog columns.old.items }
         requires order { range.0 ≤ range.1 }
         ensures fit { OnOk result (ColumnsFit self.now.survivors.now.catalog columns.new.items) }
@@ -191,7 +196,7 @@ impl RowWalk<'_> {
         let mut first: usize = 0;
         for p in 0..catalog_of::projection_count(self.survivors) {
             let within = (range.0.saturating_sub(first), range.1.saturating_sub(first));
-            match self.walk_projection(p, within, desk, columns) {
+            match self.walk_projection(p, within, scratch, columns) {
                 Ok(()) => {}
                 Err(fault) => return Err(fault),
             }
@@ -226,11 +231,11 @@ impl RowWalk<'_> {
             Ok(columns) => columns,
             Err(_) => return Err(WalkFault::Memory),
         };
-        let mut desk = match new_desk(alloc, catalog) {
-            Ok(desk) => desk,
+        let mut scratch = match new_scratch(alloc, catalog) {
+            Ok(scratch) => scratch,
             Err(_) => return Err(WalkFault::Memory),
         };
-        match self.walk_projections((from, to), &mut desk, &mut columns) {
+        match self.walk_projections((from, to), &mut scratch, &mut columns) {
             Ok(()) => Ok(Walked::from_columns(columns)),
             Err(fault) => Err(fault),
         }

@@ -3,7 +3,7 @@ ghost use Rattle.std.specs.Prelude.{◌≡◌, ◌<◌, length};
 ghost use Rattle.cs_schema.specs.CatalogData.{column, projection, segments, has_join};
 ghost use Rattle.cs_schema.specs.Losses.{lost};
 ghost use Rattle.cs_schema.specs.CatalogRules.{IsCatalog};
-ghost use Rattle.cs_rows.specs.OwnRows.{has_all};
+ghost use Rattle.cs_rows.specs.Superprojections.{has_all};
 
 use crate::numbers::{self, place_in};
 use crate::survivors::Survivors;

@@ -20,7 +20,7 @@ use std::marker::Model;
 
 /// Where an entry of a join index leads.
 #[derive(Clone, Copy)]
-pub(crate) enum Landed {
+pub(crate) enum JoinTarget {
     Astray,
     Lost,
     /// A row's segment and its position in the image.
@@ -30,13 +30,13 @@ pub(crate) enum Landed {
 /// What the walk from a row has found so far: the rows reached, with their projections, by level and then by
 /// projection; the index at which the last level starts among them; and the projections whose segment is lost.
 #[derive(Drop)]
-pub(crate) struct Finding {
+pub(crate) struct ReachedRows {
     reached: Vec<(u16, (u16, u32))>,
     last: usize,
     marked: Vec<u16>,
 }
 
-impl Model for Finding {
+impl Model for ReachedRows {
     ghost use Rattle.std.specs.Prelude.{◌≤◌, drop, length};
     ghost use Rattle.cs_rows.specs.WalkByRows.{Found};
 
@@ -88,7 +88,7 @@ fn position(survivors: &Survivors<'_>, q: u16, segment: u16, key: u32) -> Option
 }
 
 /// Where the entry of a row in the join index to a projection leads.
-fn land(walk: &RowWalk<'_>, from: (u16, (u16, u32)), q: u16) -> Landed
+fn land(walk: &RowWalk<'_>, from: (u16, (u16, u32)), q: u16) -> JoinTarget
     requires from { Stands walk.now.survivors.now.catalog (contents_of walk.now.survivors.now) from }
     requires projection { q < length walk.now.survivors.now.catalog.projections }
     ensures leads { landing_of result ≡ landing walk.now.survivors.now.catalog walk.now.loss
@@ -98,17 +98,17 @@ fn land(walk: &RowWalk<'_>, from: (u16, (u16, u32)), q: u16) -> Landed
     match entry(walk.survivors, from, q) {
         Some((segment, key)) => {
             if segment >= segments(walk.survivors, q) {
-                return Landed::Astray;
+                return JoinTarget::Astray;
             }
             if is_lost(walk.survivors, walk.loss, q, segment) {
-                return Landed::Lost;
+                return JoinTarget::Lost;
             }
             match position(walk.survivors, q, segment, key) {
-                Some(i) => Landed::Row((segment, i)),
-                None => Landed::Astray,
+                Some(i) => JoinTarget::Row((segment, i)),
+                None => JoinTarget::Astray,
             }
         }
-        None => Landed::Astray,
+        None => JoinTarget::Astray,
     }
 }
 
@@ -147,7 +147,7 @@ fn is_marked(marked: &[u16], q: u16) -> bool
 fn enter_all(
     reached: &mut Vec<(u16, (u16, u32))>,
     marked: &mut Vec<u16>,
-    landings: &[(u16, Landed)],
+    landings: &[(u16, JoinTarget)],
 ) -> Result<bool, AllocError>
     ensures grows { length reached.old.items ≤ length reached.new.items }
     ensures sound { IfOk result (λ sound. sound ≡ not (list_any is_stray_landing (landings_of landings.now))) }
@@ -157,18 +157,18 @@ fn enter_all(
 {
     for (q, landed) in landings {
         match landed {
-            Landed::Astray => return Ok(false),
-            Landed::Lost => marked.push(*q)?,
-            Landed::Row(at) => reached.push((*q, *at))?,
+            JoinTarget::Astray => return Ok(false),
+            JoinTarget::Lost => marked.push(*q)?,
+            JoinTarget::Row(at) => reached.push((*q, *at))?,
         }
     }
     Ok(true)
 }
 
-impl Finding {
+impl ReachedRows {
     /// Room for `count` projections.
     pub(crate) fn new(alloc: Global, count: usize) -> Result<Self, AllocError> {
-        Ok(Finding {
+        Ok(ReachedRows {
             reached: Vec::with_capacity(alloc, count)?,
             last: 0,
             marked: Vec::with_capacity(alloc, count)?,
@@ -215,7 +215,7 @@ impl Finding {
     }
 
     /// The target in a projection, if the next level looks there.
-    fn look(&self, walk: &RowWalk<'_>, q: u16) -> Option<Landed>
+    fn look(&self, walk: &RowWalk<'_>, q: u16) -> Option<JoinTarget>
         requires stand { AllStand walk.now.survivors.now.catalog (contents_of walk.now.survivors.now) self.now }
         requires projection { q < length walk.now.survivors.now.catalog.projections }
         ensures looked { option_map (landing_at q) result ≡ looked_at walk.now.survivors.now.catalog
@@ -235,7 +235,7 @@ impl Finding {
     fn look_ahead(
         &self,
         walk: &RowWalk<'_>,
-        landings: &mut Vec<(u16, Landed)>,
+        landings: &mut Vec<(u16, JoinTarget)>,
     ) -> Result<(), AllocError>
         requires stand { AllStand walk.now.survivors.now.catalog (contents_of walk.now.survivors.now) self.now }
         ensures level { OnOk result (landings_of landings.new.items
@@ -253,7 +253,7 @@ impl Finding {
     }
 
     /// Adds the next level. Returns false if one of its targets is astray.
-    fn enter(&mut self, landings: &[(u16, Landed)]) -> Result<bool, AllocError>
+    fn enter(&mut self, landings: &[(u16, JoinTarget)]) -> Result<bool, AllocError>
         ensures sound { IfOk result (λ sound. sound ≡ not (list_any is_stray_landing (landings_of landings.now))) }
         ensures entered { IfOk result (λ sound. sound ≡ true → self.new ≡ with_level self.old (landings_of landings.now)) }
     {
@@ -269,21 +269,21 @@ impl Finding {
 pub(crate) fn walk_from(
     walk: &RowWalk<'_>,
     row: (u16, (u16, u32)),
-    finding: &mut Finding,
-    landings: &mut Vec<(u16, Landed)>,
+    reached_rows: &mut ReachedRows,
+    landings: &mut Vec<(u16, JoinTarget)>,
 ) -> Result<bool, AllocError>
     requires row { Stands walk.now.survivors.now.catalog (contents_of walk.now.survivors.now) row }
     ensures found { IfOk result (λ sound. found_from walk.now.survivors.now.catalog walk.now.loss
-        (contents_of walk.now.survivors.now) row.0 row.1 ≡ (if sound then Some finding.new else None)) }
-    ensures stand { IfOk result (λ sound. sound ≡ true → AllStand walk.now.survivors.now.catalog (contents_of walk.now.survivors.now) finding.new) }
+        (contents_of walk.now.survivors.now) row.0 row.1 ≡ (if sound then Some reached_rows.new else None)) }
+    ensures stand { IfOk result (λ sound. sound ≡ true → AllStand walk.now.survivors.now.catalog (contents_of walk.now.survivors.now) reached_rows.new) }
 {
-    finding.start(row)?;
+    reached_rows.start(row)?;
     for _step in 0..projection_count(walk.survivors) {
-        if finding.is_ended() {
+        if reached_rows.is_ended() {
             return Ok(true);
         }
-        finding.look_ahead(walk, landings)?;
-        if !finding.enter(landings.as_slice())? {
+        reached_rows.look_ahead(walk, landings)?;
+        if !reached_rows.enter(landings.as_slice())? {
             return Ok(false);
         }
     }

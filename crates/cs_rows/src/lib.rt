@@ -9,37 +9,37 @@
 //! states what putting an image or a join index changes.
 #![tactic(auto)]
 
+pub mod borrowed_columns;
 pub mod by_rows;
 mod catalog_of;
+mod column_sources;
 mod columns;
 pub mod counts;
-mod desk;
 mod fault;
 pub mod follow;
 mod gather;
 pub mod joining;
 pub mod laws;
-pub mod lent;
 mod levels;
 mod marks;
 mod near_ints;
 mod numbers;
 mod once;
-mod own_rows;
 pub mod plan_walk;
 pub mod range;
 mod repeats;
 mod route;
 mod row_ids;
 mod rows_by_int;
-mod sources;
+mod scratch;
 pub mod steps;
+mod superprojection;
 pub mod survivors;
 pub mod table;
 pub mod walked;
 
+pub use borrowed_columns::BorrowedColumns;
 pub use follow::FollowedRows;
-pub use lent::Lent;
 pub use once::join_once;
 pub use plan_walk::PlanWalk;
 pub use survivors::Survivors;

@@ -5,7 +5,7 @@ ghost use Rattle.cs_schema.specs.Rows.{cell};
 ghost use Rattle.cs_rows.specs.WalkedView.{walked_data, AreColumns};
 ghost use Rattle.cs_rows.specs.TableView.{over};
 
-use crate::lent::Lent;
+use crate::borrowed_columns::BorrowedColumns;
 use crate::walked::Walked;
 use cs_schema::{Cells, Kind};
 use std::alloc::{AllocError, Global};
@@ -16,11 +16,11 @@ use std::marker::Model;
 #[derive(Drop)]
 pub struct Table<'a> {
     made: Vec<Cells>,
-    lent: Lent<'a>,
+    lent: BorrowedColumns<'a>,
 }
 
 /// The borrowed column, if there is one; else the owned one.
-fn column_at<'a>(made: &'a [Cells], lent: &'a Lent<'a>, c: usize) -> &'a Cells
+fn column_at<'a>(made: &'a [Cells], lent: &'a BorrowedColumns<'a>, c: usize) -> &'a Cells
     requires { c < length made.now }
     ensures { result.now ≡ slice_index_or (over made.now lent.now) c result.now }
 {
@@ -48,17 +48,17 @@ impl<'a> Table<'a> {
     {
         Table {
             made: walked.into_columns(),
-            lent: Lent::nothing(alloc),
+            lent: BorrowedColumns::none(alloc),
         }
     }
 
     /// The rows of a walk. All columns are borrowed from it.
-    pub fn lent_by(alloc: Global, walked: &'a Walked) -> Result<Self, AllocError>
+    pub fn borrowing(alloc: Global, walked: &'a Walked) -> Result<Self, AllocError>
         ensures { IfOk result (λ table. table ≡ walked.entry.now) }
     {
         let columns = walked.columns();
         let mut made = Vec::new(alloc);
-        let mut lent = Lent::nothing(alloc);
+        let mut lent = BorrowedColumns::none(alloc);
         for c in 0..columns.len() {
             made.push(Cells::new(alloc, Kind::Int))?;
             lent.push(Some(&columns[c]))?;
@@ -67,7 +67,7 @@ impl<'a> Table<'a> {
     }
 
     /// The rows of at least one column, all of the same length, some owned and the others borrowed.
-    pub fn of_columns(made: Vec<Cells>, lent: Lent<'a>) -> Self
+    pub fn of_columns(made: Vec<Cells>, lent: BorrowedColumns<'a>) -> Self
         requires { AreColumns (over made.items lent) }
         ensures { result ≡ walked_data (over made.items lent.entry) }
     {
@@ -75,7 +75,7 @@ impl<'a> Table<'a> {
     }
 
     /// The owned columns, and the borrowed ones that replace some of them.
-    pub fn into_columns(self) -> (Vec<Cells>, Lent<'a>)
+    pub fn into_columns(self) -> (Vec<Cells>, BorrowedColumns<'a>)
         ensures columns { AreColumns (over result.0.items result.1) }
         ensures same { walked_data (over result.0.items result.1) ≡ self.entry }
     {

@@ -3,7 +3,7 @@ ghost use Rattle.std.specs.Prelude.{◌≡◌, map, IfOk};
 
 use crate::surviving::catalogs::{NUMBERED_CITIES, THREE_ORDERS, TWO_ORDERS};
 use crate::surviving::{Store, catalog};
-use cs_rows::lent::Lent;
+use cs_rows::BorrowedColumns;
 use cs_rows::range::{WalkFault, walk_range};
 use cs_rows::{PlanWalk, Table, Walked, join_once};
 use cs_safety::plan;
@@ -115,7 +115,7 @@ fn expect_keys(rt: &(impl Abort + AllocGlobal), store: &Store<'_>) {
     let Ok(()) = made.push(Cells::new(alloc, Kind::Int)) else {
         panic!(rt; "no memory");
     };
-    let mut lent = Lent::nothing(alloc);
+    let mut lent = BorrowedColumns::none(alloc);
     lent.push(walk.lone_column(0)).expect(rt, "memory");
     let table = Table::of_columns(made, lent);
     assert!(rt; table.rows() == 2 && table.column(0).same(1, &keys, 1));

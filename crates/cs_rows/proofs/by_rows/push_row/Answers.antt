@@ -3,7 +3,7 @@ use Rattle.std.proofs.Math.ListN.{length-set}
 use Rattle.std.proofs.Common.{get_or-set_other, ◌≢◌, ◌++◌, ◌∷◌, []}
 use Rattle.cs_schema.specs.Values.{kind_of, values}
 use Rattle.cs_schema.specs.declared.cells.Value.{Value}
-use Rattle.cs_rows.specs.declared.sources.Source.{Source}
+use Rattle.cs_rows.specs.declared.column_sources.Source.{Source}
 use Rattle.cs_rows.specs.Survivors.{contents_of}
 use Rattle.cs_rows.specs.RowSteps.{through}
 use Rattle.cs_rows.specs.WalkByRows.{found_row}

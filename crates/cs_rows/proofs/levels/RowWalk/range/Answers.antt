@@ -27,7 +27,7 @@ from_columns-requires c =
     let C = c.args.self.now.survivors.now.catalog in
     let S = contents_of c.args.self.now.survivors.now in
     let xs : List Reached = surviving_between C c.args.self.now.loss S c.args.from c.args.to in
-    columns_of_rows C c.walk_projections.new.columns.items (filter_map (given_row c.args.self.now.fresh_only C c.args.self.now.loss S) xs) c.in-Ok-walk_projections.ensures.fit (c.in-Ok-walk_projections.ensures.cells [] (no_cells c.in-Ok.columns.items C c.args.catalog.now c.requires.same c.in-Ok.ensures.none)) (own_rules C c.args.catalog.now c.requires.same c.new_desk.ensures.rules).column_range.0
+    columns_of_rows C c.walk_projections.new.columns.items (filter_map (given_row c.args.self.now.fresh_only C c.args.self.now.loss S) xs) c.in-Ok-walk_projections.ensures.fit (c.in-Ok-walk_projections.ensures.cells [] (no_cells c.in-Ok.columns.items C c.args.catalog.now c.requires.same c.in-Ok.ensures.none)) (own_rules C c.args.catalog.now c.requires.same c.new_scratch.ensures.rules).column_range.0
 
 pub returns-in-Ok-walk_projections-clause-kinds : goal.returns-in-Ok-walk_projections-clause-kinds
 returns-in-Ok-walk_projections-clause-kinds c =
@@ -41,7 +41,7 @@ returns-in-Ok-walk_projections-clause-rows c =
     let S = contents_of c.args.self.now.survivors.now in
     let xs : List Reached = surviving_between C c.args.self.now.loss S c.args.from c.args.to in
     let e = ap (λ (w : WalkedData). w.rows) c.from_columns.ensures
-    ∙ found_rows_are C c.args.self.now.loss S c.args.self.now.fresh_only xs c.walk_projections.new.columns.items c.in-Ok-walk_projections.ensures.fit (c.in-Ok-walk_projections.ensures.cells [] (no_cells c.in-Ok.columns.items C c.args.catalog.now c.requires.same c.in-Ok.ensures.none)) (own_rules C c.args.catalog.now c.requires.same c.new_desk.ensures.rules).column_range.0 in
+    ∙ found_rows_are C c.args.self.now.loss S c.args.self.now.fresh_only xs c.walk_projections.new.columns.items c.in-Ok-walk_projections.ensures.fit (c.in-Ok-walk_projections.ensures.cells [] (no_cells c.in-Ok.columns.items C c.args.catalog.now c.requires.same c.in-Ok.ensures.none)) (own_rules C c.args.catalog.now c.requires.same c.new_scratch.ensures.rules).column_range.0 in
     let ok : List Row → Result (List Row) Stray = λ rows. Ok rows in
     ap ok e ∙ all_found C c.args.self.now.loss S c.args.self.now.fresh_only xs c.in-Ok-walk_projections.ensures.sound
     ∙ ap (λ (D : CatalogData). given_among c.args.self.now.fresh_only D c.args.self.now.loss S (surviving_between D c.args.self.now.loss S c.args.from c.args.to)) c.requires.same

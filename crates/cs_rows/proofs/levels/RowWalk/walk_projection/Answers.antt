@@ -38,7 +38,7 @@ loop-s-preserved c =
     let more = part_more f c.args.range.0 c.args.range.1 c.loop-s.first s c.loop-s.invariant.count ∙ ap (λ (l : List Reached). part f c.args.range.0 c.args.range.1 s ++ l) (sym rows) in
     record {
       few = omega arith;
-      desk = c.in-Ok.ensures.desk;
+      scratch = c.in-Ok.ensures.scratch;
       fit = c.in-Ok.ensures.fit;
       count = ap (λ (k : ℕ). c.loop-s.first + k) (c.kept_in_segment-count.ensures ∙ sym (length-map-range_with_len (row_at p s) 0 n)) ∙ first_more f c.loop-s.first s c.loop-s.invariant.count;
       sound = ap (find (is_stray_row c.args.self.now.survivors.now.catalog c.args.self.now.loss (contents_of c.args.self.now.survivors.now))) more

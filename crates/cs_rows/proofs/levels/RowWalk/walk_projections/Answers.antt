@@ -29,7 +29,7 @@ loop-p-preserved c =
     let more = part_more f c.args.range.0 c.args.range.1 c.loop-p.first p c.loop-p.invariant.count ∙ ap (λ (l : List Reached). part f c.args.range.0 c.args.range.1 p ++ l) (sym rows) in
     record {
       few = omega arith;
-      desk = c.in-Ok.ensures.desk;
+      scratch = c.in-Ok.ensures.scratch;
       fit = c.in-Ok.ensures.fit;
       count = ap (λ (k : ℕ). c.loop-p.first + k) c.kept_in_projection-first.ensures.count ∙ first_more f c.loop-p.first p c.loop-p.invariant.count;
       sound = ap (find (is_stray_row c.args.self.now.survivors.now.catalog c.args.self.now.loss (contents_of c.args.self.now.survivors.now))) more

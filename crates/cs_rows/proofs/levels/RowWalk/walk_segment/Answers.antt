@@ -21,7 +21,7 @@ loop-i-preserved c =
     let more = run_more (row_at p s) c.args.rows.0 c.loop-i.i c.loop-i.invariant.start in
     record {
       start = omega arith;
-      desk = c.in-Ok.ensures.desk;
+      scratch = c.in-Ok.ensures.scratch;
       fit = c.in-Ok.ensures.fit;
       sound = ap (find (is_stray_row c.args.self.now.survivors.now.catalog c.args.self.now.loss (contents_of c.args.self.now.survivors.now))) more
           ∙ none_stray c.args.self.now.survivors.now.catalog c.args.self.now.loss (contents_of c.args.self.now.survivors.now) (reached_from p s c.args.rows.0 (c.loop-i.i - c.args.rows.0)) (row_at p s c.loop-i.i ∷ []) c.loop-i.invariant.sound c.in-Ok.ensures.sound;
