@@ -5,7 +5,6 @@
 #![tactic(auto)]
 
 mod all_orders;
-mod by_key;
 mod fault;
 mod int_columns;
 mod item;
@@ -19,12 +18,10 @@ mod ranges;
 pub mod samples;
 mod segments;
 mod sort;
-mod sort_items;
 mod sorter;
 mod thresholds;
-mod writing;
 
 pub use all_orders::Orders;
-pub use by_key::key_order;
 pub use fault::OrderFault;
 pub use parallel::{orders, table_orders};
+pub use sorter::key_order;

@@ -125,6 +125,6 @@ fn order_of<R: Threads + Sync>(
         alloc: sorter.alloc,
         order: sorter.order(p),
     };
-    let (rows, by) = projection_sorter.rows_for(all, by_key);
-    projection_sorter.projection_order(by, rows)
+    let (rows, sorted) = projection_sorter.presorted_rows(all, by_key);
+    projection_sorter.projection_order(sorted, rows)
 }

@@ -1,15 +1,17 @@
 //! The range of each row: the number of cuts that are not above its cell in the first sort column.
 ghost use Rattle.std.specs.Prelude.{◌≡◌, ◌<◌, ◌≤◌, pos, length, map, slice_index, slice_index_or, EachIndex};
+ghost use Rattle.std.specs.Fork.{AcceptsEach, ChangesEach};
 ghost use Rattle.cs_schema.specs.declared.cells.Value.{Value};
 ghost use Rattle.cs_schema.specs.CatalogData.{projection};
 ghost use Rattle.cs_schema.specs.Ranges.{range_of};
 ghost use Rattle.cs_schema.specs.Rows.{cell};
 ghost use Rattle.cs_schema.specs.Values.{values};
 
-use crate::writing::write_each;
+use crate::thresholds::SHARE;
 use cs_schema::{Catalog, Cells};
+use rayon::current_num_threads;
 use std::marker::Sync;
-use std::thread::Threads;
+use std::thread::{Threads, for_each_mut};
 
 /// The maximum number of cuts whose ranges are numbered by 16 bits.
 const MOST_CUTS: usize = 65_535;
@@ -62,4 +64,27 @@ fn range_of_int(cuts: &[i64], int: &i64) -> u16
         }
     }
     range
+}
+
+/// Calls `f` with the index of each item of a list and a reference to it, in several threads if the list is long.
+pub fn write_each<R: Threads + Sync, T: Send, F: Fn(usize, &mut T) + Sync>(
+    rt: &R,
+    list: &mut [T],
+    f: F,
+)
+    requires { AcceptsEach F.Fn f list.old }
+    ensures { ChangesEach F.Fn f list.old list.new }
+{
+    for_each_mut(rt, list, writers(rt, list.len()), &f);
+}
+
+/// The number of threads that fill a list of this length.
+fn writers<R: Threads>(rt: &R, places: usize) -> usize
+    ensures { 0 < result }
+{
+    // asks the system for the number of processors only if one thread is not enough
+    if places < 2 * SHARE {
+        return 1;
+    }
+    current_num_threads(rt).min(places / SHARE)
 }
