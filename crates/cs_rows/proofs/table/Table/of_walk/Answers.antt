@@ -5,7 +5,7 @@ use Rattle.cs_rows.proofs.TableLemmas.{none_lent}
 use Rattle.cs_rows.proofs.table.Table.of_walk.Goals as goal
 
 pub invariant_of-result : goal.invariant_of-result
-invariant_of-result c = subst AreColumns (sym (ap (over c.into_columns.result.items) c.nothing.ensures ∙ none_lent c.into_columns.result.items)) c.into_columns.ensures.columns
+invariant_of-result c = subst AreColumns (sym (ap (over c.into_columns.result.items) c.none.ensures ∙ none_lent c.into_columns.result.items)) c.into_columns.ensures.columns
 
 pub returns : goal.returns
-returns c = ap walked_data (ap (over c.into_columns.result.items) c.nothing.ensures ∙ none_lent c.into_columns.result.items) ∙ c.into_columns.ensures.rows
+returns c = ap walked_data (ap (over c.into_columns.result.items) c.none.ensures ∙ none_lent c.into_columns.result.items) ∙ c.into_columns.ensures.rows
