@@ -18,7 +18,7 @@ collect-requires-clause-ready g c κs within =
     let ends = c.into_par_iter.ensures in
     let inside = nat_range-All (λ i. i < length c.args.walk.now.survivors.now.catalog.columns) 0 (length c.args.walk.now.survivors.now.catalog.columns) (λ i low high. high) in
     rw (c.map.ensures.base, c.map.ensures.f, c.with_min_len.ensures.base, ends.0, ends.1, c.column_count.ensures.count)
-    (λ k d lt. ((c.requires.parts, c.requires.whole, inside k d lt, c.requires.lent), λ y p. tt))
+    (λ k d lt. ((c.requires.parts, (c.requires.whole, (inside k d lt, c.requires.lent))), λ y p. tt))
 
 module _ (g : Over) (c : goal.In_ok-collect g) where
   abbrev IsMade : ℕ → Result Cells AllocError → Type 0
