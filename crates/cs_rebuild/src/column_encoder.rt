@@ -117,9 +117,8 @@ impl SegmentEncoder<'_> {
         ensures { IfOk result (IsPieceAt self.now j self.now.numbers.now) }
     {
         let mut rest = chunks.into_iter();
-        let mut column = match rest.next() {
-            Some(first) => first,
-            None => unreachable!(),
+        let Some(mut column) = rest.next() else {
+            unreachable!()
         };
         // the others are as long, except the last, so no chunk is copied again when the next is appended
         column.reserve(self.chunks - 1)?;

@@ -14,12 +14,12 @@ loop-next-preserved g c =
 
 pub queue-requires-clause-body : goal.queue-requires-clause-body
 queue-requires-clause-body g c =
-    let last : c.loop-next.next - 1 ≡ c.width.result - 1 = omega (arith, c.loop-next-test.false, c.loop-next.auto.next-end, c.width.ensures.range) in
+    let last : c.loop-next.next - 1 ≡ c.width-width.result - 1 = omega (arith, c.loop-next-test.false, c.loop-next.auto.next-end, c.width-width.ensures.range) in
     subst (λ n. IsBody c.args.self.now n c.loop-next.body) last c.loop-next.invariant.body
 
 pub returns : goal.returns
 returns g c =
     let e = c.args.self.now in
-    let last : c.loop-next.next - 1 ≡ c.width.result - 1 = omega (arith, c.loop-next-test.false, c.loop-next.auto.next-end, c.width.ensures.range) in
-    let all : c.width.result - 1 + 1 ≡ column_count e = omega (arith, c.width.ensures.count, c.width.ensures.range) in
+    let last : c.loop-next.next - 1 ≡ c.width-width.result - 1 = omega (arith, c.loop-next-test.false, c.loop-next.auto.next-end, c.width-width.ensures.range) in
+    let all : c.width-width.result - 1 + 1 ≡ column_count e = omega (arith, c.width-width.ensures.count, c.width-width.ensures.range) in
     on_then c.queue.result c.queue.ensures (λ appended. subst (λ n. HoldsFirst e n c.queue.new.file) all (appended (subst (λ n. HoldsFirst e n c.loop-next.file) last c.loop-next.invariant.holds)))

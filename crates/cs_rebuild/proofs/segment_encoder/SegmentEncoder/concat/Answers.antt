@@ -40,7 +40,7 @@ loop-chunk-preserved c =
     let chunk = c.in-Some-chunk.chunk in
     let later = into_iter_items c.next-chunk.new.self in
     let rest = subst (AnswersFrom (IsChunk e j) k) c.in-Some-chunk.ensures.steps.0 at.invariant.rest in
-    let one : length (at.yielded ++ chunk ∷ []) ≡ k = length-append at.yielded (chunk ∷ []) in
+    let one : length (at.yielded ++ chunk ∷ []) ≡ k = omega (arith, length-append at.yielded (chunk ∷ [])) in
     let next : length (at.yielded ++ chunk ∷ []) + 1 ≡ k + 1 = omega (arith, one) in
     record {
       left = omega (arith, one, at.invariant.left, c.in-Some-chunk.ensures.steps.1);

@@ -16,7 +16,7 @@ returns c =
     let n = length e.numbers.now in
     let col = c.column.result.now in
     let v = values_in e j e.numbers.now in
-    let held : cells_at (values col) e.numbers.now ≡ v = placed_values e j e.numbers.now c.table_column-column.result (values col) c.table_column-column.ensures.number c.column.ensures.cells (can_encode_all e j c.requires) in
+    let held : cells_at (values col) e.numbers.now ≡ v = placed_values e j e.numbers.now c.table_column-column.result (values col) c.table_column-column.ensures.number c.column.ensures.cells (can_encode_all e j c.requires.column) in
     let low : c.min-from.result ≡ min (c.args.k * e.cut) n = omega (arith, c.min-from.ensures) in
     let high : c.min-to.result ≡ min (c.args.k * e.cut + e.cut) n = omega (arith, c.min-from.ensures, c.min-to.ensures) in
     IfOk-weaker c.write_runs.result _ _ (λ out is.

@@ -32,7 +32,7 @@ loop-chunk-preserved c =
     let chunk = c.in-Some.chunk in
     let later = into_iter_items c.next.new.self in
     let rest = subst (AnswersFrom (IsChunk e j) k) c.in-Some.ensures.steps.0 at.invariant.rest in
-    let one : length (at.yielded ++ chunk ∷ []) ≡ k + 1 = length-append at.yielded (chunk ∷ []) in
+    let one : length (at.yielded ++ chunk ∷ []) ≡ k + 1 = omega (arith, length-append at.yielded (chunk ∷ [])) in
     record {
       left = omega (arith, one, at.invariant.left, c.in-Some.ensures.steps.1);
       rest = later_answers (IsChunk e j) k (length (at.yielded ++ chunk ∷ [])) chunk later one rest;
