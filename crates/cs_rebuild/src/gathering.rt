@@ -8,7 +8,7 @@ ghost use Rattle.cs_rows.specs.TableView.{over};
 ghost use Rattle.cs_rows.specs.PlanWalks.{IsFollowed, followed_rows, walked_rows};
 ghost use Rattle.cs_rebuild.specs.Walking.{HasTableKinds, AreLentByAnchor, IsTableColumn};
 
-use cs_rows::{FollowedRows, BorrowedColumns, PlanWalk, Table};
+use cs_rows::{BorrowedColumns, FollowedRows, PlanWalk, Table};
 use cs_schema::Cells;
 use rayon::prelude::*;
 use std::alloc::{AllocError, Global};
@@ -16,7 +16,10 @@ use std::marker::Sync;
 use std::thread::Threads;
 
 /// For each column of the table, the column of the anchor's image that it borrows, if any.
-fn lent_columns<'a>(alloc: Global, walk: &PlanWalk<'_, 'a>) -> Result<BorrowedColumns<'a>, AllocError>
+fn lent_columns<'a>(
+    alloc: Global,
+    walk: &PlanWalk<'_, 'a>,
+) -> Result<BorrowedColumns<'a>, AllocError>
     ensures { IfOk result (λ lent. AreLentByAnchor walk.now lent) }
 {
     let mut lent = BorrowedColumns::none(alloc);

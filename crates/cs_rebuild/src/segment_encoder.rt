@@ -119,7 +119,12 @@ impl<'a> SegmentEncoder<'a> {
     }
 
     /// Appends the encoded column `j` to those that wait for `finish`, without reading it.
-    fn queue(&self, file: &mut SegmentWriter, j: usize, body: Vec<Vec<u8>>) -> Result<(), AllocError>
+    fn queue(
+        &self,
+        file: &mut SegmentWriter,
+        j: usize,
+        body: Vec<Vec<u8>>,
+    ) -> Result<(), AllocError>
         requires column { HasColumn self.now j }
         requires body { IsBody self.now j body }
         ensures { OnOk result (Appends self.now j file.old file.new) }

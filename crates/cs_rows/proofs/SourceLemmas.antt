@@ -51,10 +51,10 @@ and_true true = refl
 and_true false = refl
 
 -- a reading for the projections that were reached says whether the row is given
-pub told_given : (fresh_only : Bool) (C : CatalogData) (F : Found) (column_sources : ColumnSources) (rs : List Reached) → rs ≡ F.reached → AreColumnSources fresh_only C column_sources → column_sources.projections.items ≡ numbers_of rs → column_sources.given ≡ is_given fresh_only C F
-told_given true C F column_sources rs same so numbers =
+pub told_given : (fresh_only : Bool) (C : CatalogData) (F : Found) (sources : ColumnSources) (rs : List Reached) → rs ≡ F.reached → AreColumnSources fresh_only C sources → sources.projections.items ≡ numbers_of rs → sources.given ≡ is_given fresh_only C F
+told_given true C F sources rs same so numbers =
     so.given ∙ ap (λ (ps : List ℕ). have_all C ps && not (is_found_before C ps)) (numbers ∙ ap numbers_of same) ∙ ap (λ (b : Bool). b && not (is_found_before C (numbers_of F.reached))) (full_by_numbers C F)
-told_given false C F column_sources rs same so numbers = so.given ∙ and_true (have_all C column_sources.projections.items) ∙ ap (have_all C) (numbers ∙ ap numbers_of same) ∙ full_by_numbers C F
+told_given false C F sources rs same so numbers = so.given ∙ and_true (have_all C sources.projections.items) ∙ ap (have_all C) (numbers ∙ ap numbers_of same) ∙ full_by_numbers C F
 
 none_read : (C : CatalogData) (n : ℕ) → 0 < n → list_all (λ c. is_some (find (holds C c) [])) (numbers_below n) ≡ false
 none_read C zero h = absurd (omega arith)

@@ -73,10 +73,10 @@ have_all C ps = list_all (λ c. is_some (find (λ p. holds_column C p c) ps)) (n
 
 -- Whether rows that are reached in some projections are given, and where each column is read if they are. They are
 -- given if the projections have every column and, with `fresh_only`, no earlier walk finds them.
-pub record AreColumnSources (fresh_only : Bool) (C : CatalogData) (column_sources : ColumnSources) : Type 0 where
-  pub count : length column_sources.sources.items ≡ length C.columns
-  pub given : column_sources.given ≡ (have_all C column_sources.projections.items && not (fresh_only && is_found_before C column_sources.projections.items))
-  pub each : column_sources.given ≡ true → AreSources C column_sources.projections.items column_sources.sources.items (length C.columns)
+pub record AreColumnSources (fresh_only : Bool) (C : CatalogData) (sources : ColumnSources) : Type 0 where
+  pub count : length sources.sources.items ≡ length C.columns
+  pub given : sources.given ≡ (have_all C sources.projections.items && not (fresh_only && is_found_before C sources.projections.items))
+  pub each : sources.given ≡ true → AreSources C sources.projections.items sources.sources.items (length C.columns)
 
 -- where each column is read of a full row that was found through rows of images
 pub record AreSourcesOf (C : CatalogData) (S : Contents) (rs : List Reached) (sources : List Source) : Type 0 where

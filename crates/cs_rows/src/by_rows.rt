@@ -51,14 +51,14 @@ fn push_row(
 fn push_found(
     survivors: &Survivors<'_>,
     reached_rows: &ReachedRows,
-    column_sources: &mut ColumnSources,
+    sources: &mut ColumnSources,
     fresh_only: bool,
     columns: &mut Vec<Cells>,
 ) -> Result<(), AllocError>
     requires stand { AllStand survivors.now.catalog (contents_of survivors.now) reached_rows.now }
-    requires column_sources { AreColumnSources fresh_only survivors.now.catalog column_sources.old }
+    requires sources { AreColumnSources fresh_only survivors.now.catalog sources.old }
     requires columns { ColumnsFit survivors.now.catalog columns.old.items }
-    ensures column_sources { OnOk result (AreColumnSources fresh_only survivors.now.catalog column_sources.new) }
+    ensures sources { OnOk result (AreColumnSources fresh_only survivors.now.catalog sources.new) }
     ensures count { length columns.new.items ≡ length columns.old.items }
     ensures given { OnOk result (is_given fresh_only survivors.now.catalog reached_rows.now ≡ true
         → RowPushed (found_row survivors.now.catalog (contents_of survivors.now) reached_rows.now)
@@ -66,14 +66,9 @@ fn push_found(
     ensures not_given { OnOk result (is_given fresh_only survivors.now.catalog reached_rows.now ≡ false → columns.new.items ≡ columns.old.items) }
 {
     let reached = reached_rows.reached();
-    column_sources.update(survivors, reached, fresh_only)?;
-    if column_sources.given {
-        push_row(
-            survivors,
-            reached,
-            column_sources.sources.as_slice(),
-            columns,
-        )?;
+    sources.update(survivors, reached, fresh_only)?;
+    if sources.given {
+        push_row(survivors, reached, sources.sources.as_slice(), columns)?;
     }
     Ok(())
 }
@@ -87,9 +82,9 @@ impl RowWalk<'_> {
         columns: &mut Vec<Cells>,
     ) -> Result<(), WalkFault>
         requires row { Stands self.now.survivors.now.catalog (contents_of self.now.survivors.now) row }
-        requires scratch { AreColumnSources self.now.fresh_only self.now.survivors.now.catalog scratch.old.column_sources }
+        requires scratch { AreColumnSources self.now.fresh_only self.now.survivors.now.catalog scratch.old.sources }
         requires columns { ColumnsFit self.now.survivors.now.catalog columns.old.items }
-        ensures scratch { OnOk result (AreColumnSources self.now.fresh_only self.now.survivors.now.catalog scratch.new.column_sources) }
+        ensures scratch { OnOk result (AreColumnSources self.now.fresh_only self.now.survivors.now.catalog scratch.new.sources) }
         ensures fit { OnOk result (ColumnsFit self.now.survivors.now.catalog columns.new.items) }
         ensures sound { OnOk result (NoneAstray self.now (row ∷ [])) }
         ensures cells { OnOk result (Extends self.now (row ∷ []) columns.old.items columns.new.items) }
@@ -105,7 +100,7 @@ impl RowWalk<'_> {
         push_found(
             self.survivors,
             &scratch.reached_rows,
-            &mut scratch.column_sources,
+            &mut scratch.sources,
             self.fresh_only,
             columns,
         )?;
@@ -120,13 +115,13 @@ impl RowWalk<'_> {
         scratch: &mut Scratch,
         columns: &mut Vec<Cells>,
     ) -> Result<(), WalkFault>
-        requires scratch { AreColumnSources self.now.fresh_only self.now.survivors.now.catalog scratch.old.column_sources }
+        requires scratch { AreColumnSources self.now.fresh_only self.now.survivors.now.catalog scratch.old.sources }
         requires columns { ColumnsFit self.now.survivors.now.catalog columns.old.items }
         requires projection { segment.0 < length self.now.survivors.now.catalog.projections }
         requires segment { segment.1 < segments self.now.survivors.now.catalog segment.0 }
         requires order { rows.0 ≤ rows.1 }
         requires within { rows.1 ≤ length ((contents_of self.now.survivors.now).image segment.0 segment.1).pairs }
-        ensures scratch { OnOk result (AreColumnSources self.now.fresh_only self.now.survivors.now.catalog scratch.new.column_sources) }
+        ensures scratch { OnOk result (AreColumnSources self.now.fresh_only self.now.survivors.now.catalog scratch.new.sources) }
         ensures fit { OnOk result (ColumnsFit self.now.survivors.now.catalog columns.new.items) }
         ensures sound { OnOk result (NoneAstray self.now (reached_from segment.0 segment.1 rows.0 (rows.1 - rows.0))) }
         ensures cells { OnOk result (Extends self.now (reached_from segment.0 segment.1 rows.0 (rows.1 - rows.0))
@@ -154,11 +149,11 @@ impl RowWalk<'_> {
         scratch: &mut Scratch,
         columns: &mut Vec<Cells>,
     ) -> Result<(), WalkFault>
-        requires scratch { AreColumnSources self.now.fresh_only self.now.survivors.now.catalog scratch.old.column_sources }
+        requires scratch { AreColumnSources self.now.fresh_only self.now.survivors.now.catalog scratch.old.sources }
         requires columns { ColumnsFit self.now.survivors.now.catalog columns.old.items }
         requires projection { p < length self.now.survivors.now.catalog.projections }
         requires order { range.0 ≤ range.1 }
-        ensures scratch { OnOk result (AreColumnSources self.now.fresh_only self.now.survivors.now.catalog scratch.new.column_sources) }
+        ensures scratch { OnOk result (AreColumnSources self.now.fresh_only self.now.survivors.now.catalog scratch.new.sources) }
         ensures fit { OnOk result (ColumnsFit self.now.survivors.now.catalog columns.new.items) }
         ensures sound { OnOk result (NoneAstray self.now (rows_in_projection self.now p range.0 range.1)) }
         ensures cells { OnOk result (Extends self.now (rows_in_projection self.now p range.0 range.1) columns.old.items columns.new.items) }
@@ -185,7 +180,7 @@ impl RowWalk<'_> {
         scratch: &mut Scratch,
         columns: &mut Vec<Cells>,
     ) -> Result<(), WalkFault>
-        requires scratch { AreColumnSources self.now.fresh_only self.now.survivors.now.catalog scratch.old.column_sources }
+        requires scratch { AreColumnSources self.now.fresh_only self.now.survivors.now.catalog scratch.old.sources }
         requires columns { ColumnsFit self.now.survivors.now.catalog columns.old.items }
         requires order { range.0 ≤ range.1 }
         ensures fit { OnOk result (ColumnsFit self.now.survivors.now.catalog columns.new.items) }

@@ -120,7 +120,7 @@ impl ColumnSources {
     /// Room for `projections` projections and `columns` columns. No projection is listed yet.
     pub(crate) fn new(alloc: Global, projections: usize, columns: usize) -> Result<Self, AllocError>
         requires { 0 < columns }
-        ensures { IfOk result (λ column_sources. (fresh_only : Bool) (C : CatalogData) → length C.columns ≡ columns → AreColumnSources fresh_only C column_sources) }
+        ensures { IfOk result (λ sources. (fresh_only : Bool) (C : CatalogData) → length C.columns ≡ columns → AreColumnSources fresh_only C sources) }
     {
         let mut sources = Vec::with_capacity(alloc, columns)?;
         for _column in 0..columns {
@@ -145,8 +145,8 @@ impl ColumnSources {
         fresh_only: bool,
     ) -> Result<(), AllocError>
         requires there { All (λ row. row.0 < length survivors.now.catalog.projections) reached.now }
-        requires column_sources { AreColumnSources fresh_only survivors.now.catalog self.old }
-        ensures column_sources { OnOk result (AreColumnSources fresh_only survivors.now.catalog self.new) }
+        requires sources { AreColumnSources fresh_only survivors.now.catalog self.old }
+        ensures sources { OnOk result (AreColumnSources fresh_only survivors.now.catalog self.new) }
         ensures projections { OnOk result (self.new.projections.items ≡ numbers_of reached.now) }
     {
         if are_in(reached, self.projections.as_slice()) {

@@ -101,11 +101,13 @@ impl<'a> PlanWalk<'_, 'a> {
     /// Appends the cells of rows of the projection in which a column is read.
     fn push_rows(&self, ids: &[(u16, u32)], c: usize, cells: &mut Cells) -> Result<(), AllocError>
         requires column { c < length self.now.survivors.now.catalog.columns }
-        requires rows { All (IsAt self.now.survivors.now.catalog (contents_of self.now.survivors.now) (slice_index self.now.plan.now.source c)) ids.now }
+        requires rows { All (IsAt self.now.survivors.now.catalog (contents_of self.now.survivors.now)
+            (slice_index self.now.plan.now.source c)) ids.now }
         requires kind { kind_of cells.old ≡ (column self.now.survivors.now.catalog c).kind }
         ensures kind { kind_of cells.new ≡ kind_of cells.old }
         ensures ok { OnOk result (values cells.new ≡ values cells.old
-            ++ map (image_cell self.now.survivors.now.catalog (contents_of self.now.survivors.now) (slice_index self.now.plan.now.source c) c) ids.now) }
+            ++ map (image_cell self.now.survivors.now.catalog (contents_of self.now.survivors.now)
+            (slice_index self.now.plan.now.source c) c) ids.now) }
     {
         let q = source(self.plan, c) as usize;
         let j = self.indices[c];

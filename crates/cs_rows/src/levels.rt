@@ -275,7 +275,8 @@ pub(crate) fn walk_from(
     requires row { Stands walk.now.survivors.now.catalog (contents_of walk.now.survivors.now) row }
     ensures found { IfOk result (λ sound. found_from walk.now.survivors.now.catalog walk.now.loss
         (contents_of walk.now.survivors.now) row.0 row.1 ≡ (if sound then Some reached_rows.new else None)) }
-    ensures stand { IfOk result (λ sound. sound ≡ true → AllStand walk.now.survivors.now.catalog (contents_of walk.now.survivors.now) reached_rows.new) }
+    ensures stand { IfOk result (λ sound. sound ≡ true
+        → AllStand walk.now.survivors.now.catalog (contents_of walk.now.survivors.now) reached_rows.new) }
 {
     reached_rows.start(row)?;
     for _step in 0..projection_count(walk.survivors) {

@@ -13,12 +13,12 @@ use std::alloc::{AllocError, Global};
 pub(crate) struct Scratch {
     pub(crate) reached_rows: ReachedRows,
     pub(crate) landings: Vec<(u16, JoinTarget)>,
-    pub(crate) column_sources: ColumnSources,
+    pub(crate) sources: ColumnSources,
 }
 
 /// Scratch space for walks by rows under a catalog.
 pub(crate) fn new_scratch(alloc: Global, catalog: &Catalog) -> Result<Scratch, AllocError>
-    ensures column_sources { IfOk result (λ scratch. (fresh_only : Bool) → AreColumnSources fresh_only catalog.now scratch.column_sources) }
+    ensures sources { IfOk result (λ scratch. (fresh_only : Bool) → AreColumnSources fresh_only catalog.now scratch.sources) }
     ensures rules { IsCatalog catalog.now }
 {
     let projections = catalog.projection_count() as usize;
@@ -26,6 +26,6 @@ pub(crate) fn new_scratch(alloc: Global, catalog: &Catalog) -> Result<Scratch, A
     Ok(Scratch {
         reached_rows: ReachedRows::new(alloc, projections)?,
         landings: Vec::with_capacity(alloc, projections)?,
-        column_sources: ColumnSources::new(alloc, projections, columns)?,
+        sources: ColumnSources::new(alloc, projections, columns)?,
     })
 }

@@ -61,7 +61,7 @@ impl RowWalk<'_> {
     /// Walks from one row only to check whether it is led astray.
     fn follow_row(&self, row: (u16, (u16, u32)), scratch: &mut Scratch) -> Result<(), WalkFault>
         requires { Stands self.now.survivors.now.catalog (contents_of self.now.survivors.now) row }
-        ensures column_sources { scratch.new.column_sources ≡ scratch.old.column_sources }
+        ensures sources { scratch.new.sources ≡ scratch.old.sources }
         ensures sound { OnOk result (NoneAstray self.now (row ∷ [])) }
         ensures fault { IfErr result (IsFirstAstray self.now (row ∷ [])) }
     {
@@ -86,7 +86,7 @@ impl RowWalk<'_> {
         requires segment { segment.1 < segments self.now.survivors.now.catalog segment.0 }
         requires order { rows.0 ≤ rows.1 }
         requires within { rows.1 ≤ length ((contents_of self.now.survivors.now).image segment.0 segment.1).pairs }
-        ensures column_sources { scratch.new.column_sources ≡ scratch.old.column_sources }
+        ensures sources { scratch.new.sources ≡ scratch.old.sources }
         ensures sound { OnOk result (NoneAstray self.now (reached_from segment.0 segment.1 rows.0 (rows.1 - rows.0))) }
         ensures fault { IfErr result (IsFirstAstray self.now (reached_from segment.0 segment.1 rows.0 (rows.1 - rows.0))) }
     {
@@ -114,7 +114,7 @@ impl RowWalk<'_> {
         requires segment { segment.1 < segments self.now.survivors.now.catalog segment.0 }
         requires order { rows.0 ≤ rows.1 }
         requires within { rows.1 ≤ length ((contents_of self.now.survivors.now).image segment.0 segment.1).pairs }
-        ensures column_sources { scratch.new.column_sources ≡ scratch.old.column_sources }
+        ensures sources { scratch.new.sources ≡ scratch.old.sources }
         ensures fit { OnOk result (ColumnsFit self.now.survivors.now.catalog columns.new.items) }
         ensures sound { OnOk result (NoneAstray self.now (reached_from segment.0 segment.1 rows.0 (rows.1 - rows.0))) }
         ensures cells { OnOk result (Extends self.now (reached_from segment.0 segment.1 rows.0 (rows.1 - rows.0))

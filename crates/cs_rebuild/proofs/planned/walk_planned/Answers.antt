@@ -14,7 +14,7 @@ use Rattle.cs_rebuild.proofs.WalkPieces.{all_walked, first_astray, none_astray, 
 use Rattle.cs_rebuild.proofs.planned.walk_planned.Goals as goal
 
 module _ (w : PlanWalk) (cut count : ℕ) (parts : List FollowedRows) (cover : length (anchor_rows w) ≤ count * cut)
-  (done : IsAnswered (WalkFaultAt w.survivors.now.catalog (contents_of w.survivors.now) w.plan.now cut) (IsFollowedAt w cut) count parts) where
+    (done : IsAnswered (WalkFaultAt w.survivors.now.catalog (contents_of w.survivors.now) w.plan.now cut) (IsFollowedAt w cut) count parts) where
   -- the rows of all parts are those of the whole walk
   all : walk_result w ≡ Ok (followed_rows w parts)
   all =

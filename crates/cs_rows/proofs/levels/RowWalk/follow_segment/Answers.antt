@@ -20,7 +20,7 @@ loop-i-preserved c =
     let s : ℕ = c.args.segment.1 in
     record {
       start = omega arith;
-      column_sources = c.follow_row.ensures.column_sources ∙ c.loop-i.invariant.column_sources;
+      sources = c.follow_row.ensures.sources ∙ c.loop-i.invariant.sources;
       sound = ap (find (is_stray_row c.args.self.now.survivors.now.catalog c.args.self.now.loss (contents_of c.args.self.now.survivors.now))) (run_more (row_at p s) c.args.rows.0 c.loop-i.i c.loop-i.invariant.start)
           ∙ none_stray c.args.self.now.survivors.now.catalog c.args.self.now.loss (contents_of c.args.self.now.survivors.now) (reached_from p s c.args.rows.0 (c.loop-i.i - c.args.rows.0)) (row_at p s c.loop-i.i ∷ []) c.loop-i.invariant.sound c.in-Ok.ensures.sound;
     }

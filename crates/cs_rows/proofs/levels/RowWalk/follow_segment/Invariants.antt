@@ -8,6 +8,6 @@ use Rattle.cs_rows.proofs.levels.RowWalk.follow_segment.Given as goal
 abbrev pub invariant-loop-i : goal.invariant-loop-i
 invariant-loop-i l = record {
   start : l.fn.rows.0 ≤ l.i;
-  column_sources : l.scratch.column_sources ≡ l.fn.scratch.column_sources;
+  sources : l.scratch.sources ≡ l.fn.scratch.sources;
   sound : find (is_stray_row l.self.survivors.now.catalog l.self.loss (contents_of l.self.survivors.now)) (reached_from l.fn.segment.0 l.fn.segment.1 l.fn.rows.0 (l.i - l.fn.rows.0)) ≡ None;
 }

@@ -11,7 +11,7 @@ use Rattle.cs_rows.proofs.levels.RowWalk.walk_projection.Given as goal
 abbrev pub invariant-loop-s : goal.invariant-loop-s
 invariant-loop-s l = record {
   few : l.first ≤ l.s * 4294967296;
-  scratch : AreColumnSources l.self.fresh_only l.self.survivors.now.catalog l.scratch.column_sources;
+  scratch : AreColumnSources l.self.fresh_only l.self.survivors.now.catalog l.scratch.sources;
   fit : ColumnsFit l.self.survivors.now.catalog l.columns.items;
   count : l.first ≡ length (done (kept_rows l.self.survivors.now.catalog l.self.loss (contents_of l.self.survivors.now) l.p) l.s);
   sound : find (is_stray_row l.self.survivors.now.catalog l.self.loss (contents_of l.self.survivors.now)) (part (kept_rows l.self.survivors.now.catalog l.self.loss (contents_of l.self.survivors.now) l.p) l.fn.range.0 l.fn.range.1 l.s) ≡ None;
