@@ -120,7 +120,7 @@ impl ColumnSources {
     /// Room for `projections` projections and `columns` columns. No projection is listed yet.
     pub(crate) fn new(alloc: Global, projections: usize, columns: usize) -> Result<Self, AllocError>
         requires { 0 < columns }
-        ensures { IfOk result (λ sources. (fresh_only : Bool) (C : CatalogData) → length C.columns ≡ columns → AreColumnSources fresh_only C sources) }
+        ensures { IfOk result (λ s. (fresh_only : Bool) (C : CatalogData) → length C.columns ≡ columns → AreColumnSources fresh_only C s) }
     {
         let mut sources = Vec::with_capacity(alloc, columns)?;
         for _column in 0..columns {
