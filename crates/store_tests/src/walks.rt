@@ -3,9 +3,8 @@ ghost use Rattle.std.specs.Prelude.{◌≡◌, map, IfOk};
 
 use crate::surviving::catalogs::{NUMBERED_CITIES, THREE_ORDERS, TWO_ORDERS};
 use crate::surviving::{Store, catalog};
-use cs_rows::BorrowedColumns;
 use cs_rows::range::{WalkFault, walk_range};
-use cs_rows::{PlanWalk, Table, Walked, join_once};
+use cs_rows::{BorrowedColumns, PlanWalk, Table, Walked, join_once};
 use cs_safety::plan;
 use cs_schema::samples::SPLIT_COLUMNS;
 use cs_schema::{Catalog, Cells, Kind, Loss, Value};
@@ -99,18 +98,21 @@ fn numbered_cities<'a>(rt: &(impl Abort + AllocGlobal), catalog: &'a Catalog) ->
     store
 }
 
-/// Expects the keys of the rows of the plan without a loss, copied and borrowed, and which of these rows are astray.
+/// Expects the keys of the plan without a loss, gathered of the first row and borrowed, and that the second row is astray.
 fn expect_keys(rt: &(impl Abort + AllocGlobal), store: &Store<'_>) {
     let alloc = rt.alloc();
     let catalog = store.survivors.catalog();
     let _projections = catalog.projection_count();
     let plan = plan(catalog, Loss::none()).expect(rt, "a plan");
     let walk = PlanWalk::new(alloc, catalog, &plan, &store.survivors).expect(rt, "a walk");
-    assert!(rt; walk.reads_anchor_alone());
     assert!(rt; walk.column_count() == 3 && walk.kind(0) == Kind::Int);
-    let keys = walk.anchor_column(alloc, 0);
+    let Ok(followed) = walk.follow(alloc, 0, 1) else {
+        panic!(rt; "no row");
+    };
+    assert!(rt; followed.from == 0 && followed.to == 1);
+    let keys = walk.gather(alloc, &[followed], 0);
     let keys = keys.expect(rt, "the keys");
-    assert!(rt; keys.len() == 2 && keys.cell(1) == Value::Int(2));
+    assert!(rt; keys.len() == 1 && keys.cell(0) == Value::Int(1));
     let mut made = Vec::new(alloc);
     let Ok(()) = made.push(Cells::new(alloc, Kind::Int)) else {
         panic!(rt; "no memory");
@@ -118,9 +120,8 @@ fn expect_keys(rt: &(impl Abort + AllocGlobal), store: &Store<'_>) {
     let mut lent = BorrowedColumns::none(alloc);
     lent.push(walk.lone_column(0)).expect(rt, "memory");
     let table = Table::of_columns(made, lent);
-    assert!(rt; table.rows() == 2 && table.column(0).same(1, &keys, 1));
-    assert!(rt; walk.follow_range(0, 1).is_ok());
-    assert!(rt; is_astray(walk.follow_range(0, 2)));
+    assert!(rt; table.rows() == 2 && table.column(0).same(0, &keys, 0));
+    assert!(rt; is_astray(walk.follow(alloc, 0, 2)));
 }
 
 // The first projection has every column, and its rows still lead to the second.

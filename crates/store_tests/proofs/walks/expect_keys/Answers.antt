@@ -1,4 +1,5 @@
 use Rattle.std.proofs.Common.{◌≡◌, List, ◌∷◌, ◌++◌, [], Option, sym, ap, subst, ◌∙◌}
+use Rattle.std.proofs.lemmas.List.Elements.{All-nil, All-cons}
 use Rattle.cs_schema.specs.declared.cells.Cells.{Cells}
 use Rattle.cs_rows.specs.TableView.{over}
 use Rattle.cs_rows.specs.WalkedView.{AreColumns}
@@ -10,4 +11,7 @@ one_made cells lent none made none_is made_is =
     subst (λ l. AreColumns (over l lent)) (sym (made_is ∙ ap (λ l. l ++ cells ∷ []) none_is)) (one_column cells lent)
 
 pub of_columns-table-requires : goal.of_columns-table-requires
-of_columns-table-requires g c = one_made c.new-2.result c.push-2.new.self c.new-made.result.items _ c.new-made.ensures.items c.in-Ok.ensures.items
+of_columns-table-requires g c = one_made c.new-2.result c.push-2.new.self c.new-made.result.items _ c.new-made.ensures.items c.in-Ok-push.ensures.items
+
+pub gather-keys-requires-clause-followed : goal.gather-keys-requires-clause-followed
+gather-keys-requires-clause-followed g c = All-cons _ c.in-Ok.followed [] c.in-Ok.ensures.followed (All-nil _)
