@@ -71,7 +71,8 @@ fn answer_beside<R: Threads + Sync, G: Gate + Sync>(
 )
     requires safe { IsSafe catalog.now loss }
     requires held { (F : Files) × (shared_files files.old ≡ Some F) × (shared_files shared.old ≡ Some F) }
-    ensures digests { IfOk result.0 (λ unsealed. (F : Files) → shared_files files.old ≡ Some F → AreDigests catalog.now loss (contents_of F) unsealed) }
+    ensures digests { IfOk result.0 (λ unsealed. (F : Files) → shared_files files.old ≡ Some F
+        → AreDigests catalog.now loss (contents_of F) unsealed) }
     ensures answer { (F : Files) → shared_files shared.old ≡ Some F → IsAnswerOfRead wanted catalog.now (resealed (contents_of F)) loss result.1 }
 {
     // `join` guarantees nothing for a closure over a struct of references
