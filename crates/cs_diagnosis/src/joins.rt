@@ -23,7 +23,12 @@ use std::thread::Threads;
 
 /// The site with which the entry for a key is in conflict, if any: the site of the row's segment if the row has another
 /// key there, or the join index's own site if every key would be wrong.
-fn key_conflict(entries: &ExpectedJoinIndex<'_>, site: u8, entry: (u16, u32), key: u32) -> Option<u8>
+fn key_conflict(
+    entries: &ExpectedJoinIndex<'_>,
+    site: u8,
+    entry: (u16, u32),
+    key: u32,
+) -> Option<u8>
     requires survives { Survives entries.now.store.now.catalog.now entries.now.store.now.loss
         (NameData.Jix entries.now.p entries.now.s entries.now.q) }
     requires site { site ≡ site_of entries.now.store.now.catalog.now (NameData.Seg entries.now.p entries.now.s) }
