@@ -1,6 +1,7 @@
 use Rattle.std.proofs.Common.{◌≡◌, List, ◌∷◌, ◌++◌, [], Option, sym, ap, subst, ◌∙◌}
 use Rattle.std.proofs.lemmas.List.Elements.{All-nil, All-cons}
 use Rattle.cs_schema.specs.declared.cells.Cells.{Cells}
+use Rattle.cs_rows.specs.PlanWalks.{IsFollowed}
 use Rattle.cs_rows.specs.TableView.{over}
 use Rattle.cs_rows.specs.WalkedView.{AreColumns}
 use Rattle.cs_rows.proofs.TableLemmas.{one_column}
@@ -14,4 +15,4 @@ pub of_columns-table-requires : goal.of_columns-table-requires
 of_columns-table-requires g c = one_made c.new-2.result c.push-2.new.self c.new-made.result.items _ c.new-made.ensures.items c.in-Ok-push.ensures.items
 
 pub gather-keys-requires-clause-followed : goal.gather-keys-requires-clause-followed
-gather-keys-requires-clause-followed g c = All-cons _ c.in-Ok.followed [] c.in-Ok.ensures.followed (All-nil _)
+gather-keys-requires-clause-followed g c = All-cons (IsFollowed c.expect-walk.result) c.in-Ok.followed [] c.in-Ok.ensures.followed (All-nil (IsFollowed c.expect-walk.result))
