@@ -1,15 +1,15 @@
 //! Building a column of the table from the row ids that a walk has followed, each cell once.
 //!
 //! A column that is read at the anchor is copied in runs of rows, or borrowed if the anchor has one segment.
-ghost use Rattle.std.specs.Prelude.{◌≡◌, ◌<◌, ◌≤◌, ◌-◌, ◌*◌, ◌++◌, All, length, map, IfOk, IfSome, OnOk, slice_index};
+ghost use Rattle.std.specs.Prelude.{◌≡◌, ◌<◌, ◌≤◌, ◌-◌, ◌*◌, ◌++◌, All, length, map, IfOk, IfSome, OnOk, is_some, slice_index};
 ghost use Rattle.cs_schema.specs.Values.{values, kind_of};
 ghost use Rattle.cs_schema.specs.Rows.{cell};
 ghost use Rattle.cs_schema.specs.CatalogData.{column, segments};
-ghost use Rattle.cs_rows.specs.Survivors.{contents_of};
+ghost use Rattle.cs_rows.specs.Survivors.{contents_of, image_at};
 ghost use Rattle.cs_rows.specs.Steps.{IsAt};
 ghost use Rattle.cs_rows.specs.Columns.{rows_from};
 ghost use Rattle.cs_rows.specs.Walk.{image_cell};
-ghost use Rattle.cs_rows.specs.PlanWalks.{IsFollowed, anchor_rows, anchor_rows_between, cells_of, followed_rows, walked_rows};
+ghost use Rattle.cs_rows.specs.PlanWalks.{IsFollowed, anchor_rows_between, cells_of, followed_rows, walked_rows};
 
 use crate::catalog_of::segments;
 use crate::columns::push_cell;
@@ -175,10 +175,13 @@ impl<'a> PlanWalk<'_, 'a> {
 
     /// The anchor's cells of a column of the table, borrowed from its image, if the column is read at the anchor and
     /// the anchor has one segment.
-    fn find_lone_column(&self, c: usize) -> Option<&'a Cells>
+    pub fn lone_column(&self, c: usize) -> Option<&'a Cells>
         requires column { c < length self.now.survivors.now.catalog.columns }
         ensures kind { IfSome result (λ cells. kind_of cells.now ≡ (column self.now.survivors.now.catalog c).kind) }
-        ensures cells { IfSome result (λ cells. values cells.now ≡ cells_of self.now (anchor_rows self.now) c) }
+        ensures cells { IfSome result (λ cells. values cells.now ≡ map (λ row. cell row c) (walked_rows self.now)) }
+        ensures found { slice_index self.now.plan.now.source c ≡ self.now.plan.now.anchor
+            → segments self.now.survivors.now.catalog self.now.plan.now.anchor ≡ 1
+            → is_some result ≡ is_some (image_at self.now.survivors.now self.now.plan.now.anchor 0) }
     {
         let anchor = anchor(self.plan);
         let survivors = self.survivors;
@@ -189,15 +192,5 @@ impl<'a> PlanWalk<'_, 'a> {
             Some(image) => Some(image.column(self.indices[c])),
             None => None,
         }
-    }
-
-    /// The anchor's cells of a column of the table, borrowed from its image, if the column is read at the anchor and
-    /// the anchor has one segment.
-    pub fn lone_column(&self, c: usize) -> Option<&'a Cells>
-        requires column { c < length self.now.survivors.now.catalog.columns }
-        ensures kind { IfSome result (λ cells. kind_of cells.now ≡ (column self.now.survivors.now.catalog c).kind) }
-        ensures cells { IfSome result (λ cells. values cells.now ≡ map (λ row. cell row c) (walked_rows self.now)) }
-    {
-        self.find_lone_column(c)
     }
 }
