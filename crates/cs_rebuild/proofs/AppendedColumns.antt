@@ -1,20 +1,16 @@
 -- Rows from concatenated columns, and the width of walked rows.
-use Rattle.std.proofs.Common.{◌≡◌, ℕ, ◌<◌, List, [], ◌∷◌, length, map, get_or, refl, sym, ◌∙◌, subst, arith, true, false, Option, Some, None, Result, Ok}
-use Rattle.std.specs.Prelude.{All, IfOk, IfSome}
+use Rattle.std.proofs.Common.{◌≡◌, ℕ, ◌<◌, List, length, map, get_or, refl, sym, ◌∙◌, subst, arith, true, false, Option, Some, None, Result, Ok}
+use Rattle.std.specs.Prelude.{IfOk, IfSome}
 use Rattle.std.specs.List.{AllZip, range_with_len}
 use Rattle.std.specs.Option.{is_some, unwrap_or}
 use Rattle.std.specs.declared.alloc.AllocError.{AllocError}
 use Rattle.std.proofs.lemmas.Bool.{both_ways}
-use Rattle.std.proofs.lemmas.List.Elements.{All-nil, All-cons}
-use Rattle.std.proofs.lemmas.List.FromFn.{length-map-range_with_len}
 use Rattle.cs_schema.specs.declared.cells.Cells.{Cells}
 use Rattle.cs_schema.specs.CatalogData.{CatalogData}
 use Rattle.cs_schema.specs.Rows.{Row}
-use Rattle.cs_safety.specs.PlanData.{PlanData}
 use Rattle.cs_rows.specs.Columns.{ColumnsFit}
 use Rattle.cs_rows.specs.RowSteps.{AreRows}
 use Rattle.cs_rows.specs.TableView.{over}
-use Rattle.cs_rows.specs.Walk.{At, Contents, walked_row, walked_cell}
 use Rattle.cs_rows.proofs.Collected.{each_made}
 use Rattle.cs_rows.proofs.TableLemmas as table
 use Rattle.cs_rebuild.specs.Walking.{IsColumnOf}

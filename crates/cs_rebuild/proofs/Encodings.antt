@@ -7,9 +7,8 @@ use Rattle.std.proofs.lemmas.Option.{same_Some, slice_get-get_or, get_or_from_sl
 use Rattle.std.proofs.Math.Seq.{take-add}
 use Rattle.std.proofs.Math.Nat.{lt-div-mul-add}
 use Rattle.cs_schema.specs.declared.cells.Value.{Value}
-use Rattle.cs_schema.specs.declared.kinds.Code.{Code}
 use Rattle.cs_schema.specs.declared.kinds.Kind.{Kind}
-use Rattle.cs_schema.specs.CatalogData.{CatalogData, ColumnData, no_column, projection, column, code_at, kind_at}
+use Rattle.cs_schema.specs.CatalogData.{CatalogData, ColumnData, no_column, projection, column}
 use Rattle.cs_schema.specs.Order.{row_limit}
 use Rattle.cs_schema.specs.Rows.{Row, cell}
 use Rattle.cs_schema.proofs.Lists.{slice_get_map}

@@ -1,14 +1,12 @@
 -- The first bad file by name, by its body or by its digest.
-use Rattle.std.proofs.Common.{◌≡◌, ℕ, List, refl, sym, ap, subst, ◌∙◌, inl, inr, take, length, ◌-◌, ◌⊎◌, Option, Some, None, Ordering}
-use Rattle.std.specs.Option.{option_map}
-use Rattle.std.specs.Ordering.{ordering_reverse, nat_cmp}
+use Rattle.std.proofs.Common.{◌≡◌, ℕ, List, refl, sym, ap, subst, ◌∙◌, inr, ◌-◌, ◌⊎◌, Some, None, Ordering}
+use Rattle.std.specs.Ordering.{ordering_reverse}
 use Rattle.std.specs.declared.cmp.Ordering.TheVariants.{Less, Equal, Greater}
-use Rattle.std.proofs.lemmas.Option.{none-some, same_Some}
+use Rattle.std.proofs.lemmas.Option.{same_Some}
 use Rattle.cs_schema.specs.declared.file_name.FileName.{FileName}
 use Rattle.cs_schema.specs.CatalogData.{CatalogData}
 use Rattle.cs_schema.specs.CatalogRules.{IsCatalog}
 use Rattle.cs_schema.specs.FileNames.{FileContents, Survives, name_cmp, surviving}
-use Rattle.cs_schema.specs.Lists.{IsIn}
 use Rattle.cs_schema.specs.Losses.{Sites}
 use Rattle.cs_schema.specs.NameOrder.{name_cmp_total, name_cmp-IsAntisymmetric}
 use Rattle.cs_schema.proofs.Surviving.{surviving_names}
@@ -16,12 +14,11 @@ use Rattle.cs_store.specs.declared.fault.Fault.{Fault}
 use Rattle.cs_segment.specs.SegmentFile.{sealed, segment_body}
 use Rattle.cs_delta.specs.DeltaFile.{delta_body}
 use Rattle.cs_jix.specs.JoinIndex.{join_index_body}
-use Rattle.cs_recovery.specs.Contents.{IsImageOf, IsJoinOf}
 use Rattle.cs_recovery.specs.Claims.{SameSurvivors}
-use Rattle.cs_recovery.specs.Verdicts.{IsSound, IsFirstBadFile, FileFault}
+use Rattle.cs_recovery.specs.Verdicts.{IsSound, IsFirstBadFile}
 use Rattle.cs_recovery.proofs.FewerSurvive.{image_under, join_under}
-use Rattle.cs_rebuild.specs.Reading.{AreDigests, AreSealedAmong, IsFirstUnsealed, resealed, reseal}
-use Rattle.cs_rebuild.specs.Steps.{AreBodiesSound, AreRead, IsBadFile}
+use Rattle.cs_rebuild.specs.Reading.{AreSealedAmong, IsFirstUnsealed, resealed}
+use Rattle.cs_rebuild.specs.Steps.{AreBodiesSound, IsBadFile}
 use Rattle.cs_rebuild.proofs.Names.{name_tail}
 use Rattle.cs_rebuild.proofs.Sealing.{same_file}
 

@@ -1,6 +1,5 @@
 -- The answers that are left of a list of them.
-use Rattle.std.proofs.Common.{◌≡◌, ℕ, suc, ◌+◌, List, ◌∷◌, ap, refl, subst, Some, arith}
-use Rattle.std.specs.List.{slice_get}
+use Rattle.std.proofs.Common.{◌≡◌, ℕ, suc, ◌+◌, List, ◌∷◌, refl, subst, arith}
 use Rattle.cs_board.specs.Pieces.{AnswersInOrder}
 
 module _ {X : Type 0} (P : ℕ → X → Type 0) where

@@ -1,5 +1,5 @@
 -- Bodies that are read apart from their digests, and files whose digests are right.
-use Rattle.std.proofs.Common.{◌≡◌, ℕ, zero, suc, ◌-◌, ◌<◌, ◌++◌, ◌∷◌, [], List, Bor, length, refl, sym, ap, subst, ◌∙◌, true, false, Option, Some, None, inl, inr, arith, get_or, take}
+use Rattle.std.proofs.Common.{◌≡◌, ℕ, zero, suc, ◌-◌, ◌<◌, ◌++◌, ◌∷◌, [], List, Bor, length, refl, sym, ap, subst, ◌∙◌, true, Option, Some, None, inl, inr, arith, get_or, take}
 use Rattle.std.specs.List.{All, range_with_len, slice_get}
 use Rattle.std.proofs.lemmas.List.FromFn.{get_or-range_with_len, length-range_with_len}
 use Rattle.std.specs.List.Sorted.{IsPermutation, IsStrictlySortedBy}

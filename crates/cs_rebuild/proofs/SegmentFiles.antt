@@ -1,6 +1,6 @@
 -- A segment of a store, the bodies of its columns, and its file.
-use Rattle.std.proofs.Common.{◌≡◌, ℕ, ◌+◌, ◌<◌, ◌≤◌, List, [], ◌∷◌, ◌++◌, map, length, sym, ap, subst, ◌∙◌, arith, Result, Ok, Err}
-use Rattle.std.specs.Prelude.{IfOk, OnOk, slice_index}
+use Rattle.std.proofs.Common.{◌≡◌, ℕ, ◌+◌, List, [], ◌∷◌, ◌++◌, map, length, sym, ap, subst, ◌∙◌, arith, Result, Ok, Err}
+use Rattle.std.specs.Prelude.{IfOk, OnOk}
 use Rattle.std.specs.Global.{Vec}
 use Rattle.std.proofs.lemmas.List.{append-nil, length-map}
 use Rattle.std.proofs.lemmas.List.Concat.{flat_map-append}
@@ -8,12 +8,10 @@ use Rattle.std.proofs.lemmas.List.FromFn.{length-map-range_with_len, get_or-map-
 use Rattle.cs_schema.specs.declared.kinds.Code.{Code}
 use Rattle.cs_schema.specs.declared.kinds.Kind.{Kind}
 use Rattle.cs_schema.specs.declared.cells.Value.{Value}
-use Rattle.cs_schema.specs.CatalogData.{projection, kind_at}
-use Rattle.cs_schema.specs.Order.{row_limit}
 use Rattle.cs_schema.specs.Rows.{Row, cell, project}
 use Rattle.cs_codec.specs.ColumnText.{cell_bytes, column_text, FitsColumn}
 use Rattle.cs_codec.proofs.PlainLemmas.{plain_text-append}
-use Rattle.cs_order.specs.Orders.{numbers_in, row_at}
+use Rattle.cs_order.specs.Orders.{row_at}
 use Rattle.cs_piece.specs.declared.pieces.Piece.{Piece}
 use Rattle.cs_piece.specs.Pieces.{IsPieceOf, IsTextOf, IsShortTextOf}
 use Rattle.cs_piece.proofs.ShortTexts.{short_text}
@@ -21,7 +19,7 @@ use Rattle.cs_segment.specs.Bodies.{body_part}
 use Rattle.cs_segment.specs.SegmentWriter.{joined}
 use Rattle.cs_segment.specs.SegmentFile.{IsBase, base_column, sealed, segment_text}
 use Rattle.cs_segment.proofs.PieceColumns.{text_more, text_whole}
-use Rattle.cs_rebuild.specs.Encoding.{base_at, values_at, Rises}
+use Rattle.cs_rebuild.specs.Encoding.{base_at}
 use Rattle.cs_rebuild.specs.OnStore.{segment_file_on}
 use Rattle.cs_rebuild.specs.SegmentEncoder.{Appends, CanEncodeAt, HasColumn, HoldsFirst, IsBody, IsColumnBody, base_in, code_in, column_count, kind_in, values_in}
 use Rattle.cs_rebuild.specs.declared.segment_encoder.SegmentEncoder.{SegmentEncoder}

@@ -1,5 +1,5 @@
 -- What reading one segment's files finds, stated of a `SegmentSource`.
-use Rattle.std.specs.Prelude.{ℕ, List, Option, Result, Vec}
+use Rattle.std.specs.Prelude.{ℕ, List, Result, Vec}
 use Rattle.std.specs.Global.{Global}
 use Rattle.cs_schema.specs.declared.file_name.FileName.{FileName}
 use Rattle.cs_schema.specs.FileNames.{FileContents}

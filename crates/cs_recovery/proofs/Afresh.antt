@@ -1,5 +1,5 @@
 -- A segment that is written anew: its columns fit, and its image has the keys 1, 2, 3, ..
-use Rattle.std.proofs.Common.{◌≡◌, ◌≢◌, ℕ, zero, suc, ◌+◌, ◌-◌, ◌<◌, ◌≤◌, List, [], ◌∷◌, ◌++◌, map, refl, sym, ap, subst, ◌∙◌, true, false, ◌&&◌, ◌||◌, ◌⊎◌, inl, inr, Option, Some, length, get_or, arith, ◌==◌, eq-eqb, pos, Ordering}
+use Rattle.std.proofs.Common.{◌≡◌, ℕ, zero, suc, ◌+◌, ◌-◌, ◌<◌, ◌≤◌, List, [], ◌∷◌, ◌++◌, map, refl, sym, ap, subst, ◌∙◌, true, false, ◌||◌, inl, inr, Some, length, get_or, arith, ◌==◌, eq-eqb, pos, Ordering}
 use Rattle.std.specs.Prelude.{slice_index, ◌≤ℤ◌}
 use Rattle.std.specs.List.{slice_get, range_with_len, enumerate_from, IsDistinct}
 use Rattle.std.specs.List.Sorted.{IsStrictlySortedBy}

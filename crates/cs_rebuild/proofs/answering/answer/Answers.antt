@@ -1,4 +1,4 @@
-use Rattle.std.proofs.Common.{◌≡◌, ◌∙◌, ap, sym, Some}
+use Rattle.std.proofs.Common.{◌∙◌, ap, sym, Some}
 use Rattle.std.proofs.lemmas.Option.{same_Some}
 use Rattle.rayon.proofs.ListFacts.{IfOk-then}
 use Rattle.cs_store.specs.FileSet.{contents_of}

@@ -1,5 +1,5 @@
 use Rattle.std.proofs.Common.{sym, subst}
-use Rattle.cs_rebuild.specs.SegmentEncoder.{CanEncodeAt, IsPieceAt}
+use Rattle.cs_rebuild.specs.SegmentEncoder.{CanEncodeAt}
 use Rattle.cs_rebuild.proofs.Encodings.{can_encode_cut}
 use Rattle.cs_rebuild.proofs.SegmentFiles.{can_encode_all}
 use Rattle.cs_rebuild.proofs.column_encoder.ChunkTasksTasks.task.Goals as goal

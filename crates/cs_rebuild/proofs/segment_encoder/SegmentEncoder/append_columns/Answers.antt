@@ -1,4 +1,4 @@
-use Rattle.std.proofs.Common.{◌≡◌, ◌+◌, ◌-◌, sym, subst, arith}
+use Rattle.std.proofs.Common.{◌≡◌, ◌+◌, ◌-◌, subst, arith}
 use Rattle.cs_rebuild.specs.SegmentEncoder.{HoldsFirst, IsBody, column_count}
 use Rattle.cs_rebuild.proofs.SegmentFiles.{on_then}
 use Rattle.cs_rebuild.proofs.segment_encoder.SegmentEncoder.append_columns.Goals as goal
