@@ -44,6 +44,11 @@ pub struct SegmentEncoder<'a> {
     pub ghost chunks_are: { chunks ≡ pieces_of (length numbers.now) cut },
 }
 
+/// Whether a column is slow to encode, since each of its cells is looked at.
+fn is_slow(code: Code) -> bool {
+    code == Code::Runs || code == Code::Bitmaps
+}
+
 /// An estimate, on the high side, of the length in bytes of an encoded column of `rows` rows.
 fn column_size(column: &Cells, code: Code, rows: usize) -> usize
     ensures { result ≤ 265 * rows }
@@ -163,7 +168,34 @@ impl<'a> SegmentEncoder<'a> {
         )
     }
 
-    /// Appends all columns to a file that has none. The last one waits for `finish`.
+    /// Appends the first `count` columns to a file that has none. Each is appended while the next one is encoded. The
+    /// last of them waits for `finish`.
+    fn append_first<R: Threads + Sync, G: Gate + Sync>(
+        &self,
+        run: &Run<'_, R, G>,
+        file: &mut SegmentWriter,
+        count: usize,
+    ) -> Result<(), AllocError>
+        requires count { count ≤ column_count self.now }
+        requires file { HoldsFirst self.now 0 file.old }
+        ensures { OnOk result (HoldsFirst self.now count file.new) }
+    {
+        if count == 0 {
+            return Ok(());
+        }
+        // for its clause on the number of columns
+        let _width = self.store.catalog.width(self.p);
+        let mut body = self.encode_column(run, 0)?;
+        for next in 1..count {
+            let (appended, encoded) = self.append_beside(run, file, next, body);
+            appended?;
+            body = encoded?;
+        }
+        self.queue(file, count - 1, body)
+    }
+
+    /// Appends all columns to a file that has none. If the last one is slow to encode, that begins at once, in parallel
+    /// with the others. The last two columns at most wait for `finish`.
     fn append_columns<R: Threads + Sync, G: Gate + Sync>(
         &self,
         run: &Run<'_, R, G>,
@@ -173,13 +205,24 @@ impl<'a> SegmentEncoder<'a> {
         ensures { OnOk result (HoldsFirst self.now (column_count self.now) file.new) }
     {
         let width = self.store.catalog.width(self.p);
-        let mut body = self.encode_column(run, 0)?;
-        for next in 1..width {
-            let (appended, encoded) = self.append_beside(run, file, next, body);
-            appended?;
-            body = encoded?;
+        let last = width - 1;
+        if !is_slow(self.store.catalog.code(self.p, last)) {
+            return self.append_first(run, file, width);
         }
-        self.queue(file, width - 1, body)
+        // `join` guarantees nothing for a closure over a struct of references
+        let (appended, encoded) = join_mut(
+            run.rt,
+            &mut || -> Result<(), AllocError>
+                requires { HasColumn self.now last × HoldsFirst self.now 0 file.now }
+                ensures { OnOk result (HoldsFirst self.entry.now last file.exit.now) }
+            { self.append_first(run, file, last) },
+            &mut || -> Result<Vec<Vec<u8>>, AllocError>
+                requires { HasColumn self.now last }
+                ensures { IfOk result (IsBody self.entry.now last) }
+            { self.encode_column(run, last) },
+        );
+        appended?;
+        self.queue(file, last, encoded?)
     }
 
     /// The file of the segment. Its columns are encoded in one round.

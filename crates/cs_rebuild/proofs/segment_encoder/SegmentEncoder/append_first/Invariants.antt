@@ -1,6 +1,6 @@
 use Rattle.std.proofs.Common.{◌-◌}
 use Rattle.cs_rebuild.specs.SegmentEncoder.{HoldsFirst, IsBody}
-use Rattle.cs_rebuild.proofs.segment_encoder.SegmentEncoder.append_columns.Given as goal
+use Rattle.cs_rebuild.proofs.segment_encoder.SegmentEncoder.append_first.Given as goal
 
 -- the file has the columns before the last encoded one, which is still to be appended
 abbrev pub invariant-loop-next : goal.invariant-loop-next
