@@ -17,10 +17,10 @@ use Rattle.cs_rebuild.specs.Walking.{IsColumnOf}
 
 -- ---- columns, one by one
 
-module _ (C : CatalogData) (rows : List Row) (lent : List (Option Cells)) where
+module _ (C : CatalogData) (rows : List Row) (borrowed : List (Option Cells)) where
   -- the borrowed column, or else the owned one, has the cells of the rows
   abbrev pub IsColumn : ℕ → Cells → Type 0
-  IsColumn c cells = IsColumnOf C rows c (unwrap_or (get_or lent c None) cells)
+  IsColumn c cells = IsColumnOf C rows c (unwrap_or (get_or borrowed c None) cells)
 
   abbrev pub IsJoined : ℕ → Result Cells AllocError → Type 0
   IsJoined c r = IfOk r (IsColumn c)
@@ -29,22 +29,22 @@ module _ (C : CatalogData) (rows : List Row) (lent : List (Option Cells)) where
     long : length columns ≡ length C.columns
     long = (each_made AllocError IsColumn (length C.columns) columns joined).0
 
-    each : (k : ℕ) (d : Cells) → k < length C.columns → IsColumnOf C rows k (get_or (over columns lent) k d)
+    each : (k : ℕ) (d : Cells) → k < length C.columns → IsColumnOf C rows k (get_or (over columns borrowed) k d)
     each k d l =
-        subst (IsColumnOf C rows k) (sym (table.each columns lent k d (omega (arith, l, long))))
+        subst (IsColumnOf C rows k) (sym (table.each columns borrowed k d (omega (arith, l, long))))
         ((each_made AllocError IsColumn (length C.columns) columns joined).1 k d l)
 
-    pub joined_fit : ColumnsFit C (over columns lent)
-    joined_fit = record { count = table.count columns lent ∙ long; kinds = λ c d l. (each c d l).0 }
+    pub joined_fit : ColumnsFit C (over columns borrowed)
+    joined_fit = record { count = table.count columns borrowed ∙ long; kinds = λ c d l. (each c d l).0 }
 
-    pub joined_rows : AreRows C rows (over columns lent)
+    pub joined_rows : AreRows C rows (over columns borrowed)
     joined_rows c d l = (each c d l).1
 
   -- a borrowed column, and one that is not borrowed
-  pub lent_there : (c : ℕ) (x : Cells) (o : Option Cells) → is_some o ≡ true → IfSome o (IsColumnOf C rows c) → IsColumnOf C rows c (unwrap_or o x)
-  lent_there c x None e h = absurd (both_ways true (sym e) refl)
-  lent_there c x (Some b) e h = h
+  pub borrowed_there : (c : ℕ) (x : Cells) (o : Option Cells) → is_some o ≡ true → IfSome o (IsColumnOf C rows c) → IsColumnOf C rows c (unwrap_or o x)
+  borrowed_there c x None e h = absurd (both_ways true (sym e) refl)
+  borrowed_there c x (Some b) e h = h
 
-  pub made_there : (c : ℕ) (x : Cells) (o : Option Cells) → is_some o ≡ false → IsColumnOf C rows c x → IsColumnOf C rows c (unwrap_or o x)
-  made_there c x None e h = h
-  made_there c x (Some b) e h = absurd (both_ways true e refl)
+  pub owned_there : (c : ℕ) (x : Cells) (o : Option Cells) → is_some o ≡ false → IsColumnOf C rows c x → IsColumnOf C rows c (unwrap_or o x)
+  owned_there c x None e h = h
+  owned_there c x (Some b) e h = absurd (both_ways true e refl)

@@ -1,3 +1,4 @@
+pub mod AllMeet
 pub mod AppendedColumns
 pub mod CellsAlike
 pub mod Compared
@@ -23,7 +24,6 @@ pub mod VerifiedStores
 pub mod ListedFiles
 pub mod WalkPieces
 pub mod WrittenFiles
-pub mod OneKind
 pub mod BuiltFiles
 pub mod PickedColumns
 pub mod FewRows

@@ -10,7 +10,7 @@ use Rattle.cs_schema.specs.Rows.{Row, cell}
 use Rattle.cs_order.specs.Orders.{row_at}
 use Rattle.cs_rows.specs.Columns.{ColumnsFit}
 use Rattle.cs_rows.specs.RowSteps.{AreRows}
-use Rattle.cs_rows.proofs.TableLemmas.{none_lent}
+use Rattle.cs_rows.proofs.TableLemmas.{none_borrowed}
 use Rattle.cs_recovery.specs.Columns.{AreColumnsOf}
 use Rattle.cs_rebuild.specs.Walking.{IsColumnOf}
 use Rattle.cs_rebuild.proofs.AppendedColumns.{IsJoined, joined_fit, joined_rows}
@@ -27,6 +27,6 @@ pub picked_columns : (C : CatalogData) (rows : List Row) (columns : List Cells) 
 picked_columns C rows columns h =
     let P : ℕ → Result Cells AllocError → Type 0 = λ k r. IfOk r (IsColumnOf C rows k) in
     let z : AllZip (IsJoined C rows []) (range_with_len 0 (length C.columns)) (map Ok columns) = AllZip-weaken P (IsJoined C rows []) (λ k r x. IfOk-then r _ _ x (λ cells made. made)) (range_with_len 0 (length C.columns)) (map Ok columns) h in
-    let fit : ColumnsFit C columns = subst (ColumnsFit C) (none_lent columns) (joined_fit C rows [] columns z) in
-    let are : AreRows C rows columns = subst (AreRows C rows) (none_lent columns) (joined_rows C rows [] columns z) in
+    let fit : ColumnsFit C columns = subst (ColumnsFit C) (none_borrowed columns) (joined_fit C rows [] columns z) in
+    let are : AreRows C rows columns = subst (AreRows C rows) (none_borrowed columns) (joined_rows C rows [] columns z) in
     record { count = fit.count; kinds = fit.kinds; cells = are }

@@ -31,8 +31,8 @@ abbrev pub IsColumnOf : CatalogData → List Row → ℕ → Cells → Type 0
 IsColumnOf C rows c cells = (kind_of cells ≡ (column C c).kind) × (values cells ≡ map (λ row. cell row c) rows)
 
 -- each borrowed column of the table has the cells of the rows
-abbrev pub AreLent : CatalogData → List Row → List (Option Cells) → Type 0
-AreLent C rows lent = (c : ℕ) → c < length C.columns → IfSome (slice_index_or lent c None) (IsColumnOf C rows c)
+abbrev pub AreBorrowed : CatalogData → List Row → List (Option Cells) → Type 0
+AreBorrowed C rows borrowed = (c : ℕ) → c < length C.columns → IfSome (slice_index_or borrowed c None) (IsColumnOf C rows c)
 
 -- out of memory, or the fault of the row at which the walk is led astray
 abbrev pub IsWalkRefusal : Result (List Row) Stray → Fault → Type 0
@@ -54,12 +54,12 @@ pub record IsFollowedAt (walk : PlanWalk) (cut i : ℕ) (followed : FollowedRows
   pub to : followed.to ≡ i * cut + cut
 
 -- each borrowed column of the table has the cells to which the anchor's rows lead
-pub record AreLentByAnchor (walk : PlanWalk) (lent : List (Option Cells)) : Type 0 where
-  pub are : AreLent walk.survivors.now.catalog (walked_rows walk) lent
+pub record AreBorrowedFromAnchor (walk : PlanWalk) (borrowed : List (Option Cells)) : Type 0 where
+  pub are : AreBorrowed walk.survivors.now.catalog (walked_rows walk) borrowed
 
 -- the borrowed column, or else the gathered one, has the cells to which the anchor's rows lead
-pub record IsTableColumn (walk : PlanWalk) (lent : List (Option Cells)) (c : ℕ) (cells : Cells) : Type 0 where
-  pub is : IsColumnOf walk.survivors.now.catalog (walked_rows walk) c (unwrap_or (slice_index_or lent c None) cells)
+pub record IsTableColumn (walk : PlanWalk) (borrowed : List (Option Cells)) (c : ℕ) (cells : Cells) : Type 0 where
+  pub is : IsColumnOf walk.survivors.now.catalog (walked_rows walk) c (unwrap_or (slice_index_or borrowed c None) cells)
 
 -- ---- by rows
 

@@ -4,14 +4,14 @@ ghost use Rattle.cs_store.specs.FileSet.{contents_of};
 ghost use Rattle.cs_recovery.specs.BuildAnswers.{BuildClauses, IsBuildAnswer, every_site as sites_of};
 ghost use Rattle.cs_recovery.specs.Columns.{AreTableColumns, rows_in};
 
-use crate::columns_of_rows::{assert_cell_bounds, lend_columns};
+use crate::columns_of_rows::assert_cell_bounds;
 use crate::ordered_store::store_of;
 use crate::ordering::orders_of;
 use crate::run::Run;
 use crate::sound_store::SoundStore;
 use crate::writing::write_files;
 use cs_board::Gate;
-use cs_rows::Survivors;
+use cs_rows::{Survivors, Table};
 use cs_schema::{Catalog, Cells, Loss};
 use cs_store::{Fault, FileSet};
 use std::marker::Sync;
@@ -46,7 +46,7 @@ pub fn build<R: Threads + Sync, G: Gate + Sync>(
 {
     let _rules = catalog.projection_count();
     assert_cell_bounds(rows);
-    let walked = match lend_columns(run.alloc, rows) {
+    let walked = match Table::of_borrowed(run.alloc, rows) {
         Ok(walked) => walked,
         Err(_) => return Err(Fault::Memory),
     };

@@ -1,14 +1,11 @@
 //! Rows that a caller passes in columns. Nothing is copied.
-ghost use Rattle.std.specs.Prelude.{◌≡◌, ◌↔◌, All, FitsSigned, IfOk, IsTrue};
+ghost use Rattle.std.specs.Prelude.{◌↔◌, All, FitsSigned, IsTrue};
 ghost use Rattle.std.specs.Int.{w64};
 ghost use Rattle.cs_schema.specs.Values.{IsOfKind, kind_of, values};
-ghost use Rattle.cs_rows.specs.WalkedView.{AreColumns, walked_data};
 ghost use Rattle.cs_recovery.specs.Columns.{AreTableColumns};
 ghost use Rattle.cs_rebuild.specs.Building.{IsOneKind, IsShortText};
 
-use cs_rows::{BorrowedColumns, Table};
 use cs_schema::{Catalog, Cells, Texts};
-use std::alloc::{AllocError, Global};
 
 /// Whether these are columns for `build`: one for each column of the catalog's table, of its kind, and all of the same
 /// length.
@@ -65,18 +62,4 @@ pub fn assert_cell_bounds(rows: &[Cells])
     for column in rows {
         assert_column_bounds(column);
     }
-}
-
-/// The rows of these columns, all borrowed.
-pub fn lend_columns<'a>(alloc: Global, rows: &'a [Cells]) -> Result<Table<'a>, AllocError>
-    requires { AreColumns rows.now }
-    ensures { IfOk result (λ table. table ≡ walked_data rows.now) }
-{
-    let mut made: Vec<Cells> = Vec::new(alloc);
-    let mut lent = BorrowedColumns::none(alloc);
-    for c in 0..rows.len() {
-        made.push(Cells::new(alloc, rows[c].kind()))?;
-        lent.push(Some(&rows[c]))?;
-    }
-    Ok(Table::of_columns(made, lent))
 }

@@ -6,7 +6,7 @@ ghost use Rattle.cs_rows.specs.Columns.{ColumnsFit};
 ghost use Rattle.cs_rows.specs.RowSteps.{AreRows};
 ghost use Rattle.cs_rows.specs.TableView.{over};
 ghost use Rattle.cs_rows.specs.PlanWalks.{IsFollowed, followed_rows, walked_rows};
-ghost use Rattle.cs_rebuild.specs.Walking.{HasTableKinds, AreLentByAnchor, IsTableColumn};
+ghost use Rattle.cs_rebuild.specs.Walking.{HasTableKinds, AreBorrowedFromAnchor, IsTableColumn};
 
 use cs_rows::{BorrowedColumns, FollowedRows, PlanWalk, Table};
 use cs_schema::Cells;
@@ -16,34 +16,34 @@ use std::marker::Sync;
 use std::thread::Threads;
 
 /// For each column of the table, the column of the anchor's image that it borrows, if any.
-fn lent_columns<'a>(
+fn borrowed_columns<'a>(
     alloc: Global,
     walk: &PlanWalk<'_, 'a>,
 ) -> Result<BorrowedColumns<'a>, AllocError>
-    ensures { IfOk result (λ lent. AreLentByAnchor walk.now lent) }
+    ensures { IfOk result (λ borrowed. AreBorrowedFromAnchor walk.now borrowed) }
 {
-    let mut lent = BorrowedColumns::none(alloc);
+    let mut borrowed = BorrowedColumns::none(alloc);
     for c in 0..walk.column_count() {
-        lent.push(walk.lone_column(c))?;
+        borrowed.push(walk.lone_column(c))?;
     }
-    Ok(lent)
+    Ok(borrowed)
 }
 
 /// The gathered cells of a column, or no cells if the column is borrowed.
-fn gather_unless_lent(
+fn gather_unless_borrowed(
     alloc: Global,
     walk: &PlanWalk<'_, '_>,
     parts: &[FollowedRows],
-    lent: &BorrowedColumns<'_>,
+    borrowed: &BorrowedColumns<'_>,
     c: usize,
 ) -> Result<Cells, AllocError>
     requires parts { All (IsFollowed walk.now) parts.now }
     requires whole { followed_rows walk.now parts.now ≡ walked_rows walk.now }
     requires column { c < length walk.now.survivors.now.catalog.columns }
-    requires lent { AreLentByAnchor walk.now lent.now }
-    ensures { IfOk result (IsTableColumn walk.now lent.now c) }
+    requires borrowed { AreBorrowedFromAnchor walk.now borrowed.now }
+    ensures { IfOk result (IsTableColumn walk.now borrowed.now c) }
 {
-    if lent.has(c) {
+    if borrowed.has(c) {
         return Ok(Cells::new(alloc, walk.kind(c)));
     }
     walk.gather(alloc, parts, c)
@@ -55,13 +55,13 @@ fn gather_columns<R: Threads + Sync>(
     alloc: Global,
     walk: &PlanWalk<'_, '_>,
     parts: &[FollowedRows],
-    lent: &BorrowedColumns<'_>,
+    borrowed: &BorrowedColumns<'_>,
 ) -> Result<Vec<Cells>, AllocError>
     requires parts { All (IsFollowed walk.now) parts.now }
     requires whole { followed_rows walk.now parts.now ≡ walked_rows walk.now }
-    requires lent { AreLentByAnchor walk.now lent.now }
-    ensures fit { IfOk result (λ columns. ColumnsFit walk.now.survivors.now.catalog (over columns.items lent.now)) }
-    ensures rows { IfOk result (λ columns. AreRows walk.now.survivors.now.catalog (walked_rows walk.now) (over columns.items lent.now)) }
+    requires borrowed { AreBorrowedFromAnchor walk.now borrowed.now }
+    ensures fit { IfOk result (λ columns. ColumnsFit walk.now.survivors.now.catalog (over columns.items borrowed.now)) }
+    ensures rows { IfOk result (λ columns. AreRows walk.now.survivors.now.catalog (walked_rows walk.now) (over columns.items borrowed.now)) }
     ensures rules { IsCatalog walk.now.survivors.now.catalog }
 {
     (0..walk.column_count())
@@ -73,9 +73,9 @@ fn gather_columns<R: Threads + Sync>(
                 requires parts { All (IsFollowed walk.now) parts.now }
                 requires whole { followed_rows walk.now parts.now ≡ walked_rows walk.now }
                 requires column { c < length walk.now.survivors.now.catalog.columns }
-                requires lent { AreLentByAnchor walk.now lent.now }
-                ensures { IfOk result (IsTableColumn walk.entry.now lent.entry.now c) }
-            { gather_unless_lent(alloc, walk, parts, lent, c) },
+                requires borrowed { AreBorrowedFromAnchor walk.now borrowed.now }
+                ensures { IfOk result (IsTableColumn walk.entry.now borrowed.entry.now c) }
+            { gather_unless_borrowed(alloc, walk, parts, borrowed, c) },
         )
         .collect::<Result<Vec<Cells>, AllocError>>(rt, alloc)?
 }
@@ -92,7 +92,7 @@ pub fn gather_table<'a, R: Threads + Sync>(
     ensures kinds { IfOk result (HasTableKinds walk.now.survivors.now.catalog) }
     ensures rows { IfOk result (λ table. table.rows ≡ walked_rows walk.now) }
 {
-    let lent = lent_columns(alloc, walk)?;
-    let columns = gather_columns(rt, alloc, walk, parts, &lent)?;
-    Ok(Table::of_columns(columns, lent))
+    let borrowed = borrowed_columns(alloc, walk)?;
+    let columns = gather_columns(rt, alloc, walk, parts, &borrowed)?;
+    Ok(Table::of_columns(columns, borrowed))
 }

@@ -23,19 +23,19 @@ use std::thread::Threads;
 /// freed.
 fn take_column(
     alloc: Global,
-    made: Cells,
-    lent: Option<&Cells>,
+    owned: Cells,
+    borrowed: Option<&Cells>,
     numbers: &[u32],
 ) -> Result<Cells, AllocError>
     requires { (k : ℕ) → k < length numbers.now
-        → slice_index numbers.now k < length (values (unwrap_or (option_map (λ cells. cells.now) lent) made)) }
-    ensures kind { IfOk result (λ cells. kind_of cells ≡ kind_of (unwrap_or (option_map (λ cells. cells.now) lent.entry) made)) }
+        → slice_index numbers.now k < length (values (unwrap_or (option_map (λ cells. cells.now) borrowed) owned)) }
+    ensures kind { IfOk result (λ cells. kind_of cells ≡ kind_of (unwrap_or (option_map (λ cells. cells.now) borrowed.entry) owned)) }
     ensures cells { IfOk result (λ cells. values cells
-        ≡ map (cell (values (unwrap_or (option_map (λ cells. cells.now) lent.entry) made))) numbers.now) }
+        ≡ map (cell (values (unwrap_or (option_map (λ cells. cells.now) borrowed.entry) owned))) numbers.now) }
 {
-    match lent {
+    match borrowed {
         Some(column) => cells_at(alloc, column, numbers),
-        None => cells_at(alloc, &made, numbers),
+        None => cells_at(alloc, &owned, numbers),
     }
 }
 
@@ -43,22 +43,22 @@ fn take_column(
 fn take_columns(
     alloc: Global,
     catalog: &Catalog,
-    made: Vec<Cells>,
-    lent: &BorrowedColumns<'_>,
+    owned: Vec<Cells>,
+    borrowed: &BorrowedColumns<'_>,
     numbers: &[u32],
 ) -> Result<Vec<Cells>, AllocError>
-    requires columns { AreColumns (over made.items lent.now) }
-    requires kinds { map kind_of (over made.items lent.now) ≡ map (λ c. c.kind) catalog.now.columns }
-    requires below { All (λ i. i < count_of (over made.items lent.now)) numbers.now }
+    requires columns { AreColumns (over owned.items borrowed.now) }
+    requires kinds { map kind_of (over owned.items borrowed.now) ≡ map (λ c. c.kind) catalog.now.columns }
+    requires below { All (λ i. i < count_of (over owned.items borrowed.now)) numbers.now }
     ensures { IfOk result (λ columns. AreColumnsOf catalog.now
-        (map (row_at (rows_of (over made.items lent.now) (count_of (over made.items lent.now)))) numbers.now)
+        (map (row_at (rows_of (over owned.items borrowed.now) (count_of (over owned.items borrowed.now)))) numbers.now)
         columns.items) }
 {
-    let mut made = made;
+    let mut owned = owned;
     let mut columns = Vec::new(alloc);
     for c in 0..catalog.column_count() {
-        let own = replace(&mut made[c], Cells::new(alloc, Kind::Int));
-        columns.push(take_column(alloc, own, lent.column(c), numbers)?)?;
+        let own = replace(&mut owned[c], Cells::new(alloc, Kind::Int));
+        columns.push(take_column(alloc, own, borrowed.column(c), numbers)?)?;
     }
     Ok(columns)
 }
@@ -76,6 +76,6 @@ pub fn rows_by_key<R: Threads + Sync, G>(
     ensures { IfOk result (λ columns. AreColumnsOf catalog.now (table_of catalog.now walked.entry.rows) columns.items) }
 {
     let numbers = key_order(run.rt, run.alloc, &walked, catalog)?;
-    let (made, lent) = walked.into_columns();
-    take_columns(run.alloc, catalog, made, &lent, numbers.as_slice())
+    let (owned, borrowed) = walked.into_columns();
+    take_columns(run.alloc, catalog, owned, &borrowed, numbers.as_slice())
 }

@@ -32,7 +32,8 @@ pub record AreIndices (C : CatalogData) (P : PlanData) (indices : List ℕ) : Ty
 -- which projections other than the anchor have a column that is read there
 pub record AreElsewhere (C : CatalogData) (P : PlanData) (elsewhere : List Bool) : Type 0 where
   pub count : length elsewhere ≡ length C.projections
-  pub only : (q : ℕ) → q < length C.projections → slice_index_or elsewhere q false ≡ true → (q ≢ P.anchor) × ∥ ((c : ℕ) × (c < length C.columns) × (slice_index P.source c ≡ q)) ∥₁
+  pub anchor : slice_index_or elsewhere P.anchor false ≡ false
+  pub only : (q : ℕ) → q < length C.projections → slice_index_or elsewhere q false ≡ true → ∥ ((c : ℕ) × (c < length C.columns) × (slice_index P.source c ≡ q)) ∥₁
   pub all : (c : ℕ) → c < length C.columns → slice_index P.source c ≢ P.anchor → slice_index_or elsewhere (slice_index P.source c) false ≡ true
 
 -- for each column of the table, one column of its kind

@@ -6,9 +6,9 @@ use Rattle.cs_rows.specs.declared.table.Table.TheInside.{Inside}
 
 -- the columns, from the first on, each replaced by the borrowed one if there is one
 unfoldable pub over : List Cells → List (Option Cells) → List Cells
-over [] lent = []
+over [] borrowed = []
 over (column ∷ columns) [] = column ∷ columns
-over (column ∷ columns) (other ∷ lent) = unwrap_or other column ∷ over columns lent
+over (column ∷ columns) (other ∷ borrowed) = unwrap_or other column ∷ over columns borrowed
 
 abbrev pub all_columns : Inside → List Cells
-all_columns t = over t.made.items t.lent
+all_columns t = over t.owned.items t.borrowed

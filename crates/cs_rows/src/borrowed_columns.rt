@@ -34,7 +34,7 @@ impl<'a> BorrowedColumns<'a> {
 
     /// Adds the entry of the next column: the borrowed column that replaces it, or `None`.
     pub fn push(&mut self, column: Option<&'a Cells>) -> Result<(), AllocError>
-        ensures ok { OnOk result (self.new ≡ self.old ++ option_map (λ lent. lent.now) column.entry ∷ []) }
+        ensures ok { OnOk result (self.new ≡ self.old ++ option_map (λ borrowed. borrowed.now) column.entry ∷ []) }
     {
         self.columns.push(column)?;
         Ok(())
@@ -42,7 +42,7 @@ impl<'a> BorrowedColumns<'a> {
 
     /// The borrowed column that replaces a column, if any.
     pub fn column(&self, c: usize) -> Option<&Cells>
-        ensures { option_map (λ lent. lent.now) result ≡ slice_index_or self.now c None }
+        ensures { option_map (λ borrowed. borrowed.now) result ≡ slice_index_or self.now c None }
     {
         if c < self.columns.len() {
             return self.columns[c];

@@ -173,8 +173,8 @@ impl<'a> PlanWalk<'_, 'a> {
         Ok(cells)
     }
 
-    /// The anchor's cells of a column of the table, borrowed from its image, if the column is read at the anchor and
-    /// the anchor has one segment.
+    /// The anchor's cells of a column of the table, borrowed from its image. `None` if the column is read elsewhere, the
+    /// anchor has several segments, or its image is not there.
     pub fn lone_column(&self, c: usize) -> Option<&'a Cells>
         requires column { c < length self.now.survivors.now.catalog.columns }
         ensures kind { IfSome result (λ cells. kind_of cells.now ≡ (column self.now.survivors.now.catalog c).kind) }

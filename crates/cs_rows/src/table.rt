@@ -15,18 +15,18 @@ use std::marker::Model;
 /// copied.
 #[derive(Drop)]
 pub struct Table<'a> {
-    made: Vec<Cells>,
-    lent: BorrowedColumns<'a>,
+    owned: Vec<Cells>,
+    borrowed: BorrowedColumns<'a>,
 }
 
 /// The borrowed column, if there is one; else the owned one.
-fn column_at<'a>(made: &'a [Cells], lent: &'a BorrowedColumns<'a>, c: usize) -> &'a Cells
-    requires { c < length made.now }
-    ensures { result.now ≡ slice_index_or (over made.now lent.now) c result.now }
+fn column_at<'a>(owned: &'a [Cells], borrowed: &'a BorrowedColumns<'a>, c: usize) -> &'a Cells
+    requires { c < length owned.now }
+    ensures { result.now ≡ slice_index_or (over owned.now borrowed.now) c result.now }
 {
-    match lent.column(c) {
+    match borrowed.column(c) {
         Some(column) => column,
-        None => &made[c],
+        None => &owned[c],
     }
 }
 
@@ -47,8 +47,8 @@ impl<'a> Table<'a> {
         ensures { result ≡ walked }
     {
         Table {
-            made: walked.into_columns(),
-            lent: BorrowedColumns::none(alloc),
+            owned: walked.into_columns(),
+            borrowed: BorrowedColumns::none(alloc),
         }
     }
 
@@ -56,22 +56,29 @@ impl<'a> Table<'a> {
     pub fn borrowing(alloc: Global, walked: &'a Walked) -> Result<Self, AllocError>
         ensures { IfOk result (λ table. table ≡ walked.entry.now) }
     {
-        let columns = walked.columns();
-        let mut made = Vec::new(alloc);
-        let mut lent = BorrowedColumns::none(alloc);
+        Table::of_borrowed(alloc, walked.columns())
+    }
+
+    /// The rows of at least one column, all of the same length and all borrowed.
+    pub fn of_borrowed(alloc: Global, columns: &'a [Cells]) -> Result<Self, AllocError>
+        requires { AreColumns columns.now }
+        ensures { IfOk result (λ table. table ≡ walked_data columns.entry.now) }
+    {
+        let mut owned = Vec::new(alloc);
+        let mut borrowed = BorrowedColumns::none(alloc);
         for c in 0..columns.len() {
-            made.push(Cells::new(alloc, Kind::Int))?;
-            lent.push(Some(&columns[c]))?;
+            owned.push(Cells::new(alloc, Kind::Int))?;
+            borrowed.push(Some(&columns[c]))?;
         }
-        Ok(Table { made, lent })
+        Ok(Table { owned, borrowed })
     }
 
     /// The rows of at least one column, all of the same length, some owned and the others borrowed.
-    pub fn of_columns(made: Vec<Cells>, lent: BorrowedColumns<'a>) -> Self
-        requires { AreColumns (over made.items lent) }
-        ensures { result ≡ walked_data (over made.items lent.entry) }
+    pub fn of_columns(owned: Vec<Cells>, borrowed: BorrowedColumns<'a>) -> Self
+        requires { AreColumns (over owned.items borrowed) }
+        ensures { result ≡ walked_data (over owned.items borrowed.entry) }
     {
-        Table { made, lent }
+        Table { owned, borrowed }
     }
 
     /// The owned columns, and the borrowed ones that replace some of them.
@@ -79,14 +86,14 @@ impl<'a> Table<'a> {
         ensures columns { AreColumns (over result.0.items result.1) }
         ensures same { walked_data (over result.0.items result.1) ≡ self.entry }
     {
-        (self.made, self.lent)
+        (self.owned, self.borrowed)
     }
 
     /// The number of rows.
     pub fn rows(&self) -> usize
         ensures { result ≡ length self.now.rows }
     {
-        column_at(&self.made, &self.lent, 0).len()
+        column_at(&self.owned, &self.borrowed, 0).len()
     }
 
     /// The cells of one column, row by row.
@@ -95,6 +102,6 @@ impl<'a> Table<'a> {
         ensures kind { slice_get self.now.kinds c ≡ Some (kind_of result.now) }
         ensures cells { values result.now ≡ map (λ row. cell row c) self.now.rows }
     {
-        column_at(&self.made, &self.lent, c)
+        column_at(&self.owned, &self.borrowed, c)
     }
 }

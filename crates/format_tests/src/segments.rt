@@ -1,7 +1,7 @@
 //! Files of segments: vectors, each of their bytes changed, and long files that several threads read.
-mod growing;
 mod hostile;
 mod long_files;
+mod segment_writer;
 mod vectors;
 
 ghost use Rattle.std.specs.Prelude.{◌≡◌, ◌<◌, length};

@@ -113,13 +113,13 @@ fn expect_keys(rt: &(impl Abort + AllocGlobal), store: &Store<'_>) {
     let keys = walk.gather(alloc, &[followed], 0);
     let keys = keys.expect(rt, "the keys");
     assert!(rt; keys.len() == 1 && keys.cell(0) == Value::Int(1));
-    let mut made = Vec::new(alloc);
-    let Ok(()) = made.push(Cells::new(alloc, Kind::Int)) else {
+    let mut owned = Vec::new(alloc);
+    let Ok(()) = owned.push(Cells::new(alloc, Kind::Int)) else {
         panic!(rt; "no memory");
     };
-    let mut lent = BorrowedColumns::none(alloc);
-    lent.push(walk.lone_column(0)).expect(rt, "memory");
-    let table = Table::of_columns(made, lent);
+    let mut borrowed = BorrowedColumns::none(alloc);
+    borrowed.push(walk.lone_column(0)).expect(rt, "memory");
+    let table = Table::of_columns(owned, borrowed);
     assert!(rt; table.rows() == 2 && table.column(0).same(0, &keys, 0));
     assert!(rt; is_astray(walk.follow(alloc, 0, 2)));
 }

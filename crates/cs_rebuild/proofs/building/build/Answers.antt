@@ -19,8 +19,8 @@ use Rattle.cs_rebuild.proofs.BuiltFiles.{columns_fit, columns_even, none_read, h
 use Rattle.cs_rebuild.proofs.Verdicts.{on_store}
 use Rattle.cs_rebuild.proofs.building.build.Goals as goal
 
-pub lend_columns-requires : goal.lend_columns-requires
-lend_columns-requires g c = columns_even c.args.catalog.now c.args.rows.now c.requires c.projection_count-rules.ensures.rules.column_range.0
+pub of_borrowed-requires : goal.of_borrowed-requires
+of_borrowed-requires g c = columns_even c.args.catalog.now c.args.rows.now c.requires c.projection_count-rules.ensures.rules.column_range.0
 
 pub orders_of-requires-clause-kinds : goal.orders_of-requires-clause-kinds
 orders_of-requires-clause-kinds g c κs within = ap (λ (w : WalkedData). w.kinds) c.in-Ok.ensures ∙ kinds_fit c.args.catalog.now c.args.rows.now (columns_fit c.args.catalog.now c.args.rows.now c.requires)

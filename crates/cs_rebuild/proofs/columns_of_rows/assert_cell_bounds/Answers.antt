@@ -1,6 +1,6 @@
 use Rattle.std.proofs.Common.{arith}
 use Rattle.cs_rebuild.specs.Building.{IsOneKind}
-use Rattle.cs_rebuild.proofs.OneKind.{one_more_meets}
+use Rattle.cs_rebuild.proofs.AllMeet.{one_more_meets}
 use Rattle.cs_rebuild.proofs.columns_of_rows.assert_cell_bounds.Goals as goal
 
 pub loop-column-preserved : goal.loop-column-preserved

@@ -5,7 +5,7 @@ use Rattle.cs_schema.specs.declared.kinds.Kind.{Kind}
 use Rattle.cs_schema.specs.declared.cells.Cells.{Cells}
 use Rattle.cs_schema.specs.declared.cells.Value.{Value}
 use Rattle.cs_rebuild.specs.Building.{IsShortText}
-use Rattle.cs_rebuild.proofs.OneKind.{mapped_meet}
+use Rattle.cs_rebuild.proofs.AllMeet.{mapped_meet}
 use Rattle.cs_rebuild.proofs.columns_of_rows.assert_column_bounds.Goals as goal
 
 pub returns-in-Ints : goal.returns-in-Ints

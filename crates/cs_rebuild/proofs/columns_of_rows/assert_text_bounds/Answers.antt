@@ -1,7 +1,7 @@
 use Rattle.std.proofs.Common.{arith, ℕ, List, sym}
 use Rattle.std.proofs.lemmas.Option.{get_or_from_slice_get}
 use Rattle.cs_rebuild.specs.Building.{IsShortText}
-use Rattle.cs_rebuild.proofs.OneKind.{one_more_meets}
+use Rattle.cs_rebuild.proofs.AllMeet.{one_more_meets}
 use Rattle.cs_rebuild.proofs.columns_of_rows.assert_text_bounds.Goals as goal
 
 pub loop-at-preserved : goal.loop-at-preserved

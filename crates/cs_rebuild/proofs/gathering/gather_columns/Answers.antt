@@ -18,11 +18,11 @@ collect-requires-clause-ready g c κs within =
     let ends = c.into_par_iter.ensures in
     let inside = nat_range-All (λ i. i < length c.args.walk.now.survivors.now.catalog.columns) 0 (length c.args.walk.now.survivors.now.catalog.columns) (λ i low high. high) in
     rw (c.map.ensures.base, c.map.ensures.f, c.with_min_len.ensures.base, ends.0, ends.1, c.column_count.ensures.count)
-    (λ k d lt. ((c.requires.parts, (c.requires.whole, (inside k d lt, c.requires.lent))), λ y p. tt))
+    (λ k d lt. ((c.requires.parts, (c.requires.whole, (inside k d lt, c.requires.borrowed))), λ y p. tt))
 
 module _ (g : Over) (c : goal.In_ok-collect g) where
   abbrev IsMade : ℕ → Result Cells AllocError → Type 0
-  IsMade k r = IfOk r (IsTableColumn c.args.walk.now c.args.lent.now k)
+  IsMade k r = IfOk r (IsTableColumn c.args.walk.now c.args.borrowed.now k)
 
   abbrev rows : List Row
   rows = walked_rows c.args.walk.now
@@ -37,11 +37,11 @@ module _ (g : Over) (c : goal.In_ok-collect g) where
       (all_there IsMade (λ columns. columns.items) c.column_count.result h.1.0 h.0 c.in_ok-collect.field-0 numbers zipped h.2)
 
   -- each column has the cells to which the anchor's rows lead
-  there : (columns : List Cells) → AllZip IsMade (range_with_len 0 (length c.args.walk.now.survivors.now.catalog.columns)) (map Ok columns) → AllZip (IsJoined c.args.walk.now.survivors.now.catalog rows c.args.lent.now) (range_with_len 0 (length c.args.walk.now.survivors.now.catalog.columns)) (map Ok columns)
-  there columns = AllZip-weaken IsMade (IsJoined c.args.walk.now.survivors.now.catalog rows c.args.lent.now) (λ k r h. IfOk-then r _ _ h (λ cells made. made.is)) (range_with_len 0 (length c.args.walk.now.survivors.now.catalog.columns)) (map Ok columns)
+  there : (columns : List Cells) → AllZip IsMade (range_with_len 0 (length c.args.walk.now.survivors.now.catalog.columns)) (map Ok columns) → AllZip (IsJoined c.args.walk.now.survivors.now.catalog rows c.args.borrowed.now) (range_with_len 0 (length c.args.walk.now.survivors.now.catalog.columns)) (map Ok columns)
+  there columns = AllZip-weaken IsMade (IsJoined c.args.walk.now.survivors.now.catalog rows c.args.borrowed.now) (λ k r h. IfOk-then r _ _ h (λ cells made. made.is)) (range_with_len 0 (length c.args.walk.now.survivors.now.catalog.columns)) (map Ok columns)
 
 pub returns-clause-fit : goal.returns-clause-fit
-returns-clause-fit g c = IfOk-then c.in_ok-collect.field-0 _ _ (made_columns g c) (λ columns zipped. joined_fit c.args.walk.now.survivors.now.catalog (rows g c) c.args.lent.now columns.items (there g c columns.items zipped))
+returns-clause-fit g c = IfOk-then c.in_ok-collect.field-0 _ _ (made_columns g c) (λ columns zipped. joined_fit c.args.walk.now.survivors.now.catalog (rows g c) c.args.borrowed.now columns.items (there g c columns.items zipped))
 
 pub returns-clause-rows : goal.returns-clause-rows
-returns-clause-rows g c = IfOk-then c.in_ok-collect.field-0 _ _ (made_columns g c) (λ columns zipped. joined_rows c.args.walk.now.survivors.now.catalog (rows g c) c.args.lent.now columns.items (there g c columns.items zipped))
+returns-clause-rows g c = IfOk-then c.in_ok-collect.field-0 _ _ (made_columns g c) (λ columns zipped. joined_rows c.args.walk.now.survivors.now.catalog (rows g c) c.args.borrowed.now columns.items (there g c columns.items zipped))

@@ -14,10 +14,10 @@ of_columns-requires g c =
     let S = contents_of c.args.walk.now.survivors.now in
     let P = c.args.walk.now.plan.now in
     let rows : List Row = map (walked_row C S P) (projection_rows C S P.anchor) in
-    columns_of_rows C (over c.in_ok-columns.columns.items c.in_ok-lent.lent) rows c.in_ok-columns.ensures.fit c.in_ok-columns.ensures.rows c.in_ok-columns.ensures.rules.column_range.0
+    columns_of_rows C (over c.in_ok-columns.columns.items c.in_ok-borrowed.borrowed) rows c.in_ok-columns.ensures.fit c.in_ok-columns.ensures.rows c.in_ok-columns.ensures.rules.column_range.0
 
 pub returns-clause-kinds : goal.returns-clause-kinds
-returns-clause-kinds g c = ap (λ (w : WalkedData). w.kinds) c.of_columns.ensures ∙ kinds_fit c.args.walk.now.survivors.now.catalog (over c.in_ok-columns.columns.items c.in_ok-lent.lent) c.in_ok-columns.ensures.fit
+returns-clause-kinds g c = ap (λ (w : WalkedData). w.kinds) c.of_columns.ensures ∙ kinds_fit c.args.walk.now.survivors.now.catalog (over c.in_ok-columns.columns.items c.in_ok-borrowed.borrowed) c.in_ok-columns.ensures.fit
 
 pub returns-clause-rows : goal.returns-clause-rows
 returns-clause-rows g c =
@@ -27,4 +27,4 @@ returns-clause-rows g c =
     let rows : List Row = map (walked_row C S P) (projection_rows C S P.anchor) in
     let columns = c.in_ok-columns.ensures in
     ap (λ (w : WalkedData). w.rows) c.of_columns.ensures
-    ∙ rows_in C (over c.in_ok-columns.columns.items c.in_ok-lent.lent) rows columns.fit columns.rows (walked_wide C S P (projection_rows C S P.anchor)) columns.rules.column_range.0
+    ∙ rows_in C (over c.in_ok-columns.columns.items c.in_ok-borrowed.borrowed) rows columns.fit columns.rows (walked_wide C S P (projection_rows C S P.anchor)) columns.rules.column_range.0

@@ -8,8 +8,8 @@ use Rattle.cs_rebuild.proofs.surviving_table.take_columns.Given as goal
 
 abbrev pub invariant-loop-c : goal.invariant-loop-c
 invariant-loop-c l = record {
-  made : length l.made.items ≡ length l.fn.made.items;
-  rest : (k : ℕ) (d : Cells) → l.c ≤ k → get_or l.made.items k d ≡ get_or l.fn.made.items k d;
+  owned : length l.owned.items ≡ length l.fn.owned.items;
+  rest : (k : ℕ) (d : Cells) → l.c ≤ k → get_or l.owned.items k d ≡ get_or l.fn.owned.items k d;
   count : length l.columns.items ≡ l.c;
-  each : (k : ℕ) (d : Cells) → k < l.c → IsColumnOf l.catalog (map (row_at (rows_of (over l.fn.made.items l.lent) (count_of (over l.fn.made.items l.lent)))) l.numbers) k (get_or l.columns.items k d);
+  each : (k : ℕ) (d : Cells) → k < l.c → IsColumnOf l.catalog (map (row_at (rows_of (over l.fn.owned.items l.borrowed) (count_of (over l.fn.owned.items l.borrowed)))) l.numbers) k (get_or l.columns.items k d);
 }

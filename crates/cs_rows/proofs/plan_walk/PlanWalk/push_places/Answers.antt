@@ -12,7 +12,7 @@ returns-clause-ok c = λ row reached ats before q h read.
     let C = c.args.self.now.survivors.now.catalog in
     let S = contents_of c.args.self.now.survivors.now in
     let P = c.args.self.now.plan.now in
-    let planned = ∥∥₁_elim (c.args.self.now.elsewhere_are.only q h read).1 (hlevel props) (λ column. subst (λ p. is_planned P p ≡ true) column.2 (c.args.self.now.fits.planned column.0 column.1)) in
+    let planned = ∥∥₁_elim (c.args.self.now.elsewhere_are.only q h read) (hlevel props) (λ column. subst (λ p. is_planned P p ≡ true) column.2 (c.args.self.now.fits.planned column.0 column.1)) in
     let at = reached q h planned in
     let pushed = c.loop-q.invariant.pushed q (omega (arith, h, c.loop-q-test.false, c.loop-q.auto.q-end, c.len-q-end.ensures, c.requires.ids)) read in
     subst (AreReachedIn C S P q (ats ++ row ∷ [])) (sym pushed) (reached_more C S P q ats (get_or c.args.ids.now.items q []) row (get_or c.args.places.now q (0, 0)) (before q h read) at.0 at.1)

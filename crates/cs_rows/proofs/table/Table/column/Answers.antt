@@ -15,11 +15,11 @@ pub column_at-requires : goal.column_at-requires
 column_at-requires c =
     let all = all_columns c.self.inside in
     let same = ap (λ (w : WalkedData). length w.kinds) c.self.view_is in
-    omega (arith, same, c.requires, length-map all kind_of, count c.self.inside.made.items c.self.inside.lent, ap length c.deref.ensures.value)
+    omega (arith, same, c.requires, length-map all kind_of, count c.self.inside.owned.items c.self.inside.borrowed, ap length c.deref.ensures.value)
 
 -- the column is one of the table's columns
 there : (c : goal.After-column_at) → c.column_at.result.now ≡ slice_index_or (all_columns c.self.inside) c.args.c c.column_at.result.now
-there c = c.column_at.ensures ∙ (λ i. slice_index_or (over (c.deref.ensures.value i) c.self.inside.lent) c.args.c c.column_at.result.now)
+there c = c.column_at.ensures ∙ (λ i. slice_index_or (over (c.deref.ensures.value i) c.self.inside.borrowed) c.args.c c.column_at.result.now)
 
 inside : (c : goal.After-column_at) → c.args.c < length (all_columns c.self.inside)
 inside c = let same = ap (λ (w : WalkedData). length w.kinds) c.self.view_is in omega (arith, same, c.requires, length-map (all_columns c.self.inside) kind_of)

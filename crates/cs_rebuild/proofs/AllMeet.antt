@@ -1,11 +1,8 @@
--- Columns of one kind, and borrowed columns.
-use Rattle.std.proofs.Common.{◌≡◌, ℕ, zero, suc, ◌+◌, ◌<◌, ◌≤◌, List, [], ◌∷◌, length, map, get_or, refl, sym, ap, ◌∙◌, subst, arith, ⊎_elim, Option, Some, take}
+-- Lists whose elements all meet a predicate.
+use Rattle.std.proofs.Common.{◌≡◌, ℕ, zero, suc, ◌+◌, ◌<◌, ◌≤◌, List, [], ◌∷◌, length, map, get_or, sym, ◌∙◌, subst, arith, ⊎_elim}
 use Rattle.std.specs.Prelude.{All}
 use Rattle.std.proofs.lemmas.Bool.{cases_lt}
-use Rattle.std.proofs.lemmas.List.{take_all}
 use Rattle.std.proofs.lemmas.Option.{slice_get-get_or, get_or_from_slice_get}
-use Rattle.cs_schema.specs.declared.cells.Cells.{Cells}
-use Rattle.cs_rows.specs.TableView.{over}
 
 -- one more element of a list satisfies P
 pub one_more_meets : {X : Type 0} (P : X → Type 0) (xs : List X) (i : ℕ) (x : X) → i < length xs → x ≡ get_or xs i x → P x → ((k : ℕ) (d : X) → k < i → P (get_or xs k d)) → (k : ℕ) (d : X) → k < i + 1 → P (get_or xs k d)
@@ -23,16 +20,3 @@ pub mapped_meet : {X Y : Type 0} (f : X → Y) (P : X → Type 0) (Q : Y → Typ
 mapped_meet f P Q g [] h k d l = absurd (omega (arith, l))
 mapped_meet f P Q g (x ∷ xs) h zero d l = g x (h 0 x (omega arith))
 mapped_meet f P Q g (x ∷ xs) h (suc k) d l = mapped_meet f P Q g xs (λ m e b. h (suc m) e (omega (arith, b))) k d (omega (arith, l))
-
--- if every column is replaced by a borrowed one, those are the columns
-pub over_all : (made rows : List Cells) → length made ≡ length rows → over made (map Some rows) ≡ rows
-unfolding over
-over_all [] [] e = refl
-over_all [] (y ∷ ys) e = absurd (omega (arith, e))
-over_all (x ∷ xs) [] e = absurd (omega (arith, e))
-over_all (x ∷ xs) (y ∷ ys) e = ap (λ l. y ∷ l) (over_all xs ys (omega (arith, e)))
-
--- also if the first n columns are borrowed and there are n
-pub over_first : (made rows : List Cells) (lent : List (Option Cells)) (n : ℕ) → length made ≡ n → lent ≡ map Some (take n rows) → n ≡ length rows → over made lent ≡ rows
-over_first made rows lent n count is whole =
-    ap (over made) (is ∙ ap (map Some) (take_all n rows (omega (arith, whole)))) ∙ over_all made rows (count ∙ whole)

@@ -1,4 +1,4 @@
-//! A file that grows column by column.
+//! A segment that is written column by column.
 ghost use Rattle.std.specs.Prelude.{◌<◌, ◌≤◌, length, IfOk};
 ghost use Rattle.cs_segment.specs.SegmentWriter.{joined};
 
