@@ -1,0 +1,6 @@
+"""python3 -m pinepolo"""
+import sys
+
+from .cli import main
+
+sys.exit(main())

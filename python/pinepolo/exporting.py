@@ -1,0 +1,89 @@
+"""`pinepolo-data export`: the table of a store as CSV, as lines of JSON, or in a file of SQLite."""
+from __future__ import annotations
+
+import json
+import math
+import os
+import sqlite3
+from collections.abc import Iterable, Iterator, Sequence
+
+from .columns import Column
+from .database import fill, make_tables
+from .dumped import dumped
+from .errors import DEVICE, DataError, device
+from .kinds import Bool, DecimalType, Float, Int, Stored
+from .places import living_sites, types_of
+from .table_csv import lines
+from .types import Types
+
+Blocks = Iterable[list[list[Stored]]]
+
+
+def opened(store: str, sites: str | None, lost: str | None) -> tuple[Types, Blocks]:
+    types = types_of(store, living_sites(sites, lost))
+    return types, dumped(store, types, sites, lost)
+
+
+def csv_text(store: str, sites: str | None = None, lost: str | None = None) -> Iterator[str]:
+    """The table as CSV, with the headers that it came with, block by block."""
+    types, blocks = opened(store, sites, lost)
+    head = lines([[it.header] for it in types.columns])[0] + "\n"
+    for block in blocks:
+        yield head + "\n".join(lines([it.unmap(lists) for it, lists in zip(types.columns, block)])) + "\n"
+        head = ""
+    yield head
+
+
+def json_cells(column: Column, lists: Sequence[Stored]) -> list[str]:
+    """The texts of a column's values in JSON: numbers as they are, also decimals; an infinity or a NaN is a string."""
+    if isinstance(column.type, (Int, DecimalType, Bool)):
+        return column.back(lists, column.type.unmap, "null")
+    if isinstance(column.type, Float):
+        return column.back(lists, lambda kept: list(map(json_float, column.type.values(kept))), "null")
+    encode = json.JSONEncoder(ensure_ascii=False).encode
+    return ["null" if it is None else encode(it) for it in column.back(lists, column.type.unmap, None)]
+
+
+def json_float(value: float) -> str:
+    return repr(value) if math.isfinite(value) else f'"{value!r}"'
+
+
+def json_text(store: str, sites: str | None = None, lost: str | None = None) -> Iterator[str]:
+    """The table as an object of JSON a line, block by block."""
+    types, blocks = opened(store, sites, lost)
+    heads = [json.dumps(it.name) + ":" for it in types.columns]
+    for block in blocks:
+        cells = [[head + it for it in json_cells(column, lists)] for head, column, lists in zip(heads, types.columns, block)]
+        yield "".join(f"{{{','.join(row)}}}\n" for row in zip(*cells))
+
+
+def to_sqlite(store: str, path: str, sites: str | None = None, lost: str | None = None) -> None:
+    """Makes a file of SQLite with `t_scaled` and `t`. It has its name only when it is whole."""
+    if os.path.lexists(path):
+        raise DataError(f"{path} already exists", "give another path")
+    types, blocks = opened(store, sites, lost)
+    partial = f"{path}.partial"
+    try:
+        if os.path.lexists(partial):
+            os.remove(partial)
+        write_sqlite(partial, types.columns, blocks)
+        os.rename(partial, path)
+    except sqlite3.Error as error:
+        raise DataError(f"could not write {partial}: {error}", "check the path and the room on its disk", DEVICE) from None
+    except OSError as error:
+        raise device(error, "check the path and the room on its disk") from None
+    finally:
+        if os.path.lexists(partial):
+            os.remove(partial)
+
+
+def write_sqlite(path: str, columns: Sequence[Column], blocks: Blocks) -> None:
+    database = sqlite3.connect(path, isolation_level=None)
+    try:
+        database.execute("PRAGMA journal_mode = OFF")
+        database.execute("BEGIN")
+        make_tables(database, columns)
+        fill(database, columns, blocks)
+        database.execute("COMMIT")
+    finally:
+        database.close()

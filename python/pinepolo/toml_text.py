@@ -1,0 +1,12 @@
+"""TOML as the package writes it."""
+from __future__ import annotations
+
+import re
+
+# Control characters, the quote and the backslash. Any other character stands as it is.
+ESCAPED = re.compile(r'[\x00-\x1f\x7f"\\]')
+
+
+def toml_string(text: str) -> str:
+    """A basic string of TOML."""
+    return '"' + ESCAPED.sub(lambda found: f"\\u{ord(found[0]):04x}", text) + '"'
