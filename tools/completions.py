@@ -1,10 +1,10 @@
 """Completions of words for bash and zsh."""
 
 
-def bash(program, verbs):
-    """A function for bash: the verbs, then a verb's options, then file names."""
-    names = " ".join(it.name for it in verbs)
-    options = {it.name: " ".join(option.name for option in it.options) for it in verbs}
+def bash(program, verbs, general=()):
+    """A function for bash: the verbs and the program's own options, then a verb's options, then file names."""
+    names = " ".join(it.name for it in [*verbs, *general])
+    options = {it.name: " ".join(option.name for option in [*it.options, *it.general]) for it in verbs}
     cases = "".join(f'    {name}) words="{words}" ;;\n' for name, words in options.items() if words)
     return f"""# Completions of {program} for bash. Written by tools/write-reference.
 _{program}() {{
@@ -31,14 +31,15 @@ def quoted(text):
 
 
 def zsh_options(verb):
-    for option in verb.options:
+    for option in [*verb.options, *verb.general]:
         value = f":{option.value}:_files" if option.value == "FILE" else f":{option.value}: " if option.value else ""
         yield f"'{option.name}[{quoted(option.text)}]{value}'" if option.text else f"'{option.name}{value}'"
 
 
-def zsh_function(program, verbs):
+def zsh_function(program, verbs, general=()):
     # (the commands of cs_cli say nothing of themselves)
-    names = (it.name if it.about == it.name else f"{it.name}:{quoted(it.about)}" for it in verbs)
+    names = [it.name if it.about == it.name else f"{it.name}:{quoted(it.about)}" for it in verbs]
+    names += (f"{it.name}:{quoted(it.text)}" for it in general)
     listed = "".join(f"        '{it}'\n" for it in names)
     cases = "".join(f"    {it.name}) _arguments {' '.join([*zsh_options(it), FILES])} ;;\n" for it in verbs)
     return f"""_{program}() {{
@@ -58,7 +59,7 @@ def zsh_function(program, verbs):
 
 
 def zsh(programs):
-    """The functions of all programs, for zsh."""
-    functions = "\n".join(zsh_function(program, verbs) for program, verbs in programs.items())
+    """The functions of all programs, for zsh: of each its verbs and its own options."""
+    functions = "\n".join(zsh_function(program, *words) for program, words in programs.items())
     head = f"#compdef {' '.join(programs)}\n# Completions for zsh. Written by tools/write-reference.\n"
     return f'{head}{functions}\n_$service "$@"\n'

@@ -10,6 +10,8 @@ class Verb:
     def __init__(self, name, text):
         self.name = name
         self.usage, self.arguments, self.options, self.statuses, self.examples, paragraphs = "", [], [], [], [], []
+        # (--help, and of the program itself --version)
+        self.general = []
         for part in re.split(r"\n\n", text.strip()):
             head, _, rest = part.partition("\n")
             lines = [it.strip() for it in rest.split("\n")]
@@ -19,6 +21,7 @@ class Verb:
                 self.arguments = [tuple(re.split(r" {2,}", it, maxsplit=1)) for it in lines]
             elif head == "Options:":
                 self.options = [option_of(it) for it in lines if not re.match(r"-[hV],", it)]
+                self.general = [option_of(it[4:]) for it in lines if re.match(r"-[hV],", it)]
             elif head in ("Example:", "Examples:"):
                 self.examples = lines
             elif head == "Statuses:":
