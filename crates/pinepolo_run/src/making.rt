@@ -28,7 +28,7 @@ pub fn make_store<P: Tables>(
     at: NewPlace<'_>,
 ) -> Result<NewStore, VerbError>
     ensures { IfOk result (λ store. MakesStore P.begins P.NewStore.takes P.NewStore.marks
-        places.old at.path.now found.0 found.1.items files rows store places.new) }
+        places.old at.entry.path.now found.0 found.1.items files rows store places.new) }
 {
     let (catalog, bytes) = found;
     match write_store(alloc, places, bytes.as_slice(), &files, at) {
@@ -77,7 +77,7 @@ fn write_store<P: Tables>(
     files: &FileSet,
     at: NewPlace<'_>,
 ) -> Result<(), VerbError>
-    ensures { OnOk result (WritesStore P.begins P.NewStore.takes P.NewStore.marks places.old at.path.now bytes.now files.now places.new) }
+    ensures { OnOk result (WritesStore P.begins P.NewStore.takes P.NewStore.marks places.old at.entry.path.now bytes.now files.now places.new) }
 {
     let mut sink = match places.new_store(at.path, bytes, at.replaces) {
         Ok(sink) => sink,
