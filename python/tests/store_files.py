@@ -12,6 +12,21 @@ from typing import Any
 Row = list[Any]
 KINDS = {"int": 1, "text": 2}
 INSERT, DELETE, MODIFY = 1, 2, 3
+# A catalog of one projection with two segments.
+CATALOG = """version = 1
+table = "t"
+key = "id"
+sites = 2
+column = [{name = "id", kind = "int"}, {name = "w", kind = "text"}]
+[[projection]]
+name = "p"
+columns = ["id", "w"]
+codes = [3, 4]
+sort = ["id"]
+cuts = [5]
+sites = [1, 2]
+joins = []
+"""
 
 
 def sealed(front: bytes) -> bytes:

@@ -7,25 +7,12 @@ import subprocess
 import tempfile
 import unittest
 
+from store_files import CATALOG as GOOD
 from tables import program
 
 import pinepolo
 from pinepolo.catalog import read_catalog
 
-GOOD = """version = 1
-table = "t"
-key = "id"
-sites = 2
-column = [{name = "id", kind = "int"}, {name = "w", kind = "text"}]
-[[projection]]
-name = "p"
-columns = ["id", "w"]
-codes = [3, 4]
-sort = ["id"]
-cuts = [5]
-sites = [1, 2]
-joins = []
-"""
 SECOND = GOOD[GOOD.index("[[projection]]"):].replace('"p"', '"q"').replace('["id"]', '["w"]').replace("[3, 4]", "[4, 4]")
 BY_TEXT = [('sort = ["id"]', 'sort = ["w"]'), ("codes = [3, 4]", "codes = [4, 4]")]
 # What is changed of GOOD, and the rule that it breaks then; 0 is no TOML, and None is a catalog.

@@ -16,7 +16,7 @@ from tables import program
 
 import pinepolo
 from pinepolo.images import Image
-from store_files import DELETE, INSERT, MODIFY, Made, Maker, delta_file, sealed, segment_file
+from store_files import CATALOG, DELETE, INSERT, MODIFY, Made, Maker, delta_file, sealed, segment_file
 
 STORES = int(os.environ.get("PINEPOLO_STORES", "12"))
 DAMAGED_FILES = 8
@@ -95,20 +95,7 @@ class Seeded(Beside):
         return DAMAGED_FILES
 
 
-CATALOG = b"""version = 1
-table = "t"
-key = "id"
-sites = 1
-column = [{name = "id", kind = "int"}, {name = "w", kind = "text"}]
-[[projection]]
-name = "p"
-columns = ["id", "w"]
-codes = [3, 4]
-sort = ["id"]
-cuts = []
-sites = [1]
-joins = []
-"""
+ONE_SEGMENT = CATALOG.replace("cuts = [5]", "cuts = []").replace("sites = [1, 2]", "sites = [1]").encode()
 ROWS = [[1, "a"], [2, "b"], [300, "c"]]
 KINDS, CODES = ["int", "text"], [3, 4]
 SEGMENT = segment_file(0, 0, ROWS, KINDS, CODES)[:-32]
@@ -177,7 +164,7 @@ class Rule(Beside):
         super().setUp()
         self.room = tempfile.TemporaryDirectory()
         self.made = Made(self.room.name, KINDS, [ROWS])
-        for name, data in (("catalog.toml", CATALOG), ("p0.s0.seg", sealed(SEGMENT)), ("p0.s0.del", sealed(EMPTY))):
+        for name, data in (("catalog.toml", ONE_SEGMENT), ("p0.s0.seg", sealed(SEGMENT)), ("p0.s0.del", sealed(EMPTY))):
             self.made.write(name, data)
 
     def tearDown(self) -> None:
