@@ -17,8 +17,9 @@ def header_places(table: Table, types: Types) -> list[int]:
     for name in headers:
         if name not in table.header:
             raise DataError(f"{table.path}: record 0: there is no column {name!r}", "mend the CSV, or types.toml")
+    known = {*headers, *types.left_out}
     for name in table.header:
-        if name not in headers and name not in types.left_out:
+        if name not in known:
             raise DataError(f"{table.path}: record 0: {name!r} is no column of types.toml", "name it in left_out there, or draft again with it")
     return [table.header.index(it) for it in headers]
 

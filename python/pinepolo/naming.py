@@ -9,6 +9,16 @@ LONGEST = 32
 ROOM = LONGEST - 2
 
 
+def first_repeated(names: Iterable[str]) -> str | None:
+    """The first name that came before already, or None."""
+    seen: set[str] = set()
+    for name in names:
+        if name in seen:
+            return name
+        seen.add(name)
+    return None
+
+
 def name_of(text: str, taken: Iterable[str] = ()) -> str:
     """A name like a text, and none of those that are taken."""
     name = re.sub(r"[^a-z0-9]+", "_", text.lower()).strip("_")

@@ -5,22 +5,12 @@ import os
 import tomllib
 from typing import Any
 
-from .errors import DEVICE, DataError
+from .catalog import Catalog, read_catalog
+from .errors import DEVICE, USAGE, DataError
 from .types import FILE, Types, parse_types, plain_types
 
 CATALOG = "catalog.toml"
-LONGEST = 1 << 20
-
-
-def site_folders(path: str) -> dict[int, str]:
-    """The folder of each site that a SITES file names. pinepolo itself judges the file."""
-    data = read(path)
-    try:
-        tables = tomllib.loads(data.decode())["site"]
-        base = os.path.dirname(os.path.abspath(path))
-        return {int(it["number"]): os.path.join(base, it["folder"]) for it in tables}
-    except (ValueError, KeyError, TypeError, AttributeError):
-        raise DataError(f"{path} is no SITES file", "mend it by docs/formats.md, a SITES file") from None
+LONGEST, SITES_BYTES = 1 << 20, 65_536
 
 
 def read(path: str) -> bytes:
@@ -58,19 +48,39 @@ def one_of(name: str, found: dict[str, bytes]) -> tuple[str, bytes]:
     return path, data
 
 
-def catalog_columns(data: bytes, path: str) -> tuple[list[tuple[str, str]], str]:
-    """Names and kinds of a catalog's columns, and its key. pinepolo itself judges the catalog."""
+def read_sites(path: str) -> dict[int, str]:
+    """The folder of each site that a SITES file names; a relative path begins at the folder of the file."""
+    def refuse(what: str) -> DataError:
+        return DataError(f"{path}: {what}", "mend it by docs/formats.md", USAGE)
+
     try:
-        document: dict[str, Any] = tomllib.loads(data.decode())
-        return [(str(it["name"]), str(it["kind"])) for it in document["column"]], str(document["key"])
-    except (ValueError, KeyError, TypeError):
-        raise DataError(f"{path} is no catalog", f"pinepolo design {path}") from None
+        data = read(path)
+        if len(data) > SITES_BYTES:
+            raise refuse(f"more than {SITES_BYTES} bytes")
+        document = tomllib.loads(data.decode())
+    except ValueError:
+        raise refuse("not TOML") from None
+    tables = document.get("site")
+    if not isinstance(tables, list):
+        raise refuse("no [[site]] tables")
+    found: dict[int, str] = {}
+    for place, table in enumerate(tables):
+        values: dict[str, Any] = table if isinstance(table, dict) else {}
+        number, folder = values.get("number"), values.get("folder")
+        if type(number) is not int or not 1 <= number <= 16:
+            raise refuse(f"[[site]] {place}: number is missing or not an integer between 1 and 16")
+        if not isinstance(folder, str):
+            raise refuse(f"[[site]] {place}: folder is missing or not a string")
+        if number in found:
+            raise refuse(f"site {number} specified more than once")
+        found[number] = os.path.join(os.path.dirname(path), folder)
+    return found
 
 
 def living_sites(sites: str | None, lost: str | None = None) -> dict[int, str]:
     """The folders of the sites that are not lost, by a SITES file; none without one."""
     gone = set((lost or "").split(","))
-    return {number: folder for number, folder in site_folders(sites).items() if str(number) not in gone} if sites else {}
+    return {number: folder for number, folder in read_sites(sites).items() if str(number) not in gone} if sites else {}
 
 
 def types_of(store: str, sites: dict[int, str]) -> Types:
@@ -78,9 +88,14 @@ def types_of(store: str, sites: dict[int, str]) -> Types:
     folders = [store, *(sites[number] for number in sorted(sites))]
     catalogs = copies(CATALOG, folders)
     if not catalogs:
-        raise DataError(f"could not read the catalog at {folders[0]}", "check that it is a store, or give --sites", DEVICE)
+        raise DataError(f"could not read the catalog at {store}", "check that it is a store, or give --sites", DEVICE)
     path, data = one_of(CATALOG, catalogs)
-    columns, key = catalog_columns(data, path)
+    return types_beside(folders, read_catalog(data, path))
+
+
+def types_beside(folders: list[str], catalog: Catalog) -> Types:
+    """The types that the folders of a store's sites have beside this catalog."""
+    columns = [(it.name, it.kind) for it in catalog.columns]
     found = copies(FILE, folders)
     if not found:
         return plain_types(columns)
@@ -89,6 +104,6 @@ def types_of(store: str, sites: dict[int, str]) -> Types:
     if sorted(types.stored()) != sorted(columns):
         differ = sorted(set(types.stored()) ^ set(columns))[0]
         raise DataError(f"{where}: column {differ[0]} ({differ[1]}) is not in both, {FILE} and {CATALOG}", "draft both again, or mend one of them")
-    if any(it.null and key in it.stored for it in types.columns):
-        raise DataError(f"{where}: {key} is the key, and a key has no NULL", "take its null out")
+    if any(it.null and catalog.key in it.stored for it in types.columns):
+        raise DataError(f"{where}: {catalog.key} is the key, and a key has no NULL", "take its null out")
     return types

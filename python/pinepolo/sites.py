@@ -2,44 +2,11 @@
 from __future__ import annotations
 
 import os
-import tomllib
 from typing import Any
 
 from .catalog import Catalog, read_catalog
 from .errors import DEVICE, USAGE, DataError
-from .places import CATALOG, copies, one_of, read
-
-SITES_BYTES = 65_536
-
-
-def read_sites(path: str) -> dict[int, str]:
-    """The folder of each site that a SITES file names; a relative path begins at the folder of the file."""
-    def refuse(what: str) -> DataError:
-        return DataError(f"{path}: {what}", "mend it by docs/formats.md", USAGE)
-
-    try:
-        data = read(path)
-        if len(data) > SITES_BYTES:
-            raise refuse(f"more than {SITES_BYTES} bytes")
-        document = tomllib.loads(data.decode())
-    except ValueError:
-        raise refuse("not TOML") from None
-    tables = document.get("site")
-    if not isinstance(tables, list):
-        raise refuse("no [[site]] tables")
-    found: dict[int, str] = {}
-    for place, table in enumerate(tables):
-        values: dict[str, Any] = table if isinstance(table, dict) else {}
-        number, folder = values.get("number"), values.get("folder")
-        if type(number) is not int or not 1 <= number <= 16:
-            raise refuse(f"[[site]] {place}: number is missing or not an integer between 1 and 16")
-        if not isinstance(folder, str):
-            raise refuse(f"[[site]] {place}: folder is missing or not a string")
-        if number in found:
-            raise refuse(f"site {number} specified more than once")
-        found[number] = os.path.join(os.path.dirname(path), folder)
-    return found
-
+from .places import CATALOG, copies, one_of, read_sites
 
 def identity(folder: str) -> Any:
     """What tells a folder from others: its device and inode. Of one that is not there, those of the folder around it, and its

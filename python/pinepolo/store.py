@@ -10,7 +10,7 @@ from typing import TYPE_CHECKING, Any
 
 from .catalog import Catalog, Projection
 from .errors import USAGE, BadCell, DataError
-from .places import types_of
+from .places import types_beside
 from .scans import Scan
 from .sites import Places
 from .types import Column, Types, make_type
@@ -48,7 +48,7 @@ class Store:
         self.path = os.fspath(path)
         self.places = Places(self.path, None if sites is None else os.fspath(sites))
         self.catalog: Catalog = self.places.catalog
-        self.types: Types = types_of(self.path, self.places.folders or {})
+        self.types: Types = types_beside([self.path, *(self.places.folders or {}).values()], self.catalog)
 
     @property
     def columns(self) -> list[str]:

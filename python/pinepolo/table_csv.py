@@ -10,6 +10,7 @@ from itertools import islice
 from typing import TextIO
 
 from .errors import DEVICE, USAGE, DataError
+from .naming import first_repeated
 
 BLOCK = 1024
 CELL = 131_072
@@ -46,9 +47,8 @@ class Table:
         if not rows:
             raise DataError(f"{self.path} is empty: it has no header", "the first record names the columns")
         header = rows[0]
-        for at, name in enumerate(header):
-            if name in header[:at]:
-                raise DataError(f"{self.path}: record 0: {name!r} stands twice", "give each column a name of its own")
+        if (name := first_repeated(header)) is not None:
+            raise DataError(f"{self.path}: record 0: {name!r} stands twice", "give each column a name of its own")
         return header
 
     def fill(self, rows: list[list[str]], records: Iterator[list[str]], most: int, before: int) -> None:

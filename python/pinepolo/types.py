@@ -2,7 +2,7 @@
 
 The interface in short:
 
-    types = read_types("store")             # of the folder's types.toml, or None if there is none
+    types = parse_types(data, path)         # what the bytes of a types.toml say
     types = plain_types(catalog)            # each column of the catalog as it is
     for column in types.columns:            # the table's columns, in the CSV's order
         column.name                         # its name
@@ -15,21 +15,20 @@ A drafted key (`types.key`) is a column of the catalog that is none of the table
 """
 from __future__ import annotations
 
-import os
 import re
 import tomllib
 from dataclasses import dataclass, field
 from typing import Any
 
 from .columns import Column
-from .errors import DEVICE, REFUSED, DataError
+from .errors import REFUSED, DataError
 from .kinds import PARTS, Bool, DecimalType, Float, Int, LongText, Text, Type
+from .naming import first_repeated
 from .times import LIKE, LIKES, DateType, Timestamp
 from .toml_text import toml_string
 
 FILE = "types.toml"
 VERSION = 1
-LONGEST = 1 << 20
 NAMES: dict[str, type[Type]] = {"int": Int, "bool": Bool, "float": Float, "date": DateType, "text": Text}
 TYPES = "int, decimal(0) to decimal(18), date, timestamp(s), (ms), (us) or (ns), bool, float, text, text(2) to text(8)"
 
@@ -99,24 +98,9 @@ def plain_types(columns: list[tuple[str, str]]) -> Types:
     return Types(tuple(Column(name, make_type(kind)) for name, kind in columns))
 
 
-def read_types(folder: str) -> Types | None:
-    """What the types.toml of a folder says, or None if it has none."""
-    path = os.path.join(folder, FILE)
-    try:
-        with open(path, "rb") as file:
-            data = file.read(LONGEST + 1)
-    except FileNotFoundError:
-        return None
-    except OSError as error:
-        raise DataError(f"could not read {path}: {error.strerror}", "mend the device or the permissions", DEVICE) from None
-    return parse_types(data, path)
-
-
 def parse_types(data: bytes, path: str) -> Types:
     """The types in the bytes of a types.toml."""
     try:
-        if len(data) > LONGEST:
-            raise ValueError(f"more than {LONGEST} bytes")
         return TypesReader(tomllib.loads(data.decode())).types()
     except ValueError as error:
         raise DataError(f"{path}: {error}", "mend it by docs/data.md, or draft it again", REFUSED) from None
@@ -201,6 +185,5 @@ def strings(table: dict[str, Any], where: str, name: str) -> tuple[str, ...]:
 
 
 def distinct(what: str, names: list[str]) -> None:
-    for at, name in enumerate(names):
-        if name in names[:at]:
-            raise ValueError(f"{what} {name!r} stands twice")
+    if (twice := first_repeated(names)) is not None:
+        raise ValueError(f"{what} {twice!r} stands twice")

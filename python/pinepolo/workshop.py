@@ -15,12 +15,11 @@ import fcntl
 import json
 import os
 import shutil
-import tomllib
-from collections.abc import Iterator
 from types import TracebackType
 
+from .catalog import read_catalog
 from .errors import DataError, device
-from .places import CATALOG, read, site_folders
+from .places import CATALOG, read, read_sites
 from .types import FILE
 
 MARK, COMPARED, LOCK = "IMPORTING", "COMPARED", "LOCK"
@@ -43,16 +42,6 @@ def write(path: str, data: bytes) -> None:
         os.fsync(file.fileno())
 
 
-def file_names(catalog: bytes) -> Iterator[str]:
-    """The names of a store's files by its catalog."""
-    projections = tomllib.loads(catalog.decode())["projection"]
-    numbers = {it["name"]: number for number, it in enumerate(projections)}
-    for number, it in enumerate(projections):
-        for segment in range(len(it["sites"])):
-            base = f"p{number}.s{segment}"
-            yield from (f"{base}.seg", f"{base}.del", *(f"{base}.q{numbers[join]}.jix" for join in it["joins"]))
-
-
 def remove(path: str) -> None:
     try:
         os.remove(path)
@@ -66,7 +55,8 @@ def clear_site(folder: str, catalog: bytes) -> None:
         path = os.path.join(folder, name)
         found = read(path) if os.path.isfile(path) else None
         if found == catalog:
-            for file in [*file_names(catalog), FILE]:
+            files = [file for file, _ in read_catalog(catalog, path).file_names()]
+            for file in [*files, FILE]:
                 remove(os.path.join(folder, file))
                 remove(os.path.join(folder, file + PARTIAL))
             sync(folder)
@@ -83,7 +73,7 @@ class Workshop:
         self.named = store.rstrip("/") or store
         self.folder = f"{self.named}.importing"
         self.sites = sites
-        self.site_folders = [os.path.abspath(it) for it in site_folders(sites).values()] if sites else []
+        self.site_folders = [os.path.abspath(it) for it in read_sites(sites).values()] if sites else []
         self.name = os.urandom(8).hex()
         self.store = self.path(self.name)
         self.catalog = self.path(CATALOG)
