@@ -5,6 +5,7 @@ import json
 import math
 import os
 import sqlite3
+import tempfile
 from collections.abc import Iterable, Iterator, Sequence
 
 from .columns import Column
@@ -58,23 +59,34 @@ def json_text(store: str, sites: str | None = None, lost: str | None = None) -> 
 
 
 def to_sqlite(store: str, path: str, sites: str | None = None, lost: str | None = None) -> None:
-    """Makes a file of SQLite with `t_scaled` and `t`. It has its name only when it is whole."""
+    """Makes a file of SQLite with `t_scaled` and `t`. It has its name only when it is whole, and takes none that is there."""
     if os.path.lexists(path):
         raise DataError(f"{path} already exists", "give another path")
     types, blocks = opened(store, sites, lost)
-    partial = f"{path}.partial"
+    around, name = os.path.split(os.path.abspath(path))
     try:
-        if os.path.lexists(partial):
-            os.remove(partial)
-        write_sqlite(partial, types.columns, blocks)
-        os.rename(partial, path)
+        with tempfile.TemporaryDirectory(prefix=f"{name}.partial.", dir=around) as folder:
+            partial = os.path.join(folder, name)
+            write_sqlite(partial, types.columns, blocks)
+            take_name(partial, path)
+    except FileExistsError:
+        raise DataError(f"{path} already exists", "give another path") from None
     except sqlite3.Error as error:
-        raise DataError(f"could not write {partial}: {error}", "check the path and the room on its disk", DEVICE) from None
+        raise DataError(f"could not write {path}: {error}", "check the path and the room on its disk", DEVICE) from None
     except OSError as error:
         raise device(error, "check the path and the room on its disk") from None
-    finally:
-        if os.path.lexists(partial):
-            os.remove(partial)
+
+
+def take_name(partial: str, path: str) -> None:
+    """Gives a file a name that nothing has. A FileExistsError says that something has it."""
+    try:
+        os.link(partial, path)
+    except FileExistsError:
+        raise
+    except OSError:
+        # (a file system without hard links)
+        open(path, "x").close()
+        os.replace(partial, path)
 
 
 def write_sqlite(path: str, columns: Sequence[Column], blocks: Blocks) -> None:
