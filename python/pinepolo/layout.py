@@ -6,7 +6,7 @@ from dataclasses import dataclass, field
 from typing import Any
 
 from .naming import name_of
-from .toml_text import toml_string
+from .toml_text import toml_list, toml_string
 
 PROJECTIONS, SITES, COLUMNS, SORT = 8, 16, 32, 4
 
@@ -56,17 +56,13 @@ def value_text(value: Any) -> str:
     return str(value) if isinstance(value, int) else toml_string(value)
 
 
-def strings(names: Sequence[str]) -> str:
-    return f"[{', '.join(map(toml_string, names))}]"
-
-
 def catalog_text(table: str, key: str, sites: int, columns: Sequence[tuple[str, str]], projections: Sequence[Projection]) -> str:
     """The text of catalog.toml, version 1, without join indexes. `columns` are names and kinds."""
     parts = [f"version = 1\ntable = {toml_string(table)}\nkey = {toml_string(key)}\nsites = {sites}\n"]
     parts += [f"\n[[column]]\nname = {toml_string(name)}\nkind = {toml_string(kind)}\n" for name, kind in columns]
     names = [name for name, _ in columns]
     for it in projections:
-        parts.append(f"\n[[projection]]\nname = {toml_string(it.name)}\ncolumns = {strings(names)}\ncodes = {it.codes}\n"
-                     f"sort = {strings(it.sort)}\ncuts = [{', '.join(map(value_text, it.cuts))}]\n"
+        parts.append(f"\n[[projection]]\nname = {toml_string(it.name)}\ncolumns = {toml_list(names)}\ncodes = {it.codes}\n"
+                     f"sort = {toml_list(it.sort)}\ncuts = [{', '.join(map(value_text, it.cuts))}]\n"
                      f"sites = {it.segment_sites()}\njoins = []\n")
     return "".join(parts)
