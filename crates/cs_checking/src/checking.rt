@@ -9,7 +9,7 @@ use cs_parallel_io::load_readable_side_by_side;
 use cs_rebuild::Run;
 use cs_schema::Loss;
 use pinepolo_args::CheckArgs;
-use pinepolo_places::{Listings, VerbError, find_store};
+use pinepolo_places::{Listings, VerbError, find_store, require_unchanged, watch};
 use pinepolo_progress::Progress;
 use pinepolo_text::Checked;
 use std::marker::Sync;
@@ -30,12 +30,14 @@ pub fn check<R: Threads + Sync, G: Progress + Sync, P: Listings>(
         Ok(found) => found,
         Err(error) => return Err(error),
     };
+    let before = watch(alloc, places, request.store)?;
     let Ok(found) = load_readable_side_by_side(rt, alloc, &catalog, Loss::none(), &source) else {
         return Err(VerbError::OutOfMemory);
     };
     let Ok(unfinished) = places.unfinished(request.store) else {
         return Err(VerbError::OutOfMemory);
     };
+    require_unchanged(alloc, places, request.store, &before)?;
     let unreadable = found.unreadable.as_slice();
     let is_unreadable = !unreadable.is_empty();
     match judge(run, &catalog, &found.files, unreadable, request.k) {

@@ -4,6 +4,7 @@ use Rattle.std.specs.Prelude.{◌≡◌, ◌⊎◌, ℕ, List, [], ◌∷◌, �
 -- a call that changes a file or a folder, or a look at what stands at a path; a path is the bytes of its text
 pub data Call : Type 0 where
   create : (path : List ℕ) → Call
+  make : (path : List ℕ) → Call
   write : (path : List ℕ) → Call
   sync : (path : List ℕ) → Call
   rename : (from to : List ℕ) → Call
@@ -12,6 +13,7 @@ pub data Call : Type 0 where
   remove : (path : List ℕ) → Call
   see : (path : List ℕ) → Call
   miss : (path : List ℕ) → Call
+  same : (path other : List ℕ) → Call
   sync_folder : (path : List ℕ) → Call
   finish : (path : List ℕ) → Call
 
@@ -54,7 +56,7 @@ IsSynced path [] = ⊥
 IsSynced path (sync other ∷ before) = (path ≡ other) ⊎ IsSynced path before
 IsSynced path (create other ∷ before) = ¬ (path ≡ other) × IsSynced path before
 IsSynced path (write other ∷ before) = ¬ (path ≡ other) × IsSynced path before
-IsSynced path (rename from to ∷ before) = ⊥
+IsSynced path (rename from to ∷ before) = (path ≡ to) × IsSynced from before
 IsSynced path (remove other ∷ before) = ¬ (path ≡ other) × IsSynced path before
 IsSynced path (_ ∷ before) = IsSynced path before
 
@@ -70,6 +72,7 @@ IsSettled folder (write path ∷ before) = IsSettled folder before
 IsSettled folder (sync path ∷ before) = IsSettled folder before
 IsSettled folder (see path ∷ before) = IsSettled folder before
 IsSettled folder (miss path ∷ before) = IsSettled folder before
+IsSettled folder (same path other ∷ before) = IsSettled folder before
 IsSettled folder (_ ∷ before) = ⊥
 
 -- it was seen that something is kept at one path, or that nothing stands at the other, and nothing changed since

@@ -1,6 +1,7 @@
 pub mod Calls
 pub mod Ending
 pub mod Moving
+pub mod Naming
 pub mod Placing
 pub mod Recording
 pub mod Replacing

@@ -1,5 +1,5 @@
 -- The calls of the system, and what it tells.
-use Rattle.std.specs.Prelude.{ℕ, List, ⊤}
+use Rattle.std.specs.Prelude.{ℕ, List, ⊤, refl}
 use Rattle.cs_file_system.specs.Calls.{Calls}
 use Rattle.cs_file_system.specs.declared.identity.Identity.{Identity}
 
@@ -21,6 +21,14 @@ system_identity path identity = ⊤
 pub system_no_link : List ℕ → Type 0
 system_no_link path = ⊤
 
+-- the system gave this program the lock of an open file
+pub system_locked : {S : Type 0} → S → Type 0
+system_locked file = ⊤
+
+pub system_locked-prop : {S : Type 0} (file : S) → IsProp (system_locked file)
+unfolding system_locked
+system_locked-prop file a b = refl
+
 -- for the calls that ask alone
 pub trusted_identity : (path : List ℕ) (identity : Identity) → system_identity path identity
 unfolding system_identity
@@ -29,3 +37,7 @@ trusted_identity path identity = tt
 pub trusted_no_link : (path : List ℕ) → system_no_link path
 unfolding system_no_link
 trusted_no_link path = tt
+
+pub trusted_locked : {S : Type 0} (file : S) → system_locked file
+unfolding system_locked
+trusted_locked file = tt

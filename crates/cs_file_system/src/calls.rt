@@ -1,11 +1,13 @@
 //! The calls of a file system.
 ghost use Rattle.std.specs.Prelude.{◌≡◌, ℕ, List, false, IfOk, OnOk, OnErr};
-ghost use Rattle.cs_file_system.specs.Calls.{Adds, Always, Calls, IsNoMore, IsSettled, IsSynced, MayAdd, MayBeReplaced, create, finish, keep, link, remove, rename, sync, sync_folder, write};
-ghost use Rattle.cs_file_system.specs.Seeing.{IsSeen};
+ghost use Rattle.cs_file_system.specs.Calls.{Adds, Always, Calls, IsNoMore, IsSettled, IsSynced, MayAdd, MayBeReplaced, create, finish, keep, link, make, remove, rename, sync, sync_folder, write};
+ghost use Rattle.cs_file_system.specs.Seeing.{AreCompared, IsSeen};
 ghost use Rattle.cs_file_system.specs.declared.identity.Identity.{Identity};
 
 use crate::identity::Identity;
+use crate::owner::Owner;
 use crate::standing::Standing;
+use std::alloc::Global;
 use std::io;
 
 /// A file system whose calls are remembered. A path is the bytes of its text.
@@ -32,8 +34,8 @@ pub trait FileSystem {
         ensures same { IsNoMore (made self.old) (made self.new) };
 
     /// Whether a link is seen at a path.
-    fn is_link(&mut self, path: &str) -> bool
-        ensures none { result ≡ false → has_no_link path.now }
+    fn is_link(&mut self, path: &str) -> io::Result<bool>
+        ensures none { IfOk result (λ is. is ≡ false → has_no_link path.now) }
         ensures same { IsNoMore (made self.old) (made self.new) };
 
     /// What stands at a path.
@@ -43,6 +45,13 @@ pub trait FileSystem {
 
     /// Makes a new file, in which nothing is yet. An error of the kind `AlreadyExists` if something has the name.
     fn create(&mut self, path: &str) -> io::Result<Self::File>
+        ensures file { IfOk result (λ file. is_at file path.now) }
+        ensures ok { OnOk result (Adds (create path.now) (made self.old) (made self.new)) }
+        ensures err { OnErr result (MayAdd (create path.now) (made self.old) (made self.new)) };
+
+    /// Makes a new file that its owner alone may read, in which nothing is yet. An error of the kind `AlreadyExists` if something
+    /// has the name.
+    fn create_private(&mut self, path: &str) -> io::Result<Self::File>
         ensures file { IfOk result (λ file. is_at file path.now) }
         ensures ok { OnOk result (Adds (create path.now) (made self.old) (made self.new)) }
         ensures err { OnErr result (MayAdd (create path.now) (made self.old) (made self.new)) };
@@ -60,13 +69,6 @@ pub trait FileSystem {
         ensures ok { OnOk result (Adds (create path.now) (made self.old) (made self.new)) }
         ensures err { OnErr result (MayAdd (create path.now) (made self.old) (made self.new)) };
 
-    /// Cuts a file after so many bytes. Until a sync that may not be on the disk.
-    fn cut(&mut self, path: &str, file: &mut Self::File, length: u64) -> io::Result<()>
-        requires { is_at file.old path.now }
-        ensures file { is_at file.new path.now }
-        ensures ok { OnOk result (Adds (write path.now) (made self.old) (made self.new)) }
-        ensures err { OnErr result (MayAdd (write path.now) (made self.old) (made self.new)) };
-
     /// Writes these bytes at the end of a file. Until a sync they may not be on the disk.
     fn write(&mut self, path: &str, file: &mut Self::File, bytes: &[u8]) -> io::Result<()>
         requires { is_at file.old path.now }
@@ -74,13 +76,22 @@ pub trait FileSystem {
         ensures ok { OnOk result (Adds (write path.now) (made self.old) (made self.new)) }
         ensures err { OnErr result (MayAdd (write path.now) (made self.old) (made self.new)) };
 
-    /// Gives the file beside a path the owner and the mode of what stands there, or where that is no file, of the folder.
-    fn give_owner(&mut self, folder: &str, path: &str, beside: &str) -> io::Result<()>
+    /// Writes the bytes of the regular file at another path at the end of a file. Until a sync they may not be on the disk.
+    fn write_copy(&mut self, from: &str, path: &str, file: &mut Self::File) -> io::Result<()>
+        requires { is_at file.old path.now }
+        ensures file { is_at file.new path.now }
+        ensures ok { OnOk result (Adds (write path.now) (made self.old) (made self.new)) }
+        ensures err { OnErr result (MayAdd (write path.now) (made self.old) (made self.new)) };
+
+    /// Whose the file at a path is and who may read it; if no regular file stands there that its owner can read, whose the
+    /// folder is.
+    fn owner_of(&mut self, folder: &str, path: &str) -> io::Result<Owner>
         ensures { IsNoMore (made self.old) (made self.new) };
 
     /// Brings the bytes of a file to the disk.
     fn sync(&mut self, path: &str, file: &mut Self::File) -> io::Result<()>
         requires { is_at file.old path.now }
+        ensures file { is_at file.new path.now }
         ensures ok { OnOk result (Adds (sync path.now) (made self.old) (made self.new)) }
         ensures err { OnErr result (IsNoMore (made self.old) (made self.new)) };
 
@@ -111,12 +122,21 @@ pub trait FileSystem {
         ensures ok { OnOk result (Adds (link from.now to.now) (made self.old) (made self.new)) }
         ensures err { OnErr result (MayAdd (link from.now to.now) (made self.old) (made self.new)) };
 
-    /// Gives what stands at a path a second name, unless something has that name already.
+    /// Gives what stands at a path a second name. An error of the kind `AlreadyExists` if something has that name.
     fn link(&mut self, from: &str, to: &str) -> io::Result<()>
         ensures ok { OnOk result (Adds (keep from.now to.now) (made self.old) (made self.new)) }
         ensures err { OnErr result (MayAdd (keep from.now to.now) (made self.old) (made self.new)) };
 
-    /// Moves a folder to another name, unless something has that name already.
+    /// Whether one file stands at two paths, or two regular files of the same bytes.
+    fn is_same(&mut self, path: &str, other: &str) -> io::Result<bool>
+        ensures ok { IfOk result (λ is. AreCompared is path.now other.now (made self.old) (made self.new)) }
+        ensures err { OnErr result (IsNoMore (made self.old) (made self.new)) };
+
+    /// Whether a path still is the name of an open file.
+    fn is_named(&mut self, path: &str, file: &Self::File) -> io::Result<bool>
+        ensures { IsNoMore (made self.old) (made self.new) };
+
+    /// Moves a folder to another name. An error of the kind `AlreadyExists` if something has that name.
     fn move_folder(&mut self, from: &str, to: &str) -> io::Result<()>
         ensures ok { OnOk result (Adds (keep from.now to.now) (made self.old) (made self.new)) }
         ensures err { OnErr result (MayAdd (keep from.now to.now) (made self.old) (made self.new)) };
@@ -134,6 +154,11 @@ pub trait FileSystem {
         ensures ok { OnOk result (Adds (remove path.now) (made self.old) (made self.new)) }
         ensures err { OnErr result (MayAdd (remove path.now) (made self.old) (made self.new)) };
 
+    /// Makes a new folder. An error of the kind `AlreadyExists` if something has the name.
+    fn create_folder(&mut self, path: &str) -> io::Result<()>
+        ensures ok { OnOk result (Adds (make path.now) (made self.old) (made self.new)) }
+        ensures err { OnErr result (MayAdd (make path.now) (made self.old) (made self.new)) };
+
     /// Makes the folder, unless it is there.
     fn make_folder(&mut self, path: &str) -> io::Result<()>
         ensures ok { OnOk result (Adds (create path.now) (made self.old) (made self.new)) }
@@ -141,6 +166,16 @@ pub trait FileSystem {
 
     /// Removes the file, if there is one.
     fn remove(&mut self, path: &str) -> io::Result<()>
+        ensures ok { OnOk result (Adds (remove path.now) (made self.old) (made self.new)) }
+        ensures err { OnErr result (MayAdd (remove path.now) (made self.old) (made self.new)) };
+
+    /// Gives what a run left that was stopped the name of an empty folder of this run's own, or one in such a folder.
+    fn move_left(&mut self, from: &str, own: &str) -> io::Result<()>
+        ensures ok { OnOk result (Adds (rename from.now own.now) (made self.old) (made self.new)) }
+        ensures err { OnErr result (MayAdd (rename from.now own.now) (made self.old) (made self.new)) };
+
+    /// Removes a folder of this run's own with all that is in it. Links are not followed.
+    fn remove_tree(&mut self, alloc: Global, path: &str) -> io::Result<()>
         ensures ok { OnOk result (Adds (remove path.now) (made self.old) (made self.new)) }
         ensures err { OnErr result (MayAdd (remove path.now) (made self.old) (made self.new)) };
 

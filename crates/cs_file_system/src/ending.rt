@@ -1,9 +1,11 @@
-//! The end of work on a folder: a line of a log, the record beside what the work keeps, and no record of unfinished work.
-ghost use Rattle.std.specs.Prelude.{IfOk, OnOk, map, string_bytes};
+//! The end of work on a folder: a log, the record beside what the work keeps, and no record of unfinished work.
+ghost use Rattle.std.specs.Prelude.{OnOk, map, string_bytes};
 ghost use Rattle.cs_file_system.specs.Calls.{AddsAll, Always, IsSettled, IsSynced};
 ghost use Rattle.cs_file_system.specs.Ending.{IsFinished, IsRecorded, folders_synced, work_ended};
 
 use crate::calls::FileSystem;
+use crate::owner::SetOwner;
+use crate::placing::put_owned;
 use std::io;
 
 /// The paths of what changes if work on a folder ends.
@@ -15,6 +17,8 @@ pub struct EndOfWork {
     pub changed: Vec<String>,
     /// The log, a file in the folder.
     pub log: String,
+    /// Where a new log is made.
+    pub beside: String,
     /// The record of the work, a file in the folder.
     pub mark: String,
     /// The folder that keeps what the work replaced.
@@ -23,43 +27,26 @@ pub struct EndOfWork {
     pub kept_mark: String,
 }
 
-/// What work adds to a log.
-#[derive(Drop)]
-pub struct Entry {
-    /// After how many bytes the log is cut first, if it is.
-    pub cut: Option<u64>,
-    pub text: String,
-}
-
-/// Opens a log, and cuts it if a length is given.
-fn open_log<F: FileSystem>(files: &mut F, log: &str, cut: Option<u64>) -> io::Result<F::File>
-    ensures { IfOk result (λ file. F.is_at file log.now) }
+/// Puts a log in the place of the one that stands in a folder, whole or not at all, and brings its name to the disk.
+fn put_log<F: FileSystem>(files: &mut F, work: &EndOfWork, text: &[u8]) -> io::Result<()>
+where
+    F::File: SetOwner,
+    ensures logged { OnOk result (Always (F.made files.new) (IsSynced (string_bytes work.now.log))) }
+    ensures settled { OnOk result (Always (F.made files.new) (IsSettled (string_bytes work.now.folder))) }
 {
-    let mut file = files.open_end(log)?;
-    let Some(length) = cut else {
-        return Ok(file);
-    };
-    files.cut(log, &mut file, length)?;
-    Ok(file)
-}
-
-/// Adds to a log in a folder, and brings that and the log's name to the disk.
-fn add_entry<F: FileSystem>(files: &mut F, folder: &str, log: &str, entry: &Entry) -> io::Result<()>
-    ensures logged { OnOk result (Always (F.made files.new) (IsSynced log.now)) }
-    ensures settled { OnOk result (Always (F.made files.new) (IsSettled folder.now)) }
-{
-    let mut file = open_log(files, log, entry.cut)?;
-    files.write(log, &mut file, entry.text.as_bytes())?;
-    files.sync(log, &mut file)?;
+    let (folder, log) = (work.folder.as_str(), work.log.as_str());
+    put_owned(files, folder, work.beside.as_str(), log, text)?;
     files.sync_folder(folder)
 }
 
-/// Adds to the log what became of work, and then its record to what it keeps.
-fn record_work<F: FileSystem>(files: &mut F, work: &EndOfWork, entry: &Entry) -> io::Result<()>
+/// Puts the log in place that says what became of work, and then adds the record to what the work keeps.
+fn record_work<F: FileSystem>(files: &mut F, work: &EndOfWork, log: &[u8]) -> io::Result<()>
+where
+    F::File: SetOwner,
     ensures { OnOk result (Always (F.made files.new) (IsRecorded work.now)) }
 {
+    put_log(files, work, log)?;
     let (folder, log) = (work.folder.as_str(), work.log.as_str());
-    add_entry(files, folder, log, entry)?;
     files.keep_mark(folder, log, work.mark.as_str(), work.kept_mark.as_str())
 }
 
@@ -84,11 +71,13 @@ pub fn end_recorded<F: FileSystem>(files: &mut F, work: &EndOfWork) -> io::Resul
     files.finish_kept(folder, kept, work.mark.as_str())
 }
 
-/// Ends work: it is logged, its record joins what it keeps, and then the record of unfinished work goes, each once what came
-/// before is on the disk. That the last name is gone is not there yet.
-pub fn end_work<F: FileSystem>(files: &mut F, work: &EndOfWork, entry: &Entry) -> io::Result<()>
+/// Ends work: its log is put in place, its record joins what it keeps, and then the record of unfinished work goes, each once
+/// what came before is on the disk. That the last name is gone is not there yet.
+pub fn end_work<F: FileSystem>(files: &mut F, work: &EndOfWork, log: &[u8]) -> io::Result<()>
+where
+    F::File: SetOwner,
     ensures { OnOk result (Always (F.made files.new) (IsFinished work.now)) }
 {
-    record_work(files, work, entry)?;
+    record_work(files, work, log)?;
     end_recorded(files, work)
 }

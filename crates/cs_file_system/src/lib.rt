@@ -5,11 +5,14 @@
 //! the work on it ends. `SystemFiles` is that of the system.
 #![tactic(auto)]
 
+mod beside;
 mod calls;
+mod copying;
 mod ending;
 mod identity;
 mod locking;
 mod moving;
+mod naming;
 mod owner;
 mod placing;
 mod recording;
@@ -17,13 +20,17 @@ mod replacing;
 mod standing;
 mod system;
 
+pub use beside::{new_folder_beside, or_remove};
 pub use calls::FileSystem;
-pub use ending::{EndOfWork, Entry, end_recorded, end_work};
+pub use copying::{is_named, open_regular, open_to_lock, open_unlinked, refuses_links};
+pub use ending::{EndOfWork, end_recorded, end_work};
 pub use identity::Identity;
-pub use locking::TryLock;
+pub use locking::{TryLock, is_held};
 pub use moving::move_back;
-pub use placing::{mark, put, put_folder, put_owned, unmark, write_synced};
-pub use recording::{begin_record, rewrite_record, sweep};
+pub use naming::put_new;
+pub use owner::{Owner, SetOwner};
+pub use placing::{mark, put_folder, put_owned, unmark, write_synced};
+pub use recording::{begin_mark, begin_record, lock_at, rewrite_record, sweep};
 pub use replacing::{Replacement, replace_kept, take_away};
 pub use standing::Standing;
 pub use system::SystemFiles;

@@ -3,30 +3,59 @@ ghost use Rattle.std.specs.Prelude.{OnOk};
 ghost use Rattle.cs_file_system.specs.Calls.{AddsAll, Always, IsSynced};
 ghost use Rattle.cs_file_system.specs.Placing.{IsMarked, IsPut, IsUnmarked, folder_put};
 
+use crate::beside::or_remove;
 use crate::calls::FileSystem;
+use crate::owner::SetOwner;
 use std::io;
 
-/// Makes a new file of these bytes, in the place of one that is there, and brings them to the disk.
+/// Writes bytes into a new file, and brings them to the disk.
+pub fn fill<F: FileSystem>(
+    files: &mut F,
+    path: &str,
+    file: &mut F::File,
+    bytes: &[u8],
+) -> io::Result<()>
+    requires { F.is_at file.old path.now }
+    ensures file { F.is_at file.new path.now }
+    ensures synced { OnOk result (Always (F.made files.new) (IsSynced path.now)) }
+{
+    files.write(path, file, bytes)?;
+    files.sync(path, file)
+}
+
+/// Makes a new file of these bytes, and brings them to the disk. An error of the kind `AlreadyExists` if something has the
+/// name. After another error the file is gone, if it can be removed.
 pub fn write_synced<F: FileSystem>(files: &mut F, path: &str, bytes: &[u8]) -> io::Result<()>
     ensures { OnOk result (Always (F.made files.new) (IsSynced path.now)) }
 {
-    files.remove(path)?;
     let mut file = files.create(path)?;
-    files.write(path, &mut file, bytes)?;
-    files.sync(path, &mut file)
+    let filled = fill(files, path, &mut file, bytes);
+    or_remove(files, path, filled)
 }
 
-/// Puts a file of these bytes in place: it is made beside its path, brought to the disk, and then takes the place of what
-/// stands there. That it has the name is not on the disk yet.
-pub fn put<F: FileSystem>(files: &mut F, beside: &str, path: &str, bytes: &[u8]) -> io::Result<()>
-    ensures { OnOk result (Always (F.made files.new) (IsPut beside.now path.now)) }
+/// Writes bytes into a new file, gives it the owner and the mode of what stands at a path, or if that is no regular file, of
+/// the folder, and brings it to the disk.
+fn fill_owned<F: FileSystem>(
+    files: &mut F,
+    folder: &str,
+    beside: &str,
+    path: &str,
+    file: &mut F::File,
+    bytes: &[u8],
+) -> io::Result<()>
+where
+    F::File: SetOwner,
+    requires { F.is_at file.old beside.now }
+    ensures { OnOk result (Always (F.made files.new) (IsSynced beside.now)) }
 {
-    write_synced(files, beside, bytes)?;
-    files.rename(beside, path)
+    let owner = files.owner_of(folder, path)?;
+    file.set_owner(owner)?;
+    fill(files, beside, file, bytes)
 }
 
-/// Makes a new file of these bytes beside a path, with the owner and the mode of what stands there, or where that is no file,
-/// of the folder, and brings it to the disk.
+/// Makes a new file of these bytes beside a path, in the place of one that a run left which was stopped, with the owner and the
+/// mode of what stands at the path, or if that is no regular file, of the folder. It is brought to the disk; until it has its
+/// owner nobody else may read it. After an error it is gone, if it can be removed.
 pub fn write_owned<F: FileSystem>(
     files: &mut F,
     folder: &str,
@@ -34,17 +63,19 @@ pub fn write_owned<F: FileSystem>(
     path: &str,
     bytes: &[u8],
 ) -> io::Result<()>
+where
+    F::File: SetOwner,
     ensures { OnOk result (Always (F.made files.new) (IsSynced beside.now)) }
 {
     files.remove(beside)?;
-    let mut file = files.create(beside)?;
-    files.write(beside, &mut file, bytes)?;
-    files.give_owner(folder, path, beside)?;
-    files.sync(beside, &mut file)
+    let mut file = files.create_private(beside)?;
+    let filled = fill_owned(files, folder, beside, path, &mut file, bytes);
+    or_remove(files, beside, filled)
 }
 
-/// Puts a file of these bytes in place as `put` does, with the owner and the mode of what stands there, or where that is no
-/// file, of the folder.
+/// Puts a file of these bytes in place, with the owner and the mode of what stands there, or if that is no regular file, of the
+/// folder: it is made beside its path, brought to the disk, and then takes the place of what stands there. That it has the name
+/// is not on the disk yet.
 pub fn put_owned<F: FileSystem>(
     files: &mut F,
     folder: &str,
@@ -52,10 +83,13 @@ pub fn put_owned<F: FileSystem>(
     path: &str,
     bytes: &[u8],
 ) -> io::Result<()>
+where
+    F::File: SetOwner,
     ensures { OnOk result (Always (F.made files.new) (IsPut beside.now path.now)) }
 {
     write_owned(files, folder, beside, path, bytes)?;
-    files.rename(beside, path)
+    let named = files.rename(beside, path);
+    or_remove(files, beside, named)
 }
 
 /// Gives a new folder its name, once the names in it are on the disk, and brings that name there too.

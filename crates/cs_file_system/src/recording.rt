@@ -3,43 +3,16 @@ ghost use Rattle.std.specs.Prelude.{IfOk, IfSome, IsTrue, OnOk, string_bytes};
 ghost use Rattle.cs_file_system.specs.Calls.{Always, IsSynced};
 ghost use Rattle.cs_file_system.specs.Recording.{IsBegun, IsRewritten};
 
+use crate::beside::{BESIDE_LIMIT, Beside, new_beside, or_remove};
 use crate::calls::FileSystem;
 use crate::locking::TryLock;
+use crate::placing::fill;
 use std::alloc::Global;
 use std::io;
 use std::io::ErrorKind;
 
-/// How many names beside a record are tried, at most: each is of one program that is about to begin work.
-const BESIDE_LIMIT: u32 = 64;
-
-/// A new file beside the name of a record.
-#[derive(Drop)]
-struct Beside<L> {
-    path: String,
-    file: L,
-}
-
-/// A new file beside a record, in which nothing is yet.
-fn new_beside<F: FileSystem>(
-    files: &mut F,
-    alloc: Global,
-    record: &str,
-) -> io::Result<Beside<F::File>>
-    ensures { IfOk result (λ beside. F.is_at beside.file (string_bytes beside.path)) }
-{
-    for number in 1..=BESIDE_LIMIT {
-        let path = format!(in alloc; "{record}.{number}")?;
-        match files.create(path.as_str()) {
-            Ok(file) => return Ok(Beside { path, file }),
-            Err(e) if e.kind() == ErrorKind::AlreadyExists => {}
-            Err(e) => return Err(e),
-        }
-    }
-    Err(io::Error::from(ErrorKind::AlreadyExists))
-}
-
 /// Writes a new file, brings it to the disk, and locks it.
-fn fill<F: FileSystem>(
+fn fill_locked<F: FileSystem>(
     files: &mut F,
     path: &str,
     file: &mut F::File,
@@ -48,10 +21,10 @@ fn fill<F: FileSystem>(
 where
     F::File: TryLock,
     requires { F.is_at file.old path.now }
-    ensures { OnOk result (Always (F.made files.new) (IsSynced path.now)) }
+    ensures synced { OnOk result (Always (F.made files.new) (IsSynced path.now)) }
+    ensures locked { OnOk result (F.File.is_locked file.new) }
 {
-    files.write(path, file, bytes)?;
-    files.sync(path, file)?;
+    fill(files, path, file, bytes)?;
     file.take_lock()
 }
 
@@ -65,16 +38,44 @@ fn write_beside<F: FileSystem>(
 ) -> io::Result<Beside<F::File>>
 where
     F::File: TryLock,
-    ensures { IfOk result (λ beside. Always (F.made files.new) (IsSynced (string_bytes beside.path))) }
+    ensures synced { IfOk result (λ beside. Always (F.made files.new) (IsSynced (string_bytes beside.path))) }
+    ensures locked { IfOk result (λ beside. F.File.is_locked beside.file) }
 {
     let Beside { path, mut file } = new_beside(files, alloc, record)?;
-    match fill(files, path.as_str(), &mut file, bytes) {
-        Ok(()) => Ok(Beside { path, file }),
-        Err(e) => {
-            let _removed = files.remove(path.as_str()).is_ok();
-            Err(e)
-        }
+    let filled = fill_locked(files, path.as_str(), &mut file, bytes);
+    or_remove(files, path.as_str(), filled)?;
+    Ok(Beside { path, file })
+}
+
+/// Locks an open file, which stands at a path. An error of the kind `WouldBlock` if another program has it locked, or has taken
+/// it away meanwhile.
+pub fn lock_at<F: FileSystem>(files: &mut F, path: &str, file: &F::File) -> io::Result<()>
+where
+    F::File: TryLock,
+    ensures { OnOk result (F.File.is_locked file.now) }
+{
+    file.take_lock()?;
+    if files.is_named(path, file)? {
+        Ok(())
+    } else {
+        Err(io::Error::from(ErrorKind::WouldBlock))
     }
+}
+
+/// Makes the mark that this program makes something new, a file of these bytes that is locked and on the disk. An error of the
+/// kind `AlreadyExists` if something has the name.
+pub fn begin_mark<F: FileSystem>(files: &mut F, path: &str, bytes: &[u8]) -> io::Result<F::File>
+where
+    F::File: TryLock,
+    ensures { IfOk result (λ mark. F.File.is_locked mark) }
+{
+    let mut mark = files.create(path)?;
+    // unless it is locked it may be another program's to remove
+    lock_at(files, path, &mark)?;
+    let filled = fill(files, path, &mut mark, bytes);
+    or_remove(files, path, filled)?;
+    lock_at(files, path, &mark)?;
+    Ok(mark)
 }
 
 /// Gives a record its name, which is brought to the disk; whether it has it. Not if something has the name already, or the
@@ -117,7 +118,8 @@ pub fn begin_record<F: FileSystem>(
 ) -> io::Result<Option<F::File>>
 where
     F::File: TryLock,
-    ensures { IfOk result (λ begun. IfSome begun (λ file. Always (F.made files.new) (IsBegun folder.now path.now))) }
+    ensures begun { IfOk result (λ begun. IfSome begun (λ file. Always (F.made files.new) (IsBegun folder.now path.now))) }
+    ensures locked { IfOk result (λ begun. IfSome begun (λ file. F.File.is_locked file)) }
 {
     let Beside { path: beside, file } = write_beside(files, alloc, path, bytes)?;
     match name_record(files, folder, beside.as_str(), path) {
@@ -145,10 +147,13 @@ pub fn rewrite_record<F: FileSystem>(
 ) -> io::Result<()>
 where
     F::File: TryLock,
-    ensures { OnOk result (Always (F.made files.new) (IsRewritten folder.now path.now)) }
+    requires { F.File.is_locked lock.old }
+    ensures rewritten { OnOk result (Always (F.made files.new) (IsRewritten folder.now path.now)) }
+    ensures locked { F.File.is_locked lock.new }
 {
     let Beside { path: beside, file } = write_beside(files, alloc, path, bytes)?;
-    files.rename(beside.as_str(), path)?;
+    let named = files.rename(beside.as_str(), path);
+    or_remove(files, beside.as_str(), named)?;
     *lock = file;
     files.sync_folder(folder)
 }

@@ -3,12 +3,14 @@ ghost use Rattle.std.specs.Prelude.{⊤};
 ghost use Rattle.cs_file_system.specs.System.{system_calls, system_identity, system_no_link};
 
 use crate::calls::FileSystem;
+use crate::copying::{copy_all, is_named, is_same, open_unlinked};
 use crate::identity::Identity;
-use crate::owner::give_owner;
+use crate::owner::{Owner, PRIVATE, owner_of};
 use crate::standing::Standing;
+use std::alloc::Global;
 use std::fs::{OpenFile, OpenOptions};
 use std::io::{ErrorKind, Write};
-use std::os::unix::fs::MetadataExt;
+use std::os::unix::fs::{MetadataExt, OpenOptionsExt};
 use std::rt::Files;
 use std::{fs, io};
 
@@ -21,6 +23,15 @@ fn unless_taken(done: io::Result<()>) -> io::Result<()> {
     match done {
         Err(e) if e.kind() == ErrorKind::AlreadyExists => Ok(()),
         done => done,
+    }
+}
+
+/// An error if something has the name already.
+fn require_free<R: Files>(rt: &R, path: &str) -> io::Result<()> {
+    match fs::symlink_metadata(rt, path) {
+        Ok(_) => Err(io::Error::from(ErrorKind::AlreadyExists)),
+        Err(e) if e.kind() == ErrorKind::NotFound => Ok(()),
+        Err(e) => Err(e),
     }
 }
 
@@ -52,10 +63,11 @@ impl<R: Files> FileSystem for SystemFiles<'_, R> {
         })
     }
 
-    fn is_link(&mut self, path: &str) -> bool {
+    fn is_link(&mut self, path: &str) -> io::Result<bool> {
         match fs::symlink_metadata(self.0, path) {
-            Ok(found) => found.is_symlink(),
-            Err(_) => false,
+            Ok(found) => Ok(found.is_symlink()),
+            Err(e) if e.kind() == ErrorKind::NotFound => Ok(false),
+            Err(e) => Err(e),
         }
     }
 
@@ -73,6 +85,12 @@ impl<R: Files> FileSystem for SystemFiles<'_, R> {
         how.write(true).create_new(true).open(self.0, path)
     }
 
+    fn create_private(&mut self, path: &str) -> io::Result<R::File> {
+        let mut how = OpenOptions::new();
+        how.write(true).create_new(true).mode(PRIVATE);
+        how.open(self.0, path)
+    }
+
     fn create_mark(&mut self, _folder: &str, path: &str) -> io::Result<R::File> {
         self.create(path)
     }
@@ -82,16 +100,16 @@ impl<R: Files> FileSystem for SystemFiles<'_, R> {
         how.append(true).create(true).open(self.0, path)
     }
 
-    fn cut(&mut self, _path: &str, file: &mut R::File, length: u64) -> io::Result<()> {
-        file.set_len(length)
-    }
-
     fn write(&mut self, _path: &str, file: &mut R::File, bytes: &[u8]) -> io::Result<()> {
         file.write_all(bytes)
     }
 
-    fn give_owner(&mut self, folder: &str, path: &str, beside: &str) -> io::Result<()> {
-        give_owner(self.0, folder, path, beside)
+    fn write_copy(&mut self, from: &str, _path: &str, file: &mut R::File) -> io::Result<()> {
+        copy_all(&mut open_unlinked(self.0, from)?, file)
+    }
+
+    fn owner_of(&mut self, folder: &str, path: &str) -> io::Result<Owner> {
+        owner_of(self.0, folder, path)
     }
 
     fn sync(&mut self, _path: &str, file: &mut R::File) -> io::Result<()> {
@@ -115,11 +133,20 @@ impl<R: Files> FileSystem for SystemFiles<'_, R> {
     }
 
     fn link(&mut self, from: &str, to: &str) -> io::Result<()> {
-        unless_taken(fs::hard_link(self.0, from, to))
+        fs::hard_link(self.0, from, to)
+    }
+
+    fn is_same(&mut self, path: &str, other: &str) -> io::Result<bool> {
+        is_same(self.0, path, other)
+    }
+
+    fn is_named(&mut self, path: &str, file: &R::File) -> io::Result<bool> {
+        is_named(self.0, path, file)
     }
 
     fn move_folder(&mut self, from: &str, to: &str) -> io::Result<()> {
-        unless_taken(fs::rename(self.0, from, to))
+        require_free(self.0, to)?;
+        fs::rename(self.0, from, to)
     }
 
     fn move_over(&mut self, from: &str, to: &str, _kept: &str, _folder: &str) -> io::Result<()> {
@@ -130,6 +157,10 @@ impl<R: Files> FileSystem for SystemFiles<'_, R> {
         self.remove(path)
     }
 
+    fn create_folder(&mut self, path: &str) -> io::Result<()> {
+        fs::create_dir(self.0, path)
+    }
+
     fn make_folder(&mut self, path: &str) -> io::Result<()> {
         unless_taken(fs::create_dir(self.0, path))
     }
@@ -138,12 +169,20 @@ impl<R: Files> FileSystem for SystemFiles<'_, R> {
         unless_gone(fs::remove_file(self.0, path))
     }
 
+    fn move_left(&mut self, from: &str, own: &str) -> io::Result<()> {
+        fs::rename(self.0, from, own)
+    }
+
+    fn remove_tree(&mut self, alloc: Global, path: &str) -> io::Result<()> {
+        self.0.remove_dir_all(alloc, path)
+    }
+
     fn sync_folder(&mut self, path: &str) -> io::Result<()> {
         fs::open(self.0, path)?.sync_all()
     }
 
     fn keep_mark(&mut self, _folder: &str, _log: &str, mark: &str, kept: &str) -> io::Result<()> {
-        self.link(mark, kept)
+        unless_taken(fs::hard_link(self.0, mark, kept))
     }
 
     fn finish(&mut self, _folder: &str, mark: &str) -> io::Result<()> {

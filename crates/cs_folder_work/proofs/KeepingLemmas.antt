@@ -3,7 +3,7 @@ use Rattle.std.proofs.Common.{◌+◌, ◌<◌, ℕ, List, [], ◌∷◌, ◌++�
 use Rattle.std.proofs.lemmas.List.{take_more}
 use Rattle.std.specs.List.{AllZip}
 use Rattle.cs_schema.specs.declared.file_name.FileName.{FileName}
-use Rattle.cs_file_system.specs.Calls.{Call, Calls, WasCalled, keep, miss, see}
+use Rattle.cs_file_system.specs.Calls.{Call, Calls, WasCalled, keep, miss, same, see}
 use Rattle.cs_folders.specs.Paths.{file_at}
 use Rattle.cs_folder_work.specs.Keeping.{Become, Becomes, WasSeen}
 use Rattle.cs_folder_work.specs.declared.record.Change.{Change}
@@ -22,7 +22,7 @@ module _ (before calls : Calls) (more : (call : Call) → WasCalled call before 
 
   still : (change : Change) (path kept : List ℕ) → Becomes change path kept before → Becomes change path kept calls
   still change path kept became = elim became [
-    | inl named ↦ inl (more (keep path kept) named.0, named.1)
+    | inl named ↦ inl (elim named.0 [ inl linked ↦ inl (more (keep path kept) linked) | inr found ↦ inr (more (same path kept) found) ], named.1)
     | inr gone ↦ inr (more (miss path) gone.0, seen_still change kept gone.1)
   ]
 

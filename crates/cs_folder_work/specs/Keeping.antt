@@ -2,7 +2,7 @@
 use Rattle.std.specs.Prelude.{◌≡◌, ◌⊎◌, ℕ, List, ◌∷◌}
 use Rattle.std.specs.List.{AllZip}
 use Rattle.cs_schema.specs.declared.file_name.FileName.{FileName}
-use Rattle.cs_file_system.specs.Calls.{Calls, WasCalled, keep, miss, see, sync_folder}
+use Rattle.cs_file_system.specs.Calls.{Calls, WasCalled, keep, miss, same, see, sync_folder}
 use Rattle.cs_folders.specs.Paths.{file_at}
 use Rattle.cs_folder_work.specs.declared.record.Change.{Change}
 use Rattle.cs_folder_work.specs.declared.record.Change.TheVariants.{New, Replaces}
@@ -12,10 +12,14 @@ abbrev pub WasSeen : Change → List ℕ → Calls → Type 0
 WasSeen New kept calls = WasCalled (miss kept) calls
 WasSeen Replaces kept calls = WasCalled (see kept) calls
 
--- What becomes of a path: what stood there got a second name, and is replaced; or nothing stood there, and it is replaced if
--- something was kept of it before.
+-- what stands at a path got a second name, or what has that was found to be the same
+abbrev pub IsKeptAs : (path kept : List ℕ) → Calls → Type 0
+IsKeptAs path kept calls = WasCalled (keep path kept) calls ⊎ WasCalled (same path kept) calls
+
+-- What becomes of a path: what stood there is kept under a second name, and is replaced; or nothing stood there, and it is
+-- replaced if something was kept of it before.
 abbrev pub Becomes : Change → (path kept : List ℕ) → Calls → Type 0
-Becomes change path kept calls = (WasCalled (keep path kept) calls × (change ≡ Replaces)) ⊎ (WasCalled (miss path) calls × WasSeen change kept calls)
+Becomes change path kept calls = (IsKeptAs path kept calls × (change ≡ Replaces)) ⊎ (WasCalled (miss path) calls × WasSeen change kept calls)
 
 -- what became of what stood in the store under each of these names, of which the folder keeps the old files
 abbrev pub Become : (store folder : List ℕ) → List FileName → List Change → Calls → Type 0

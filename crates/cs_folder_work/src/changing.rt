@@ -5,7 +5,9 @@ ghost use Rattle.cs_folder_work.specs.Changing.{ArePathsOf, IsNameMovedBack, IsN
 
 use crate::record::Record;
 use crate::store_folders::StoreFolders;
-use cs_file_system::{FileSystem, Replacement, move_back, put_owned, replace_kept, take_away};
+use cs_file_system::{
+    FileSystem, Replacement, SetOwner, move_back, put_owned, replace_kept, take_away,
+};
 use cs_folders::file_in;
 use cs_schema::FileName;
 use std::alloc::{AllocError, Global};
@@ -51,6 +53,8 @@ pub fn replace_name<F: FileSystem>(
     name: FileName,
     bytes: &[u8],
 ) -> io::Result<()>
+where
+    F::File: SetOwner,
     ensures { OnOk result (Always (F.made files.new) (IsNameReplaced F.has_identity folders.now noted.now name)) }
 {
     let folder = folders.reach(files, name)?;

@@ -1,6 +1,7 @@
 //! Reading regular files.
 ghost use Rattle.std.specs.Prelude.{◌≤◌, IfOk, IfSome};
 
+use cs_file_system::open_unlinked;
 use cs_folders::read_bounded;
 use cs_store::StoreFault;
 use std::alloc::Global;
@@ -34,7 +35,7 @@ pub fn read_regular<R: Files>(
         Some(size) if size <= limit => size,
         _ => return Ok(None),
     };
-    let mut file = fs::open(rt, path)?;
+    let mut file = open_unlinked(rt, path)?;
     match read_bounded(alloc, &mut file, size) {
         Ok(bytes) => Ok(Some(bytes)),
         Err(fault) => Err(io_error(fault)),

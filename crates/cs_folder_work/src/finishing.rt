@@ -1,6 +1,6 @@
 //! The end of work on a store.
 use crate::digests::Digests;
-use crate::journal::entry_of;
+use crate::journal::journal_with;
 use crate::replaced::kept_record;
 use crate::store_folders::StoreFolders;
 use crate::syncing::folders_of;
@@ -8,12 +8,13 @@ use crate::taking::Taken;
 use cs_file_system::{EndOfWork, FileSystem, SystemFiles, end_recorded, end_work, unmark};
 use cs_shelf::{JOURNAL, RESTORING};
 use std::alloc::Global;
+use std::fs::File;
 use std::rt::Files;
 use std::time::Clock;
 use std::{fs, io};
 
 /// Ends work that is finished: its line joins the journal, and its record what it keeps. Whether that is on the disk.
-pub fn finish<R: Files + Clock>(
+pub fn finish<R: Files<File = File> + Clock>(
     alloc: Global,
     rt: &R,
     folders: &StoreFolders,
@@ -34,6 +35,7 @@ fn end_of(alloc: Global, store: &str, number: u32, changed: Vec<String>) -> io::
         folder: String::from_str(alloc, store)?,
         changed,
         log: format!(in alloc; "{store}/{JOURNAL}")?,
+        beside: format!(in alloc; "{store}/{JOURNAL}.restoring")?,
         mark: format!(in alloc; "{store}/{RESTORING}")?,
         kept: format!(in alloc; "{store}/replaced/{number}")?,
         kept_mark: kept_record(alloc, store, number)?,
@@ -42,7 +44,7 @@ fn end_of(alloc: Global, store: &str, number: u32, changed: Vec<String>) -> io::
 
 /// Ends work that changed the store. If its record is with what it keeps already, its line is in the journal; but a run that
 /// was stopped may not have synced the record's name.
-fn end_changes<R: Files + Clock>(
+fn end_changes<R: Files<File = File> + Clock>(
     alloc: Global,
     rt: &R,
     folders: &StoreFolders,
@@ -56,8 +58,8 @@ fn end_changes<R: Files + Clock>(
     if fs::exists(rt, work.kept_mark.as_str())? {
         return end_recorded(files, &work);
     }
-    let entry = entry_of(alloc, rt, folders, taken, digests)?;
-    end_work(files, &work, &entry)
+    let journal = journal_with(alloc, rt, folders, taken, digests)?;
+    end_work(files, &work, journal.as_slice())
 }
 
 /// Removes the record of the store in this folder: its work is finished, or changed nothing. Whether that is on the disk: else

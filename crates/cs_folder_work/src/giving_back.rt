@@ -2,6 +2,7 @@
 use crate::finishing::{finish, remove_record};
 use crate::shelf::FolderShelf;
 use cs_store::StoreFault;
+use std::fs::File;
 use std::io::ErrorKind;
 use std::rt::Files;
 use std::time::Clock;
@@ -11,11 +12,13 @@ use std::time::Clock;
 pub struct Ended {
     /// The number under which old files are kept, if some are.
     pub kept: Option<u32>,
+    /// How many files this run replaced or took away.
+    pub changed: u64,
     /// Whether it is on the disk that its record is gone: else a crash may bring the record back.
     pub is_synced: bool,
 }
 
-impl<R: Files + Clock + Copy + Drop> FolderShelf<R> {
+impl<R: Files<File = File> + Clock + Copy + Drop> FolderShelf<R> {
     /// Gives the store back: its work is finished, or ended early. Work that ended early after the store may have changed
     /// stays unfinished.
     pub fn give_back(self, is_finished: bool) -> Result<Ended, StoreFault> {
@@ -33,7 +36,11 @@ impl<R: Files + Clock + Copy + Drop> FolderShelf<R> {
             _ => Ok(true),
         };
         match ended {
-            Ok(is_synced) => Ok(Ended { kept, is_synced }),
+            Ok(is_synced) => Ok(Ended {
+                kept,
+                changed: self.changed,
+                is_synced,
+            }),
             Err(e) if e.kind() == ErrorKind::OutOfMemory => Err(StoreFault::Memory),
             Err(_) => Err(StoreFault::Device),
         }

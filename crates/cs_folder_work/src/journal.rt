@@ -1,19 +1,19 @@
 //! The journal of a store: a line for each restore and undo that changed something.
 use crate::digests::{Digests, FileDigest};
-use crate::files::{io_error, read_regular, regular_size};
+use crate::files::{read_regular, regular_size};
 use crate::record::{Change, change_word};
 use crate::sealing::is_long_and_damaged;
 use crate::store_folders::StoreFolders;
 use crate::taking::Taken;
-use cs_file_system::{Entry, SystemFiles};
-use cs_folders::{FileLimits, read_bounded};
+use cs_file_system::SystemFiles;
+use cs_folders::FileLimits;
 use cs_reports::object::{Object, sites};
 use cs_schema::FileName;
 use cs_shelf::{JOURNAL, Work};
 use jiff::Timestamp;
 use serde_json::Value;
-use std::alloc::Global;
-use std::io::{ErrorKind, Read, Seek, SeekFrom};
+use std::alloc::{AllocError, Global};
+use std::io::ErrorKind;
 use std::rt::Files;
 use std::time::Clock;
 use std::{fs, io};
@@ -164,39 +164,27 @@ fn line_of<R: Files + Clock>(
     Ok(format!(in alloc; "{value}\n")?)
 }
 
-/// Whether a file of so many bytes ends within a line, as a write that was stopped leaves it.
-fn ends_within_a_line<F: Read + Seek>(file: &mut F, size: u64) -> io::Result<bool> {
-    if size == 0 {
-        return Ok(false);
+/// Takes this line off the end of a journal, if it is the last one but for its time: work was stopped right after it, and if the
+/// sync of it failed, the system may have dropped it.
+fn without_line(journal: &mut Vec<u8>, line: &str) {
+    let Some((head, _)) = line.split_once("\"time\"") else {
+        return;
+    };
+    let Some(start) = journal.len().checked_sub(line.len()) else {
+        return;
+    };
+    if journal[start..].starts_with(head.as_bytes()) {
+        journal.truncate(start);
     }
-    file.seek(SeekFrom::Start(size - 1))?;
-    let mut last = [0u8; 1];
-    let count = file.read(&mut last)?;
-    Ok(count == 1 && last != [b'\n'])
 }
 
-/// Where this line begins, but for its time, if it is the last of a file of so many bytes: work was stopped right after it.
-/// Else where the file ends.
-fn line_start<F: Read + Seek>(
-    alloc: Global,
-    file: &mut F,
-    size: u64,
-    line: &str,
-) -> io::Result<u64> {
-    let Some((head, _)) = line.split_once("\"time\"") else {
-        return Ok(size);
-    };
-    let length = line.len() as u64;
-    if size < length {
-        return Ok(size);
+/// Adds a line to a journal. One that ends within a line, as a write that was stopped leaves it, gets a line break first.
+fn add_line(journal: &mut Vec<u8>, line: &str) -> Result<(), AllocError> {
+    match journal.last() {
+        None | Some(b'\n') => {}
+        Some(_) => journal.push(b'\n')?,
     }
-    let start = size - length;
-    file.seek(SeekFrom::Start(start))?;
-    match read_bounded(alloc, file, length) {
-        Ok(tail) if tail.starts_with(head.as_bytes()) => Ok(start),
-        Ok(_) => Ok(size),
-        Err(fault) => Err(io_error(fault)),
-    }
+    journal.extend_from_slice(line.as_bytes())
 }
 
 /// How many bytes the journal at this path has; none if it is not there.
@@ -209,31 +197,20 @@ fn journal_size<R: Files>(rt: &R, path: &str) -> io::Result<u64> {
     }
 }
 
-/// What a restore or an undo adds to the journal. If its line is the last one already it is written anew: where an earlier sync
-/// of it failed, the system may have dropped it and sync nothing.
-pub fn entry_of<R: Files + Clock>(
+/// The journal of a store, with the line of a restore or an undo behind those that stand there.
+pub fn journal_with<R: Files + Clock>(
     alloc: Global,
     rt: &R,
     folders: &StoreFolders,
     taken: &Taken,
     digests: &Digests,
-) -> io::Result<Entry> {
+) -> io::Result<Vec<u8>> {
     let line = line_of(alloc, rt, folders, taken, digests)?;
     let path = format!(in alloc; "{}/{JOURNAL}", folders.store())?;
     let size = journal_size(rt, path.as_str())?;
-    if size == 0 {
-        return Ok(Entry {
-            cut: None,
-            text: line,
-        });
-    }
-    let mut file = fs::open(rt, path.as_str())?;
-    let start = line_start(alloc, &mut file, size, line.as_str())?;
-    let text = if ends_within_a_line(&mut file, start)? {
-        format!(in alloc; "\n{line}")?
-    } else {
-        line
-    };
-    let cut = if start < size { Some(start) } else { None };
-    Ok(Entry { cut, text })
+    let read = read_regular(alloc, rt, path.as_str(), size)?;
+    let mut journal = read.unwrap_or(Vec::new(alloc));
+    without_line(&mut journal, line.as_str());
+    add_line(&mut journal, line.as_str())?;
+    Ok(journal)
 }

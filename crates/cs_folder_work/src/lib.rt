@@ -16,6 +16,7 @@ mod keeping;
 mod moving;
 mod names;
 mod noting;
+mod pending;
 mod record;
 mod recording;
 mod replaced;
@@ -28,8 +29,9 @@ mod undoing;
 
 pub use giving_back::Ended;
 pub use keeping::keep_names;
+pub use pending::pending_work;
 pub use record::Change;
 pub use shelf::FolderShelf;
 pub use store_folders::{OtherFolder, Places, StoreFolders, find_folder};
-pub use taking::{Taken, resume, take, unfinished_kind};
+pub use taking::{Taken, resume, take};
 pub use undoing::take_undo;

@@ -41,13 +41,13 @@ fn add_all(
 }
 
 impl<R: Files + Copy + Drop> FolderShelf<R> {
-    /// Keeps what stands under these names in a folder, in `replaced/N` there, which is made unless it is there: what
-    /// becomes of each.
-    fn keep_part(&self, part: &Part<'_>) -> io::Result<Vec<Change>> {
+    /// Keeps what stands under these names in a folder, in `replaced/N` there, which is new unless this work may have kept
+    /// something before: what becomes of each.
+    fn keep_part(&self, part: &Part<'_>, is_first: bool) -> io::Result<Vec<Change>> {
         let all = format!(in self.alloc; "{}/replaced", part.folder)?;
         let kept = format!(in self.alloc; "{all}/{}", self.number())?;
         let files = &mut SystemFiles(&self.rt);
-        make_kept_folder(files, part.folder, all.as_str(), kept.as_str())?;
+        make_kept_folder(files, part.folder, all.as_str(), kept.as_str(), is_first)?;
         keep_names(
             files,
             self.alloc,
@@ -62,12 +62,13 @@ impl<R: Files + Copy + Drop> FolderShelf<R> {
         &self,
         names: &[FileName],
         changes: &mut BTreeMap<FileName, Change>,
+        is_first: bool,
     ) -> io::Result<()> {
         for part in self
             .folders
             .parts(&mut SystemFiles(&self.rt), self.alloc, names)?
         {
-            let kept = self.keep_part(&part)?;
+            let kept = self.keep_part(&part, is_first)?;
             add_all(changes, part.names.as_slice(), kept.as_slice())?;
         }
         Ok(())
@@ -93,11 +94,12 @@ impl<R: Files<File = File> + Copy + Drop> FolderShelf<R> {
         if names.is_empty() {
             return Ok(());
         }
+        let is_first = !self.has_changed;
         self.has_changed = true;
         let mut changes = self.noted();
         let fresh = fresh_names(self.alloc, &changes, names)?;
         self.digests.keep(fresh.as_slice())?;
-        self.keep_fresh(fresh.as_slice(), &mut changes)?;
+        self.keep_fresh(fresh.as_slice(), &mut changes, is_first)?;
         self.note(changes)
     }
 

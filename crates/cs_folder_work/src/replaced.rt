@@ -104,15 +104,6 @@ fn read_kept_record<R: Files>(
     }
 }
 
-/// What work on a store keeps.
-#[derive(Drop)]
-pub struct Kept {
-    pub undoable: Undoable,
-    /// The names under which what is kept is moved back, since it is no regular file that can be read. In what is put back
-    /// they have no bytes.
-    pub moves: Vec<FileName>,
-}
-
 /// The bytes of the file that is kept at this path, if it is a regular one that can be read and is worth to be held; an error
 /// if nothing is there.
 fn read_kept<R: Files>(
@@ -131,20 +122,23 @@ fn read_kept<R: Files>(
     }
 }
 
-impl Kept {
-    /// Adds a name, with what was read of what is kept of it.
-    fn add(&mut self, alloc: Global, name: FileName, read: Option<Vec<u8>>) -> Result<(), Untaken> {
-        let bytes = match read {
-            Some(bytes) => bytes,
-            None => match self.moves.push(name) {
-                Ok(()) => Vec::new(alloc),
-                Err(_) => return Err(Untaken::Memory),
-            },
-        };
-        match self.undoable.back.put(name, bytes) {
-            Ok(()) => Ok(()),
-            Err(_) => Err(Untaken::Memory),
-        }
+/// Adds a name to what an undo puts back, with what was read of what is kept of it.
+fn add_back(
+    alloc: Global,
+    undoable: &mut Undoable,
+    name: FileName,
+    read: Option<Vec<u8>>,
+) -> Result<(), Untaken> {
+    let bytes = match read {
+        Some(bytes) => bytes,
+        None => match undoable.moved.push(name) {
+            Ok(()) => Vec::new(alloc),
+            Err(_) => return Err(Untaken::Memory),
+        },
+    };
+    match undoable.back.put(name, bytes) {
+        Ok(()) => Ok(()),
+        Err(_) => Err(Untaken::Memory),
     }
 }
 
@@ -157,24 +151,22 @@ pub fn read_replaced<R: Files>(
     number: u32,
     limits: FileLimits,
     has_begun: bool,
-) -> Result<Kept, Untaken> {
+) -> Result<Undoable, Untaken> {
     let record = read_kept_record(alloc, rt, folders.store(), number)?;
     let Ok(back) = FileSet::new(alloc) else {
         return Err(Untaken::Memory);
     };
-    let mut kept = Kept {
-        undoable: Undoable {
-            number,
-            back,
-            names: Vec::new(alloc),
-        },
-        moves: Vec::new(alloc),
+    let mut undoable = Undoable {
+        number,
+        back,
+        names: Vec::new(alloc),
+        moved: Vec::new(alloc),
     };
     let Some(changes) = &record.changes else {
         return Err(Untaken::Unrecorded(number));
     };
     for (name, change) in changes {
-        if kept.undoable.names.push(*name).is_err() {
+        if undoable.names.push(*name).is_err() {
             return Err(Untaken::Memory);
         }
         let Ok(folder) = folders.reach(&mut SystemFiles(rt), *name) else {
@@ -187,11 +179,11 @@ pub fn read_replaced<R: Files>(
             return Err(Untaken::Memory);
         };
         match read_kept(alloc, rt, path.as_str(), limits.limit_of(*name)) {
-            Ok(read) => kept.add(alloc, *name, read)?,
+            Ok(read) => add_back(alloc, &mut undoable, *name, read)?,
             Err(e) if e.kind() != ErrorKind::NotFound => return Err(failed(e)),
-            Err(_) if has_begun => kept.add(alloc, *name, None)?,
+            Err(_) if has_begun => add_back(alloc, &mut undoable, *name, None)?,
             Err(_) => return Err(Untaken::Incomplete(number, *name)),
         }
     }
-    Ok(kept)
+    Ok(undoable)
 }

@@ -1,10 +1,12 @@
 //! Whether a long file is worth to be held in memory.
 ghost use Rattle.std.specs.Prelude.{◌<◌, ◌^◌};
 
+use cs_file_system::open_regular;
 use sha2::{Digest, Sha256};
+use std::fs::OpenFile;
+use std::io;
 use std::io::{ErrorKind, Read, Seek, SeekFrom};
 use std::rt::Files;
-use std::{fs, io};
 
 /// How many bytes a file has at least that is looked at before it is held.
 const LONG: u64 = 67_108_864;
@@ -58,14 +60,16 @@ fn is_sealed<F: Read + Seek>(file: &mut F, size: u64) -> io::Result<bool>
 /// Whether the regular file at this path is long and damaged: no file of a store has such bytes, so that it need not be held in
 /// memory to see that.
 pub fn is_long_and_damaged<R: Files>(rt: &R, path: &str) -> io::Result<bool> {
-    let size = match fs::metadata(rt, path) {
-        Ok(found) if found.is_file() => found.len(),
-        Ok(_) => return Ok(false),
-        Err(e) if e.kind() == ErrorKind::NotFound => return Ok(false),
+    let mut file = match open_regular(rt, path) {
+        Ok(file) => file,
+        Err(e) if e.kind() == ErrorKind::NotFound || e.kind() == ErrorKind::InvalidInput => {
+            return Ok(false);
+        }
         Err(e) => return Err(e),
     };
+    let size = file.metadata()?.len();
     if size < LONG || size > u64::MAX / 4 {
         return Ok(false);
     }
-    Ok(!is_sealed(&mut fs::open(rt, path)?, size)?)
+    Ok(!is_sealed(&mut file, size)?)
 }

@@ -33,6 +33,8 @@ pub struct FolderShelf<R> {
     pub(crate) has_kept: bool,
     /// Whether anything may have been kept, moved or given new bytes.
     pub(crate) has_changed: bool,
+    /// How many names were given new bytes, or lost theirs, by this run.
+    pub(crate) changed: u64,
     /// The digests of files that change, for the journal.
     pub(crate) digests: Digests,
     pub(crate) faults: u64,
@@ -58,6 +60,7 @@ impl<R: Files + Copy + Drop> FolderShelf<R> {
             source,
             has_kept: false,
             has_changed: false,
+            changed: 0,
             digests: Digests::new(alloc, names, limits),
             faults: 0,
         }
@@ -113,24 +116,6 @@ impl<R: Files + Copy + Drop> FolderShelf<R> {
         Ok(file_in(self.alloc, folder, name)?)
     }
 
-    /// Puts the bytes under the name: what stood there stays until the rename, which is one step.
-    fn replace_file(&mut self, name: FileName, bytes: &[u8]) -> io::Result<()>
-        ensures { self.new.faults ≡ self.old.faults }
-    {
-        let Some(taken) = &self.taken else {
-            return Err(only_looked_at());
-        };
-        self.has_changed = true;
-        replace_name(
-            &mut SystemFiles(&self.rt),
-            self.alloc,
-            &self.folders,
-            &taken.record,
-            name,
-            bytes,
-        )
-    }
-
     /// The file's bytes. One that may change is not held if it is long and damaged: that can't be read.
     fn read_worthy(&mut self, name: FileName) -> Result<Option<Vec<u8>>, StoreFault>
         ensures { self.new.faults ≡ self.old.faults }
@@ -158,6 +143,15 @@ impl<R: Files + Copy + Drop> FolderShelf<R> {
         self.has_changed = true;
         let files = &mut SystemFiles(&self.rt);
         take_name_away(files, self.alloc, &self.folders, &taken.record, name)
+    }
+
+    /// Counts a name that was changed.
+    fn count(&mut self, done: &io::Result<()>)
+        ensures { self.new.faults ≡ self.old.faults }
+    {
+        if done.is_ok() {
+            self.changed = self.changed.saturating_add(1);
+        }
     }
 
     /// Counts a fault of the device, or takes the answer.
@@ -212,6 +206,26 @@ impl<R: Files + Copy + Drop> Source for FolderShelf<R> {
     }
 }
 
+impl<R: Files<File = File> + Copy + Drop> FolderShelf<R> {
+    /// Puts the bytes under the name: what stood there stays until the rename, which is one step.
+    fn replace_file(&mut self, name: FileName, bytes: &[u8]) -> io::Result<()>
+        ensures { self.new.faults ≡ self.old.faults }
+    {
+        let Some(taken) = &self.taken else {
+            return Err(only_looked_at());
+        };
+        self.has_changed = true;
+        replace_name(
+            &mut SystemFiles(&self.rt),
+            self.alloc,
+            &self.folders,
+            &taken.record,
+            name,
+            bytes,
+        )
+    }
+}
+
 impl<R: Files<File = File> + Copy + Drop> Shelf for FolderShelf<R> {
     ghost use Rattle.cs_folder_work.specs.Claims.{no_claim};
 
@@ -248,11 +262,13 @@ impl<R: Files<File = File> + Copy + Drop> Shelf for FolderShelf<R> {
         } else {
             self.replace_file(name, bytes)
         };
+        self.count(&replaced);
         self.told(replaced)
     }
 
     fn remove(&mut self, name: FileName) -> Result<(), StoreFault> {
         let removed = self.remove_one(name);
+        self.count(&removed);
         self.told(removed)
     }
 

@@ -1,16 +1,19 @@
 //! Taking a store for a restore or an undo, so that no second one begins beside it.
+ghost use Rattle.cs_file_system.specs.System.{system_locked, system_locked-prop};
+
+use crate::finishing::remove_record;
+use crate::pending::{opened, require_idle};
 use crate::record::{Change, Record};
 use crate::recording::read_record;
 use crate::replaced::last_number;
 use crate::store_folders::StoreFolders;
-use cs_file_system::{SystemFiles, TryLock, begin_record, rewrite_record, sweep};
+use cs_file_system::{SystemFiles, begin_record, lock_at, open_to_lock, rewrite_record, sweep};
 use cs_schema::FileName;
-use cs_shelf::{RESTORING, Untaken, Work, WorkKind};
-use std::alloc::{AllocError, Global};
+use cs_shelf::{RESTORING, Untaken, Work};
+use std::alloc::Global;
 use std::collections::BTreeMap;
-use std::fs::{File, OpenFile};
+use std::fs::File;
 use std::io::ErrorKind;
-use std::os::unix::fs::MetadataExt;
 use std::rt::Files;
 use std::{fs, io};
 
@@ -22,25 +25,35 @@ pub struct Taken {
     pub moves: Vec<FileName>,
     /// Whether an earlier run may have kept, moved or replaced anything.
     pub has_changed: bool,
-    /// The locked file of the record.
+    /// The file of the record.
     lock: File,
+    ghost is_locked: { system_locked lock } by { system_locked-prop lock },
 }
 
 impl Taken {
     /// This store, with the names under which an undo moves back what is kept.
     pub fn with_moves(self, moves: Vec<FileName>) -> Self {
-        Self { moves, ..self }
+        let Self {
+            record,
+            moves: _none,
+            has_changed,
+            lock,
+        } = self;
+        Self {
+            record,
+            moves,
+            has_changed,
+            lock,
+        }
     }
 
-    /// Writes down what becomes of each name, in the place of the record: whole or not at all.
-    pub fn note<R: Files<File = File>>(
+    /// Writes the record anew, in the place of the one that stands: whole or not at all.
+    fn write_record<R: Files<File = File>>(
         &mut self,
         alloc: Global,
         rt: &R,
         store: &str,
-        changes: BTreeMap<FileName, Change>,
     ) -> io::Result<()> {
-        self.record.changes = Some(changes);
         let path = format!(in alloc; "{store}/{RESTORING}")?;
         let text = self.record.text(alloc)?;
         rewrite_record(
@@ -52,99 +65,39 @@ impl Taken {
             &mut self.lock,
         )
     }
+
+    /// Writes down what becomes of each name.
+    pub fn note<R: Files<File = File>>(
+        &mut self,
+        alloc: Global,
+        rt: &R,
+        store: &str,
+        changes: BTreeMap<FileName, Change>,
+    ) -> io::Result<()> {
+        self.record.changes = Some(changes);
+        self.write_record(alloc, rt, store)
+    }
+
+    /// Takes the next number of `replaced/N` and writes it down. The store is locked, so that no other work takes it too.
+    fn take_number<R: Files<File = File> + Alloc + Clone + Drop>(
+        &mut self,
+        alloc: Global,
+        rt: &R,
+        folders: &StoreFolders,
+    ) -> io::Result<()> {
+        match last_number(alloc, rt, folders)?.checked_add(1) {
+            Some(kept) => self.record.kept = kept,
+            None => return Err(io::Error::from(ErrorKind::AlreadyExists)),
+        }
+        self.write_record(alloc, rt, folders.store())
+    }
 }
 
-/// The failure of a call. `WouldBlock` is a record that another program has locked.
+/// The failure of a call.
 pub fn failed(error: io::Error) -> Untaken {
     match error.kind() {
         ErrorKind::OutOfMemory => Untaken::Memory,
-        ErrorKind::WouldBlock => Untaken::Busy,
         _ => Untaken::Device,
-    }
-}
-
-/// Which kind of work on the store in this folder is not finished, if any; a restore if its record can't be looked at or read.
-pub fn unfinished_kind<R: Files<File = File>>(
-    alloc: Global,
-    rt: &R,
-    store: &str,
-) -> Result<Option<WorkKind>, AllocError> {
-    match is_unfinished(alloc, rt, store) {
-        Ok(false) => return Ok(None),
-        Err(e) if e.kind() == ErrorKind::OutOfMemory => return Err(AllocError),
-        _ => {}
-    }
-    let path = format!(in alloc; "{store}/{RESTORING}")?;
-    match record_at(alloc, rt, path.as_str()) {
-        Ok(record) => Ok(Some(record.work.kind())),
-        Err(Untaken::Memory) => Err(AllocError),
-        // it is gone: there is nothing to resume
-        Err(Untaken::Busy) => Ok(None),
-        Err(_) => Ok(Some(WorkKind::Restore)),
-    }
-}
-
-/// Whether a restore or an undo of the store in this folder is not finished.
-fn is_unfinished<R: Files>(alloc: Global, rt: &R, store: &str) -> io::Result<bool> {
-    let path = format!(in alloc; "{store}/{RESTORING}")?;
-    match fs::symlink_metadata(rt, path.as_str()) {
-        Ok(_) => Ok(true),
-        Err(e) if e.kind() == ErrorKind::NotFound => Ok(false),
-        Err(e) => Err(e),
-    }
-}
-
-/// The file of the record at this path; none if nothing is there. What is no regular file is no record, and is not opened:
-/// the open of a pipe would wait for a writer.
-fn open_record<R: Files<File = File>>(rt: &R, path: &str) -> Result<Option<File>, Untaken> {
-    let opened = match fs::symlink_metadata(rt, path) {
-        Ok(found) if !found.is_file() => return Err(Untaken::Damaged),
-        Ok(_) => fs::open(rt, path),
-        Err(e) => Err(e),
-    };
-    match opened {
-        Ok(file) => Ok(Some(file)),
-        Err(e) if e.kind() == ErrorKind::NotFound => Ok(None),
-        Err(e) => Err(failed(e)),
-    }
-}
-
-/// The record at this path; `Busy` if it is gone meanwhile.
-fn record_at<R: Files<File = File>>(alloc: Global, rt: &R, path: &str) -> Result<Record, Untaken> {
-    match open_record(rt, path) {
-        Ok(Some(mut file)) => read_record(alloc, &mut file),
-        Ok(None) => Err(Untaken::Busy),
-        Err(untaken) => Err(untaken),
-    }
-}
-
-/// Which work is not finished, of which the record is there.
-fn unfinished<R: Files<File = File>>(alloc: Global, rt: &R, path: &str) -> Untaken {
-    match record_at(alloc, rt, path) {
-        Ok(record) => match record.work.kind() {
-            WorkKind::Restore => Untaken::Unfinished,
-            WorkKind::Undo => Untaken::UnfinishedUndo,
-        },
-        Err(untaken) => untaken,
-    }
-}
-
-/// A record of new work, of which nothing is known yet but what it is.
-fn new_record<R: Files + Alloc + Clone + Drop>(
-    alloc: Global,
-    rt: &R,
-    folders: &StoreFolders,
-    work: Work,
-    accepts_loss: bool,
-) -> io::Result<Record> {
-    match last_number(alloc, rt, folders)?.checked_add(1) {
-        Some(kept) => Ok(Record {
-            work,
-            accepts_loss,
-            kept,
-            changes: None,
-        }),
-        None => Err(io::Error::from(ErrorKind::AlreadyExists)),
     }
 }
 
@@ -162,21 +115,25 @@ pub fn take<R: Files<File = File> + Alloc + Clone + Drop>(
         Ok(path) => path,
         Err(_) => return Err(Untaken::Memory),
     };
-    if is_unfinished(alloc, rt, store).map_err(failed)? {
-        return Err(unfinished(alloc, rt, path.as_str()));
-    }
-    let record = new_record(alloc, rt, folders, work, accepts_loss).map_err(failed)?;
-    let lock = match write_new(alloc, rt, store, path.as_str(), &record) {
-        Ok(Some(lock)) => lock,
-        Ok(None) => return Err(unfinished(alloc, rt, path.as_str())),
-        Err(e) => return Err(failed(e)),
+    require_idle(alloc, rt, path.as_str())?;
+    let record = Record {
+        work,
+        accepts_loss,
+        kept: 0,
+        changes: None,
     };
-    Ok(Taken {
-        record,
-        moves: Vec::new(alloc),
-        has_changed: false,
-        lock,
-    })
+    let Some(mut taken) = write_new(alloc, rt, store, path.as_str(), record).map_err(failed)? else {
+        require_idle(alloc, rt, path.as_str())?;
+        // the other run has ended meanwhile
+        return Err(Untaken::AtWork(work.kind()));
+    };
+    match taken.take_number(alloc, rt, folders) {
+        Ok(()) => Ok(taken),
+        Err(e) => {
+            let _removed = remove_record(alloc, rt, store).is_ok();
+            Err(failed(e))
+        }
+    }
 }
 
 /// Writes the record of new work, locked; none if another program has taken the folder meanwhile.
@@ -185,15 +142,20 @@ fn write_new<R: Files<File = File>>(
     rt: &R,
     store: &str,
     path: &str,
-    record: &Record,
-) -> io::Result<Option<File>> {
+    record: Record,
+) -> io::Result<Option<Taken>> {
     let text = record.text(alloc)?;
     let files = &mut SystemFiles(rt);
-    let begun = begin_record(files, alloc, store, path, text.as_bytes())?;
-    if begun.is_some() {
-        let _swept = sweep(files, alloc, path).is_ok();
-    }
-    Ok(begun)
+    let Some(lock) = begin_record(files, alloc, store, path, text.as_bytes())? else {
+        return Ok(None);
+    };
+    let _swept = sweep(files, alloc, path).is_ok();
+    Ok(Some(Taken {
+        record,
+        moves: Vec::new(alloc),
+        has_changed: false,
+        lock,
+    }))
 }
 
 /// The first name whose folder is not the one in which this work was begun, or is away: what the work replaces is not kept
@@ -218,8 +180,28 @@ fn moved_name<R: Files>(
     Ok(None)
 }
 
-/// Takes the store in these folders to go on with its unfinished restore or undo.
-pub fn resume<R: Files<File = File>>(
+/// Locks the record at a path, to go on with the work that it tells of.
+fn lock_record<R: Files<File = File>>(alloc: Global, rt: &R, path: &str) -> Result<Taken, Untaken> {
+    let Some(mut file) = opened(open_to_lock(rt, path))? else {
+        return Err(Untaken::Finished);
+    };
+    let record = read_record(alloc, &mut file)?;
+    match lock_at(&mut SystemFiles(rt), path, &file) {
+        Ok(()) => Ok(Taken {
+            record,
+            moves: Vec::new(alloc),
+            has_changed: false,
+            lock: file,
+        }),
+        Err(e) if e.kind() == ErrorKind::WouldBlock => Err(Untaken::AtWork(record.work.kind())),
+        Err(e) if e.kind() == ErrorKind::OutOfMemory => Err(Untaken::Memory),
+        Err(_) => Err(Untaken::Unknown(record.work.kind())),
+    }
+}
+
+/// Takes the store in these folders to go on with its unfinished restore or undo. Work that was stopped before it had a number
+/// gets one.
+pub fn resume<R: Files<File = File> + Alloc + Clone + Drop>(
     alloc: Global,
     rt: &R,
     folders: &StoreFolders,
@@ -229,41 +211,20 @@ pub fn resume<R: Files<File = File>>(
         Ok(path) => path,
         Err(_) => return Err(Untaken::Memory),
     };
-    let mut file = match open_record(rt, path.as_str()) {
-        Ok(Some(file)) => file,
-        Ok(None) => return Err(Untaken::Finished),
-        Err(untaken) => return Err(untaken),
-    };
-    file.take_lock().map_err(failed)?;
-    if !is_there(rt, &file, path.as_str()).map_err(failed)? {
-        return Err(Untaken::Finished);
+    let mut taken = lock_record(alloc, rt, path.as_str())?;
+    if taken.record.kept == 0 {
+        taken.take_number(alloc, rt, folders).map_err(failed)?;
     }
-    let record = read_record(alloc, &mut file)?;
-    if let Some(name) = moved_name(alloc, rt, folders, &record).map_err(failed)? {
+    if let Some(name) = moved_name(alloc, rt, folders, &taken.record).map_err(failed)? {
         return Err(Untaken::Away(name));
     }
-    let has_changed = has_kept_folder(alloc, rt, store, record.kept).map_err(failed)?;
+    taken.has_changed = has_kept_folder(alloc, rt, store, taken.record.kept).map_err(failed)?;
     let _swept = sweep(&mut SystemFiles(rt), alloc, path.as_str()).is_ok();
-    Ok(Taken {
-        record,
-        moves: Vec::new(alloc),
-        has_changed,
-        lock: file,
-    })
+    Ok(taken)
 }
 
 /// Whether the folder is there that keeps what is replaced: it is made before anything is kept.
 fn has_kept_folder<R: Files>(alloc: Global, rt: &R, store: &str, number: u32) -> io::Result<bool> {
     let folder = format!(in alloc; "{store}/replaced/{number}")?;
     fs::exists(rt, folder.as_str())
-}
-
-/// Whether the record still has its name: the program that had it locked may have ended meanwhile.
-fn is_there<R: Files>(rt: &R, file: &File, path: &str) -> io::Result<bool> {
-    let opened = OpenFile::metadata(file)?;
-    match fs::metadata(rt, path) {
-        Ok(named) => Ok(opened.ino() == named.ino() && opened.dev() == named.dev()),
-        Err(e) if e.kind() == ErrorKind::NotFound => Ok(false),
-        Err(e) => Err(e),
-    }
 }

@@ -1,10 +1,10 @@
 //! Taking a store for an undo.
 use crate::finishing::remove_record;
-use crate::replaced::{Kept, last_finished, read_replaced};
+use crate::replaced::{last_finished, read_replaced};
 use crate::store_folders::StoreFolders;
 use crate::taking::{Taken, failed, resume, take};
 use cs_folders::FileLimits;
-use cs_shelf::{UndoOf, Undoable, Untaken, Work};
+use cs_shelf::{UndoOf, Undoable, Untaken, Work, WorkKind};
 use std::alloc::Global;
 use std::fs::File;
 use std::rt::Files;
@@ -23,13 +23,19 @@ fn last<R: Files + Alloc + Clone + Drop>(
 }
 
 /// A store that is taken for an undo, with what that puts back.
-fn taken_with(taken: Taken, kept: Kept) -> (Taken, Undoable) {
-    let Kept { undoable, moves } = kept;
-    (taken.with_moves(moves), undoable)
+fn taken_with(
+    alloc: Global,
+    taken: Taken,
+    undoable: Undoable,
+) -> Result<(Taken, Undoable), Untaken> {
+    match Vec::from_slice(alloc, undoable.moved.as_slice()) {
+        Ok(moves) => Ok((taken.with_moves(moves), undoable)),
+        Err(_) => Err(Untaken::Memory),
+    }
 }
 
 /// Takes the store in these folders to go on with its unfinished undo.
-fn go_on<R: Files<File = File>>(
+fn go_on<R: Files<File = File> + Alloc + Clone + Drop>(
     alloc: Global,
     rt: &R,
     folders: &StoreFolders,
@@ -41,7 +47,7 @@ fn go_on<R: Files<File = File>>(
     };
     let has_begun = taken.record.changes.is_some();
     match read_replaced(alloc, rt, folders, number, limits, has_begun) {
-        Ok(kept) => Ok(taken_with(taken, kept)),
+        Ok(undoable) => taken_with(alloc, taken, undoable),
         Err(untaken) => Err(untaken),
     }
 }
@@ -54,9 +60,9 @@ fn kept_by<R: Files + Alloc + Clone + Drop>(
     of: UndoOf,
     number: u32,
     limits: FileLimits,
-) -> Result<Kept, Untaken> {
+) -> Result<Undoable, Untaken> {
     if of == UndoOf::Last && last(alloc, rt, folders.store())? != number {
-        return Err(Untaken::Busy);
+        return Err(Untaken::AtWork(WorkKind::Restore));
     }
     read_replaced(alloc, rt, folders, number, limits, false)
 }
@@ -77,7 +83,7 @@ pub fn take_undo<R: Files<File = File> + Alloc + Clone + Drop>(
     };
     let taken = take(alloc, rt, folders, Work::Undo(number), false)?;
     match kept_by(alloc, rt, folders, of, number, limits) {
-        Ok(kept) => Ok(taken_with(taken, kept)),
+        Ok(undoable) => taken_with(alloc, taken, undoable),
         Err(untaken) => {
             remove_record(alloc, rt, folders.store()).map_err(failed)?;
             Err(untaken)

@@ -13,12 +13,14 @@ mod paths;
 mod reading;
 mod store;
 mod texts;
+mod unfinished;
 
 pub use limits::{CATALOG_LIMIT, FileLimits};
 pub use new_site::{BEGUN, NewSite};
 pub use new_store::{NewStoreFolder, Way, partial_path, way_to};
 pub use output::OutputFolder;
 pub use paths::file_in;
-pub use reading::{read_bounded, read_catalog_file, read_file};
+pub use reading::{read_bounded, read_catalog_file, read_file, unless_missing};
 pub use store::StoreFolder;
-pub use texts::{open_text, write_whole};
+pub use texts::{open_text, write_new};
+pub use unfinished::{LOADING, LeftMark, way_of_mark};

@@ -1,11 +1,12 @@
 //! The folder of a site of a new store, whose files get their names when the whole store is on the disk.
-use crate::new_store::{is_there, partial_path, write_checked};
+use crate::new_store::{check_written, is_there, partial_path, write_checked};
 use crate::output::failed;
 use crate::paths::{file_in, no_memory, path_in};
-use cs_file_system::{FileSystem, SystemFiles};
+use cs_file_system::{FileSystem, SystemFiles, begin_mark};
 use cs_schema::FileName;
 use cs_store::StoreFault;
 use std::alloc::{AllocError, Global};
+use std::fs::File;
 use std::rt::Files;
 
 /// The copy of the catalog in the folder of a site, before it has its name: it is written first and named last. So a folder
@@ -19,15 +20,17 @@ pub struct NewSite {
     pub path: String,
     /// The files that were written into it.
     pub names: Vec<FileName>,
+    /// Its copy of the catalog, locked as long as the store is made.
+    mark: File,
 }
 
-/// Makes the folder unless it is there, and writes its copy of the catalog.
-fn begin_folder<R: Files>(
+/// Makes the folder unless it is there, and writes its copy of the catalog, which is locked.
+fn begin_folder<R: Files<File = File>>(
     alloc: Global,
     rt: &R,
     path: &str,
     catalog: &[u8],
-) -> Result<(), StoreFault> {
+) -> Result<File, StoreFault> {
     let files = &mut SystemFiles(rt);
     if !is_there(rt, path)? {
         let parent = path_in(alloc, path, "..").map_err(no_memory)?;
@@ -35,23 +38,26 @@ fn begin_folder<R: Files>(
         files.sync_folder(parent.as_str()).map_err(failed)?;
     }
     let begun = path_in(alloc, path, BEGUN).map_err(no_memory)?;
-    write_checked(alloc, rt, begun.as_str(), catalog)?;
-    files.sync_folder(path).map_err(failed)
+    let mark = begin_mark(files, begun.as_str(), catalog).map_err(failed)?;
+    check_written(alloc, rt, begun.as_str(), catalog)?;
+    files.sync_folder(path).map_err(failed)?;
+    Ok(mark)
 }
 
 impl NewSite {
     /// Begins the folder at this path, which is made unless it is there, with its copy of the catalog.
-    pub fn begin<R: Files>(
+    pub fn begin<R: Files<File = File>>(
         alloc: Global,
         rt: &R,
         path: &str,
         catalog: &[u8],
     ) -> Result<Self, StoreFault> {
         let path = path.trim_end_matches('/');
-        begin_folder(alloc, rt, path, catalog)?;
+        let mark = begin_folder(alloc, rt, path, catalog)?;
         Ok(Self {
             path: String::from_str(alloc, path).map_err(no_memory)?,
             names: Vec::new(alloc),
+            mark,
         })
     }
 

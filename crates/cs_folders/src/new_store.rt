@@ -4,10 +4,12 @@ use crate::new_site::NewSite;
 use crate::output::failed;
 use crate::paths::{file_in, no_memory, path_in};
 use crate::reading::read_file;
-use cs_file_system::{SystemFiles, write_synced};
+use crate::unfinished::{LOADING, LOADING_TEXT, remove_unfinished, way_beside};
+use cs_file_system::{FileSystem, SystemFiles, begin_mark, new_folder_beside, write_synced};
 use cs_schema::FileName;
 use cs_store::StoreFault;
 use std::alloc::{AllocError, Global};
+use std::fs::File;
 use std::io::ErrorKind;
 use std::rt::Files;
 use std::{fs, io};
@@ -19,8 +21,12 @@ pub enum Way {
     Free,
     /// Something has the name already.
     Taken,
-    /// What was begun under the name and not ended.
+    /// What a run began under the name and did not end.
     Begun,
+    /// What a run makes under the name that is at work.
+    Busy,
+    /// Something that no run makes, where one would begin it.
+    Foreign,
 }
 
 /// The path under which something new is made, until it gets its name.
@@ -37,6 +43,16 @@ pub(crate) fn write_checked<R: Files>(
     bytes: &[u8],
 ) -> Result<(), StoreFault> {
     write_synced(&mut SystemFiles(rt), path, bytes).map_err(failed)?;
+    check_written(alloc, rt, path, bytes)
+}
+
+/// Reads a file back that was written: it must have the same bytes.
+pub(crate) fn check_written<R: Files>(
+    alloc: Global,
+    rt: &R,
+    path: &str,
+    bytes: &[u8],
+) -> Result<(), StoreFault> {
     // what is longer than was written is none of it
     let limit = (bytes.len() as u64).min(u64::MAX / 2);
     match read_file(alloc, rt, path, limit) {
@@ -56,15 +72,16 @@ pub(crate) fn is_there<R: Files>(rt: &R, path: &str) -> Result<bool, StoreFault>
 }
 
 /// What stands where something new is to be made. Nothing is changed.
-pub fn way_to<R: Files>(alloc: Global, rt: &R, path: &str) -> Result<Way, StoreFault> {
-    let partial = partial_path(alloc, path).map_err(no_memory)?;
-    if is_there(rt, path.trim_end_matches('/'))? {
+pub fn way_to<R: Files<File = File>>(alloc: Global, rt: &R, path: &str) -> Result<Way, StoreFault> {
+    let name = path.trim_end_matches('/');
+    if name.is_empty() || is_there(rt, name)? {
         return Ok(Way::Taken);
     }
-    if is_there(rt, partial.as_str())? {
-        return Ok(Way::Begun);
+    let partial = partial_path(alloc, path).map_err(no_memory)?;
+    match way_beside(alloc, rt, partial.as_str()) {
+        Ok(way) => Ok(way),
+        Err(error) => Err(failed(error)),
     }
-    Ok(Way::Free)
 }
 
 /// A new store that is made beside its path.
@@ -75,34 +92,82 @@ pub struct NewStoreFolder<R> {
     path: String,
     partial: String,
     catalog: Vec<u8>,
+    /// The mark in the folder, locked as long as the store is made.
+    mark: File,
 }
 
-impl<R: Files + Drop> NewStoreFolder<R> {
-    /// Makes the folder beside the path of the store, in the place of one that was begun there; its catalog is written last.
-    pub fn make(alloc: Global, rt: R, path: &str, catalog: &[u8]) -> Result<Self, StoreFault> {
+/// Makes a folder with the mark of a new store, which is locked, and gives it a name that nothing has.
+fn name_begun<R: Files<File = File>>(
+    alloc: Global,
+    rt: &R,
+    own: &str,
+    partial: &str,
+) -> io::Result<File> {
+    let files = &mut SystemFiles(rt);
+    let mark = path_in(alloc, own, LOADING)?;
+    let mark = begin_mark(files, mark.as_str(), LOADING_TEXT)?;
+    if let Ok(true) = fs::exists(rt, partial) {
+        return Err(io::Error::from(ErrorKind::AlreadyExists));
+    }
+    files.sync_folder(own)?;
+    // one that another run named meanwhile has its mark, and is not replaced
+    files.rename_folder(own, partial)?;
+    Ok(mark)
+}
+
+/// Makes the folder of a new store, which has its mark when it gets the name `partial`; if `replaces`, in the place of one that
+/// a run left which was stopped. An error of the kind `AlreadyExists` if the store is there.
+fn begin<R: Files<File = File>>(
+    alloc: Global,
+    rt: &R,
+    path: &str,
+    partial: &str,
+    replaces: bool,
+) -> io::Result<File> {
+    let files = &mut SystemFiles(rt);
+    if replaces && fs::exists(rt, partial)? {
+        remove_unfinished(alloc, rt, partial)?;
+    }
+    let own = new_folder_beside(files, alloc, partial)?;
+    let begun = name_begun(alloc, rt, own.as_str(), partial);
+    let left = match &begun {
+        Ok(_) => partial,
+        Err(_) => own.as_str(),
+    };
+    let is_taken = fs::exists(rt, path).unwrap_or(false);
+    if is_taken || begun.is_err() {
+        let _removed = files.remove_tree(alloc, left).is_ok();
+    }
+    if is_taken {
+        return Err(io::Error::from(ErrorKind::AlreadyExists));
+    }
+    begun
+}
+
+impl<R: Files<File = File> + Drop> NewStoreFolder<R> {
+    /// Makes the folder beside the path of the store, if `replaces` in the place of one that a run left which was stopped; its
+    /// catalog is written last.
+    pub fn make(
+        alloc: Global,
+        rt: R,
+        path: &str,
+        catalog: &[u8],
+        replaces: bool,
+    ) -> Result<Self, StoreFault> {
         let mut bytes = Vec::new(alloc);
         bytes.extend_from_slice(catalog).map_err(no_memory)?;
-        let store = Self {
+        let partial = partial_path(alloc, path).map_err(no_memory)?;
+        let path = String::from_str(alloc, path.trim_end_matches('/')).map_err(no_memory)?;
+        let begun = begin(alloc, &rt, path.as_str(), partial.as_str(), replaces);
+        let mark = begun.map_err(failed)?;
+        Ok(Self {
             alloc,
             rt,
-            path: String::from_str(alloc, path.trim_end_matches('/')).map_err(no_memory)?,
-            partial: partial_path(alloc, path).map_err(no_memory)?,
+            path,
+            partial,
             catalog: bytes,
-        };
-        match store.begin() {
-            Ok(()) => Ok(store),
-            Err(_) => Err(StoreFault::Device),
-        }
-    }
-
-    /// Makes the folder anew.
-    fn begin(&self) -> io::Result<()> {
-        match self.rt.remove_dir_all(self.alloc, self.partial.as_str()) {
-            Ok(()) => {}
-            Err(e) if e.kind() == ErrorKind::NotFound => {}
-            Err(e) => return Err(e),
-        }
-        fs::create_dir(&self.rt, self.partial.as_str())
+            mark,
+        })
     }
 }
 
@@ -126,10 +191,19 @@ impl<R: Files> NewStoreFolder<R> {
             self.catalog.as_slice(),
         )?;
         let files = &mut SystemFiles(&self.rt);
-        match name_store(files, self.alloc, sites, named, partial, self.path.as_str()) {
-            Ok(()) => Ok(()),
-            Err(e) if e.kind() == ErrorKind::OutOfMemory => Err(StoreFault::Memory),
-            Err(_) => Err(StoreFault::Device),
+        let path = self.path.as_str();
+        name_store(files, self.alloc, sites, named, partial, path).map_err(failed)?;
+        self.remove_mark();
+        Ok(())
+    }
+
+    /// Removes the mark from the store, which has its name. That changes nothing of the store: one that a crash brings back, or
+    /// that can't be removed, is read by nobody.
+    fn remove_mark(&self) {
+        let files = &mut SystemFiles(&self.rt);
+        if let Ok(mark) = path_in(self.alloc, self.path.as_str(), LOADING) {
+            let _removed = files.remove(mark.as_str()).is_ok();
+            let _synced = files.sync_folder(self.path.as_str()).is_ok();
         }
     }
 }

@@ -8,6 +8,7 @@ use cs_parallel_io::{BatchSink, FileWriter};
 use cs_schema::FileName;
 use cs_store::{Sink, StoreFault};
 use std::alloc::Global;
+use std::io::ErrorKind;
 use std::marker::Sync;
 use std::rt::Files;
 use std::{fs, io};
@@ -115,7 +116,11 @@ impl<R: Files + Sync> BatchSink for OutputFolder<R> {
     }
 }
 
-/// The fault of a device that failed.
-pub(crate) fn failed(_error: io::Error) -> StoreFault {
-    StoreFault::Device
+/// The fault of a call that failed.
+pub(crate) fn failed(error: io::Error) -> StoreFault {
+    if error.kind() == ErrorKind::OutOfMemory {
+        StoreFault::Memory
+    } else {
+        StoreFault::Device
+    }
 }

@@ -1,11 +1,14 @@
 //! Reading one file, up to a bound.
-ghost use Rattle.std.specs.Prelude.{◌≡◌, ◌<◌, ◌≤◌, ◌^◌, [], IfOk, IfSome, vec_len};
+ghost use Rattle.std.specs.Prelude.{◌≡◌, ◌<◌, ◌≤◌, ◌^◌, [], IfErr, IfOk, IfSome, IsSome, OnErr, vec_len};
+ghost use Rattle.std.specs.IoError.{error_kind};
 
 use crate::limits::CATALOG_LIMIT;
 use crate::paths::path_in;
+use cs_file_system::open_regular;
 use cs_store::StoreFault;
 use std::alloc::Global;
-use std::io::Read;
+use std::fs::OpenFile;
+use std::io::{ErrorKind, Read};
 use std::rt::Files;
 use std::{fs, io};
 
@@ -43,13 +46,59 @@ fn read_into<F: Read>(room: Vec<u8>, file: &mut F, limit: u64) -> Result<Vec<u8>
                 }
             }
             Err(e) => {
-                if e.kind() != io::ErrorKind::Interrupted {
+                if e.kind() != ErrorKind::Interrupted {
                     return Err(StoreFault::Device);
                 }
             }
         }
     }
     Err(StoreFault::Device)
+}
+
+/// What was asked of a path, or none if nothing is there. Any other error stays one: a disk that fails has lost no file.
+pub fn unless_missing<T>(asked: io::Result<T>) -> io::Result<Option<T>>
+    ensures found { IfOk asked (λ found. result ≡ Ok (Some found)) }
+    ensures missing { IfErr asked (λ error. error_kind error ≡ ErrorKind.NotFound → result ≡ Ok None) }
+    ensures failed { IfErr asked (λ error. ¬ (error_kind error ≡ ErrorKind.NotFound) → result ≡ Err error) }
+{
+    match asked {
+        Ok(found) => Ok(Some(found)),
+        Err(e) if e.kind() == ErrorKind::NotFound => Ok(None),
+        Err(e) => Err(e),
+    }
+}
+
+/// The bytes of a file that was opened, if one was there. One of more than `limit` bytes is a fault of the device, as is one
+/// that could not be opened.
+fn read_opened<F: Read + OpenFile + Drop>(
+    alloc: Global,
+    opened: io::Result<Option<F>>,
+    limit: u64,
+) -> Result<Option<Vec<u8>>, StoreFault>
+    requires { limit < 2 ^ 63 }
+    ensures bounded { IfOk result (λ file. IfSome file (λ bytes. vec_len bytes ≤ limit)) }
+    ensures found { IfOk opened (λ found. IsSome found → IfOk result (λ file. IsSome file)) }
+    ensures missing { opened ≡ Ok None → result ≡ Ok None }
+    ensures failed { OnErr opened (result ≡ Err StoreFault.Device) }
+{
+    let mut file = match opened {
+        Ok(Some(file)) => file,
+        Ok(None) => return Ok(None),
+        Err(_) => return Err(StoreFault::Device),
+    };
+    let length = match file.metadata() {
+        Ok(found) if found.len() <= limit => found.len(),
+        _ => return Err(StoreFault::Device),
+    };
+    // what is read is mostly what was there when it was opened
+    let room = match Vec::with_capacity(alloc, length as usize) {
+        Ok(room) => room,
+        Err(_) => return Err(StoreFault::Memory),
+    };
+    match read_into(room, &mut file, limit) {
+        Ok(bytes) => Ok(Some(bytes)),
+        Err(fault) => Err(fault),
+    }
 }
 
 /// The bytes of the file at this path, or `None` where nothing is, as behind a link that leads nowhere.
@@ -65,25 +114,7 @@ pub fn read_file<R: Files>(
     requires { limit < 2 ^ 63 }
     ensures { IfOk result (λ file. IfSome file (λ bytes. vec_len bytes ≤ limit)) }
 {
-    let length = match fs::metadata(rt, path) {
-        Ok(found) if found.is_file() && found.len() <= limit => found.len(),
-        Ok(_) => return Err(StoreFault::Device),
-        Err(e) if e.kind() == io::ErrorKind::NotFound => return Ok(None),
-        Err(_) => return Err(StoreFault::Device),
-    };
-    // what is read is mostly what was there when it was looked at
-    let room = match Vec::with_capacity(alloc, length as usize) {
-        Ok(room) => room,
-        Err(_) => return Err(StoreFault::Memory),
-    };
-    match fs::open(rt, path) {
-        Ok(mut file) => match read_into(room, &mut file, limit) {
-            Ok(bytes) => Ok(Some(bytes)),
-            Err(fault) => Err(fault),
-        },
-        Err(e) if e.kind() == io::ErrorKind::NotFound => Ok(None),
-        Err(_) => Err(StoreFault::Device),
-    }
+    read_opened(alloc, unless_missing(open_regular(rt, path)), limit)
 }
 
 /// The bytes of a catalog, or `None` where there is none: of the file at this path, or where a folder is there, of the

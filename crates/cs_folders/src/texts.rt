@@ -2,11 +2,11 @@
 use crate::new_store::partial_path;
 use crate::output::failed;
 use crate::paths::no_memory;
-use cs_file_system::{FileSystem, SystemFiles, put};
+use cs_file_system::{SystemFiles, put_new};
 use cs_store::StoreFault;
 use std::alloc::Global;
+use std::fs;
 use std::rt::Files;
-use std::{fs, io};
 
 /// The text at this path as a stream, or standard input where it is `-`.
 pub fn open_text<R: Files>(rt: &R, path: &str) -> Result<R::File, StoreFault> {
@@ -26,24 +26,14 @@ fn folder_of(path: &str) -> &str {
     }
 }
 
-/// Puts a file in place, and brings its name to the disk.
-fn put_named<F: FileSystem>(
-    files: &mut F,
-    beside: &str,
-    path: &str,
-    bytes: &[u8],
-) -> io::Result<()> {
-    put(files, beside, path, bytes)?;
-    files.sync_folder(folder_of(path))
-}
-
-/// Writes a file, in the place of one that is there: it gets its name when all of it is on the disk.
-pub fn write_whole<R: Files>(
+/// Writes a new file, which gets its name when all of it is on the disk, by a call that refuses a name that is there.
+pub fn write_new<R: Files>(
     alloc: Global,
     rt: &R,
     path: &str,
     bytes: &[u8],
 ) -> Result<(), StoreFault> {
     let beside = partial_path(alloc, path).map_err(no_memory)?;
-    put_named(&mut SystemFiles(rt), beside.as_str(), path, bytes).map_err(failed)
+    let files = &mut SystemFiles(rt);
+    put_new(files, alloc, beside.as_str(), path, folder_of(path), bytes).map_err(failed)
 }

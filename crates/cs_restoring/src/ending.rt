@@ -5,7 +5,7 @@ ghost use Rattle.pinepolo_places.specs.Status.{status_of, fault_status};
 use cs_reports::site_of;
 use cs_schema::{Catalog, Loss};
 use cs_store::{Fault, StoreFault};
-use pinepolo_places::{Failure, GivenBack, Refusal, Step, Untaken, VerbError, WorkKind};
+use pinepolo_places::{Failure, GivenBack, Halfway, Refusal, Step, Untaken, VerbError, WorkKind};
 use std::alloc::Global;
 
 /// The store that is restored, or put back as it was.
@@ -36,7 +36,8 @@ pub fn lock_error(
         Untaken::Unfinished => Refusal::Unfinished(WorkKind::Restore),
         Untaken::UnfinishedUndo => Refusal::Unfinished(WorkKind::Undo),
         Untaken::Finished => Refusal::NothingToResume(verb),
-        Untaken::Busy => Refusal::Busy,
+        Untaken::AtWork(kind) => Refusal::AtWork(*kind),
+        Untaken::Unknown(kind) => Refusal::Unknown(*kind),
         Untaken::Damaged => Refusal::DamagedRecord,
         Untaken::NoneKept(number) => Refusal::NothingKept(*number),
         Untaken::Unrecorded(number) => Refusal::NoRecord(*number),
@@ -62,7 +63,12 @@ pub fn restore_error(
 {
     let error = VerbError::of_store(alloc, store.catalog, store.path, fault);
     if given.is_unfinished {
-        error.with(Step::Resume(store.verb), Vec::new(alloc))
+        let halfway = Halfway {
+            kind: store.verb,
+            changed: given.changed,
+            kept: given.kept,
+        };
+        error.with(Step::GoOn(halfway), Vec::new(alloc))
     } else {
         error
     }
@@ -71,6 +77,11 @@ pub fn restore_error(
 /// The error for a record that could not be removed, or a journal that could not be written.
 pub fn finish_error(alloc: Global, fault: StoreFault, path: &str, verb: WorkKind) -> VerbError {
     VerbError::of_device(alloc, fault, Failure::RemoveRecord(verb), path)
+}
+
+/// The error for a store that could not be given back: nothing of it had changed.
+pub fn give_back_error(alloc: Global, fault: StoreFault, path: &str, verb: WorkKind) -> VerbError {
+    VerbError::of_device(alloc, fault, Failure::GiveBack(verb), path)
 }
 
 /// The error for finished work if it is not on the disk that its record is gone.

@@ -8,21 +8,12 @@ use crate::reading::{doubt_of, doubted, read_files};
 use cs_rebuild::Run;
 use cs_schema::Catalog;
 use pinepolo_args::RestoreArgs;
-use pinepolo_places::{Failure, Listings, Refusal, Shelves, VerbError, WorkKind};
+use pinepolo_places::{Failure, Listings, Shelves, VerbError, WorkKind, refuse_pending};
 use pinepolo_progress::Progress;
 use pinepolo_text::Restoration;
 use std::alloc::Global;
 use std::marker::Sync;
 use std::thread::Threads;
-
-/// Why a restore of a store at a path would be refused before it is read: other work is not finished.
-fn refusal<P: Listings>(alloc: Global, places: &P, path: &str) -> Option<VerbError> {
-    match places.unfinished(path) {
-        Ok(None) => None,
-        Ok(Some(kind)) => Some(VerbError::refused(alloc, Refusal::Unfinished(kind), path)),
-        Err(_) => Some(VerbError::OutOfMemory),
-    }
-}
 
 /// What a restore of a store with this catalog would do. It is only looked at.
 pub fn look_ahead<R: Threads + Sync, G: Progress + Sync, P: Listings + Shelves>(
@@ -34,7 +25,7 @@ pub fn look_ahead<R: Threads + Sync, G: Progress + Sync, P: Listings + Shelves>(
     ensures { IfOk result (Foresees P.looks_at P.Shelf.gives P.Shelf.refuses P.Shelf.holds request.now.accepts_loss request.now.resumes places.now request.now.store.now catalog request.now.lost) }
 {
     let lost = request.lost;
-    if let Some(error) = refusal(run.alloc, places, request.store) {
+    if let Some(error) = refuse_pending(run.alloc, places, request.store) {
         return Err(error);
     }
     let mut shelf = match places.look(request.store, &catalog, lost) {

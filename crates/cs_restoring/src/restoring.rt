@@ -5,7 +5,7 @@ ghost use Rattle.cs_shelf.specs.Shelf.{IsReadIn};
 ghost use Rattle.cs_restoring.specs.Restores.{DoesRestore, EndsDoubted, EndsRestore, FinishesRestore};
 
 use crate::doubting::Doubt;
-use crate::ending::{LostStore, finish_error, lock_error};
+use crate::ending::{LostStore, give_back_error, lock_error};
 use crate::foreseeing::look_ahead;
 use crate::planning::restored_of;
 use crate::reading::{doubt_of, doubted, read_files};
@@ -60,14 +60,29 @@ fn take<P: Shelves>(
     };
     match taken {
         Ok(taken) => Ok(taken),
-        Err(untaken) => Err(lock_error(alloc, catalog, &untaken, path, WorkKind::Restore)),
+        Err(untaken) => {
+            let error = lock_error(alloc, catalog, &untaken, path, WorkKind::Restore);
+            Err(if request.resumes {
+                error.still_unfinished(WorkKind::Restore)
+            } else {
+                error
+            })
+        }
     }
 }
 
-/// Gives a store back that was not changed, for which a verb ends early.
-fn give_up<P: Shelves>(places: &mut P, shelf: P::Shelf, error: VerbError) -> VerbError {
-    let _left = places.give_back(shelf, false).is_ok();
-    error
+/// Gives a store back that was not changed, for which a verb ends early: why it does, or why it could not be given back.
+fn give_up<P: Shelves>(
+    alloc: Global,
+    places: &mut P,
+    shelf: P::Shelf,
+    path: &str,
+    error: VerbError,
+) -> VerbError {
+    match places.give_back(shelf, false) {
+        Ok(_) => error,
+        Err(fault) => give_back_error(alloc, fault, path, WorkKind::Restore),
+    }
 }
 
 /// Gives a store back of which it is doubtful what was lost.
@@ -87,7 +102,7 @@ fn give_back_doubted<P: Shelves>(
             Ok(doubted) => Ok(Restoration::Doubted(doubted)),
             Err(error) => Err(error),
         },
-        Err(fault) => Err(finish_error(alloc, fault, path, WorkKind::Restore)),
+        Err(fault) => Err(give_back_error(alloc, fault, path, WorkKind::Restore)),
     }
 }
 
@@ -137,7 +152,7 @@ fn restore_taken<R: Threads + Sync, G: Progress + Sync, P: Shelves>(
     let mut shelf = shelf;
     let read = match read_files(run.alloc, &catalog, &mut shelf) {
         Ok(read) => read,
-        Err(error) => return Err(give_up(places, shelf, error)),
+        Err(error) => return Err(give_up(run.alloc, places, shelf, request.store, error)),
     };
     match doubt_of(run, &catalog, &read, lost, accepts_loss, request.resumes) {
         Ok(None) => restore_read(run, places, (shelf, lost), catalog, read, request.store),
@@ -145,7 +160,7 @@ fn restore_taken<R: Threads + Sync, G: Progress + Sync, P: Shelves>(
             let found = (catalog, doubt);
             give_back_doubted(run.alloc, places, shelf, found, lost, request.store)
         }
-        Err(error) => Err(give_up(places, shelf, error)),
+        Err(error) => Err(give_up(run.alloc, places, shelf, request.store, error)),
     }
 }
 
@@ -162,6 +177,9 @@ pub fn restore<R: Threads + Sync, G: Progress + Sync, P: Listings + Shelves>(
 {
     let (catalog, _source) = match find_store(run.alloc, places, request.store) {
         Ok(found) => found,
+        Err(error) if request.resumes => {
+            return Err(error.still_unfinished(WorkKind::Restore));
+        }
         Err(error) => return Err(error),
     };
     if request.is_dry_run {

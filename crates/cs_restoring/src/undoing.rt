@@ -69,10 +69,18 @@ pub fn undo<P: Shelves>(
     let path = request.store;
     let (catalog, _source) = match find_store(alloc, places, path) {
         Ok(found) => found,
+        Err(error) if request.resumes => return Err(error.still_unfinished(WorkKind::Undo)),
         Err(error) => return Err(error),
     };
     match places.take_undo(path, &catalog, undo_of(request)) {
         Ok(taken) => undo_taken(alloc, places, taken, catalog, path),
-        Err(untaken) => Err(lock_error(alloc, &catalog, &untaken, path, WorkKind::Undo)),
+        Err(untaken) => {
+            let error = lock_error(alloc, &catalog, &untaken, path, WorkKind::Undo);
+            Err(if request.resumes {
+                error.still_unfinished(WorkKind::Undo)
+            } else {
+                error
+            })
+        }
     }
 }

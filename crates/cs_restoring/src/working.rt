@@ -4,7 +4,7 @@ ghost use Rattle.cs_schema.specs.FileNames.{surviving};
 ghost use Rattle.cs_shelf.specs.Shelf.{IsReadIn};
 ghost use Rattle.cs_restoring.specs.Restores.{WorksOnStore};
 
-use crate::ending::{LostStore, finish_error, restore_error, sync_error};
+use crate::ending::{LostStore, finish_error, give_back_error, restore_error, sync_error};
 use cs_rebuild::Run;
 use cs_restore::{Restored, restore};
 use cs_store::{Fault, Readable};
@@ -24,7 +24,7 @@ pub fn leave<P: Shelves>(
 ) -> VerbError {
     match places.give_back(shelf, false) {
         Ok(given) => restore_error(alloc, store, fault, given),
-        Err(failure) => finish_error(alloc, failure, store.path, store.verb),
+        Err(failure) => give_back_error(alloc, failure, store.path, store.verb),
     }
 }
 

@@ -14,4 +14,4 @@ pub use memory::{MemoryShelf, Stop};
 pub use reading::{load_held, load_readable_held};
 pub use refusing::write_fault;
 pub use shelf::Shelf;
-pub use work::{JOURNAL, RESTORING, UndoOf, Undoable, Untaken, Work, WorkKind};
+pub use work::{JOURNAL, Pending, RESTORING, UndoOf, Undoable, Untaken, Work, WorkKind};

@@ -35,6 +35,17 @@ impl Work {
     }
 }
 
+/// Work on a store of which the record stands in its folder.
+#[derive(Clone, Copy, Debug, PartialEq, Eq)]
+pub enum Pending {
+    /// A run is at work.
+    AtWork(WorkKind),
+    /// The run that began the work was stopped, and it is to be resumed.
+    Stopped(WorkKind),
+    /// Whether a run is at work can't be told, since the record or its lock can't be had.
+    Unknown(WorkKind),
+}
+
 impl fmt::Display for WorkKind {
     fn fmt<W: fmt::Write>(&self, f: &mut fmt::Formatter<W>) -> fmt::Result {
         f.write_str(match self {
@@ -73,6 +84,9 @@ pub struct Undoable {
     pub back: FileSet,
     /// The names that changed, ascending.
     pub names: Vec<FileName>,
+    /// Those of them under which what was kept is moved back, since it is no regular file that can be read. In `back` they
+    /// have no bytes.
+    pub moved: Vec<FileName>,
 }
 
 /// Why a store cannot be locked.
@@ -88,8 +102,10 @@ pub enum Untaken {
     UnfinishedUndo,
     /// No work of this kind is unfinished.
     Finished,
-    /// A restore or an undo of the store is running.
-    Busy,
+    /// A run is at work on the store.
+    AtWork(WorkKind),
+    /// There is work on the store, and whether a run is at it can't be told.
+    Unknown(WorkKind),
     /// The record cannot be parsed.
     Damaged,
     /// Nothing is kept under this number, or under any number if none is given.

@@ -7,7 +7,7 @@ ghost use Rattle.cs_verifying.specs.Promises.{DigestsStore};
 use crate::one_site::{others, require_site};
 use cs_manifest::{Digested, digest_files, digest_of};
 use cs_schema::{Catalog, FileName};
-use pinepolo_places::{Places, VerbError, find_store_text};
+use pinepolo_places::{Listings, VerbError, find_store_text, require_unchanged, watch};
 use std::alloc::Global;
 
 /// The digests of a store.
@@ -23,7 +23,7 @@ pub struct StoreDigests {
 
 /// Reads the files of the store at this path, or those of one of its sites alone, one after the other. None is kept. A
 /// site that the catalog lacks is refused.
-pub fn digest_store<P: Places>(
+pub fn digest_store<P: Listings>(
     alloc: Global,
     places: &mut P,
     path: &str,
@@ -40,7 +40,10 @@ pub fn digest_store<P: Places>(
         Ok(()) => {}
         Err(error) => return Err(error),
     }
-    match digest_files(alloc, &catalog, others(site), &source) {
+    let before = watch(alloc, places, path)?;
+    let digested = digest_files(alloc, &catalog, others(site), &source);
+    require_unchanged(alloc, places, path, &before)?;
+    match digested {
         Ok(files) => Ok(StoreDigests {
             catalog,
             digest: digest_of(bytes.as_slice()),

@@ -6,12 +6,12 @@ ghost use Rattle.cs_verifying.specs.Promises.{ListsStore};
 use crate::digests::digest_store;
 use crate::listed::Listed;
 use cs_manifest::write_manifest;
-use pinepolo_places::{Places, VerbError};
+use pinepolo_places::{Listings, VerbError};
 use std::alloc::Global;
 
 /// The manifest of a store: its files that are there, with their digests; and those that are not. With a site, that site's
 /// files alone.
-pub fn list<P: Places>(
+pub fn list<P: Listings>(
     alloc: Global,
     places: &mut P,
     path: &str,

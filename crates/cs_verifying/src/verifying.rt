@@ -7,11 +7,11 @@ use crate::digests::digest_store;
 use crate::reading::manifest_at;
 use crate::verified::Verified;
 use cs_manifest::compare;
-use pinepolo_places::{Places, Tables, VerbError};
+use pinepolo_places::{Listings, Tables, VerbError};
 use std::alloc::Global;
 
 /// Which files of a store are not those of a manifest. With a site, that site's files alone are compared.
-pub fn verify<P: Places + Tables>(
+pub fn verify<P: Listings + Tables>(
     alloc: Global,
     places: &mut P,
     path: &str,

@@ -5,6 +5,7 @@ use std::fmt;
 #[derive(Clone, Copy, Debug, PartialEq, Eq)]
 pub enum What {
     Create,
+    Make,
     Write,
     Sync,
     Rename,
@@ -13,6 +14,7 @@ pub enum What {
     Remove,
     See,
     Miss,
+    Same,
     SyncFolder,
     Finish,
 }
@@ -30,6 +32,7 @@ impl fmt::Display for What {
     fn fmt<W: fmt::Write>(&self, f: &mut fmt::Formatter<W>) -> fmt::Result {
         f.write_str(match self {
             What::Create => "create",
+            What::Make => "make",
             What::Write => "write",
             What::Sync => "sync",
             What::Rename => "rename",
@@ -38,6 +41,7 @@ impl fmt::Display for What {
             What::Remove => "remove",
             What::See => "see",
             What::Miss => "miss",
+            What::Same => "same",
             What::SyncFolder => "sync folder",
             What::Finish => "finish",
         })

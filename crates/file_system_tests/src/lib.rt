@@ -7,10 +7,12 @@ mod events;
 mod failing;
 mod log;
 mod memory;
+mod open_file;
 #[cfg(test)]
 mod tests;
 
 pub use events::{Event, What};
 pub use failing::Failing;
 pub use log::Log;
-pub use memory::{MemoryFile, MemoryFiles};
+pub use memory::MemoryFiles;
+pub use open_file::MemoryFile;

@@ -6,7 +6,8 @@ ghost use Rattle.file_system_tests.specs.History.{call_of, calls_of};
 use crate::events::What;
 use crate::failing::Failing;
 use crate::log::Log;
-use cs_file_system::{FileSystem, Identity, Standing, TryLock};
+use crate::open_file::MemoryFile;
+use cs_file_system::{FileSystem, Identity, Owner, Standing};
 use std::alloc::Global;
 use std::collections::BTreeMap;
 use std::io;
@@ -19,18 +20,10 @@ pub struct MemoryFiles {
     pub log: Log,
     failing: Failing,
     standing: BTreeMap<String, Standing>,
-}
-
-/// An open file of a file system in memory.
-#[derive(Drop)]
-pub struct MemoryFile {
-    path: String,
-}
-
-impl TryLock for MemoryFile {
-    fn take_lock(&self) -> io::Result<()> {
-        Ok(())
-    }
+    /// Whether it has hard links.
+    pub links: bool,
+    /// Whether any two files in it have the same bytes.
+    pub alike: bool,
 }
 
 /// Notes what stands at a path now.
@@ -55,6 +48,8 @@ impl MemoryFiles {
             log: Log::new(alloc),
             failing: Failing(before_failure),
             standing: BTreeMap::new(alloc),
+            links: true,
+            alike: true,
         }
     }
 
@@ -68,6 +63,18 @@ impl MemoryFiles {
         match self.standing.get(path) {
             Some(standing) => *standing,
             None => Standing::Nothing,
+        }
+    }
+
+    /// Whether a file can get this name by a link: an error if something has it, or there are no links.
+    fn require_links(&self, to: &str) -> io::Result<()> {
+        if self.at(to) != Standing::Nothing {
+            return Err(io::Error::from(ErrorKind::AlreadyExists));
+        }
+        if self.links {
+            Ok(())
+        } else {
+            Err(io::Error::from(ErrorKind::Unsupported))
         }
     }
 
@@ -113,8 +120,8 @@ impl FileSystem for MemoryFiles {
         })
     }
 
-    fn is_link(&mut self, _path: &str) -> bool {
-        false
+    fn is_link(&mut self, _path: &str) -> io::Result<bool> {
+        Ok(false)
     }
 
     fn look(&mut self, path: &str) -> io::Result<Standing> {
@@ -148,6 +155,10 @@ impl FileSystem for MemoryFiles {
         Ok(file)
     }
 
+    fn create_private(&mut self, path: &str) -> io::Result<MemoryFile> {
+        self.create(path)
+    }
+
     fn create_mark(&mut self, _folder: &str, path: &str) -> io::Result<MemoryFile> {
         self.create(path)
     }
@@ -160,18 +171,19 @@ impl FileSystem for MemoryFiles {
         Ok(file)
     }
 
-    fn cut(&mut self, path: &str, _file: &mut MemoryFile, _length: u64) -> io::Result<()> {
-        self.failing.begin()?;
-        self.log.add(What::Write, path, "")
-    }
-
     fn write(&mut self, path: &str, _file: &mut MemoryFile, _bytes: &[u8]) -> io::Result<()> {
         self.failing.begin()?;
         self.log.add(What::Write, path, "")
     }
 
-    fn give_owner(&mut self, _folder: &str, _path: &str, _beside: &str) -> io::Result<()> {
-        Ok(())
+    fn write_copy(&mut self, _from: &str, path: &str, _file: &mut MemoryFile) -> io::Result<()> {
+        self.failing.begin()?;
+        self.log.add(What::Write, path, "")
+    }
+
+    fn owner_of(&mut self, _folder: &str, _path: &str) -> io::Result<Owner> {
+        let (user, group, mode) = (0, 0, 0);
+        Ok(Owner { user, group, mode })
     }
 
     fn sync(&mut self, path: &str, _file: &mut MemoryFile) -> io::Result<()> {
@@ -192,21 +204,36 @@ impl FileSystem for MemoryFiles {
     }
 
     fn link_new(&mut self, from: &str, to: &str) -> io::Result<()> {
-        if self.at(to) != Standing::Nothing {
-            return Err(io::Error::from(ErrorKind::AlreadyExists));
-        }
+        self.require_links(to)?;
         self.failing.begin()?;
         place(self.alloc, &mut self.standing, to, Standing::File)?;
         self.log.add(What::Link, from, to)
     }
 
     fn link(&mut self, from: &str, to: &str) -> io::Result<()> {
+        self.require_links(to)?;
         self.failing.begin()?;
         place(self.alloc, &mut self.standing, to, Standing::File)?;
         self.log.add(What::Keep, from, to)
     }
 
+    fn is_same(&mut self, path: &str, other: &str) -> io::Result<bool> {
+        if !self.alike {
+            return Ok(false);
+        }
+        self.failing.begin()?;
+        self.log.add(What::Same, path, other)?;
+        Ok(true)
+    }
+
+    fn is_named(&mut self, path: &str, _file: &MemoryFile) -> io::Result<bool> {
+        Ok(self.at(path) == Standing::File)
+    }
+
     fn move_folder(&mut self, from: &str, to: &str) -> io::Result<()> {
+        if self.at(to) != Standing::Nothing {
+            return Err(io::Error::from(ErrorKind::AlreadyExists));
+        }
         self.move_to(What::Keep, from, to)
     }
 
@@ -216,6 +243,15 @@ impl FileSystem for MemoryFiles {
 
     fn remove_kept(&mut self, path: &str, _kept: &str, _folder: &str) -> io::Result<()> {
         self.remove(path)
+    }
+
+    fn create_folder(&mut self, path: &str) -> io::Result<()> {
+        if self.at(path) != Standing::Nothing {
+            return Err(io::Error::from(ErrorKind::AlreadyExists));
+        }
+        self.failing.begin()?;
+        place(self.alloc, &mut self.standing, path, Standing::Folder)?;
+        self.log.add(What::Make, path, "")
     }
 
     fn make_folder(&mut self, path: &str) -> io::Result<()> {
@@ -230,13 +266,23 @@ impl FileSystem for MemoryFiles {
         self.log.add(What::Remove, path, "")
     }
 
+    fn move_left(&mut self, from: &str, own: &str) -> io::Result<()> {
+        self.move_to(What::Rename, from, own)
+    }
+
+    fn remove_tree(&mut self, _alloc: Global, path: &str) -> io::Result<()> {
+        self.remove(path)
+    }
+
     fn sync_folder(&mut self, path: &str) -> io::Result<()> {
         self.failing.begin()?;
         self.log.add(What::SyncFolder, path, "")
     }
 
     fn keep_mark(&mut self, _folder: &str, _log: &str, mark: &str, kept: &str) -> io::Result<()> {
-        self.link(mark, kept)
+        self.failing.begin()?;
+        place(self.alloc, &mut self.standing, kept, Standing::File)?;
+        self.log.add(What::Keep, mark, kept)
     }
 
     fn finish(&mut self, _folder: &str, mark: &str) -> io::Result<()> {

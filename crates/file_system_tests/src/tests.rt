@@ -1,8 +1,9 @@
 //! The calls of each step, and where it stops if one fails.
 use crate::memory::MemoryFiles;
 use cs_file_system::{
-    EndOfWork, Entry, FileSystem, Replacement, Standing, begin_record, end_recorded, end_work,
-    mark, move_back, put, put_folder, put_owned, replace_kept, rewrite_record, take_away, unmark,
+    EndOfWork, FileSystem, Replacement, Standing, begin_mark, begin_record, end_recorded, end_work,
+    mark, move_back, put_folder, put_new, put_owned, replace_kept, rewrite_record, take_away,
+    unmark, write_synced,
 };
 use std::alloc::{AllocError, Global};
 use std::io;
@@ -45,9 +46,6 @@ const MARK: &str =
 #[test]
 fn places(rt: HostRuntime) {
     let alloc = rt.alloc();
-    let mut files = empty(alloc);
-    let done = put(&mut files, "a.new", "a", b"1");
-    expect(&rt, alloc, &files, done, PUT);
     let mut files = empty(alloc);
     let done = put_owned(&mut files, ".", "a.new", "a", b"1");
     expect(&rt, alloc, &files, done, PUT);
@@ -105,11 +103,13 @@ fn rewrites_a_record(rt: HostRuntime) {
     expect_calls(&rt, alloc, &files, TAKEN);
 }
 
-/// The calls by which work ends.
-const ENDED: [&str; 9] = [
-    "create s/log; ",
-    "write s/log; ",
-    "sync s/log; ",
+/// The calls by which work ends, and of a log that could not be put in place the one by which it is taken away.
+const ENDED: [&str; 11] = [
+    "remove s/log.new; ",
+    "create s/log.new; ",
+    "write s/log.new; ",
+    "sync s/log.new; ",
+    "rename s/log.new s/log; ",
     "sync folder s; ",
     "keep s/R s/replaced/1/R; ",
     "sync folder d; ",
@@ -139,6 +139,7 @@ fn work(alloc: Global) -> Result<EndOfWork, AllocError> {
         folder: String::from_str(alloc, "s")?,
         changed,
         log: String::from_str(alloc, "s/log")?,
+        beside: String::from_str(alloc, "s/log.new")?,
         mark: String::from_str(alloc, "s/R")?,
         kept: String::from_str(alloc, "s/replaced/1")?,
         kept_mark: String::from_str(alloc, "s/replaced/1/R")?,
@@ -149,15 +150,14 @@ fn work(alloc: Global) -> Result<EndOfWork, AllocError> {
 fn ends_work(rt: HostRuntime) {
     let alloc = rt.alloc();
     let work = work(alloc).expect(&rt, "memory");
-    let entry = Entry {
-        cut: None,
-        text: String::from_str(alloc, "1").expect(&rt, "memory"),
-    };
-    for before_failure in 0..10 {
+    for before_failure in 0..12 {
         let mut files = MemoryFiles::new(alloc, Some(before_failure));
-        let ended = end_work(&mut files, &work, &entry);
-        assert_eq!(rt; ended.is_ok(), before_failure == 9);
-        let want = first_of_ended(alloc, before_failure).expect(&rt, "memory");
+        let ended = end_work(&mut files, &work, b"1");
+        assert_eq!(rt; ended.is_ok(), before_failure == 11);
+        let mut want = first_of_ended(alloc, before_failure).expect(&rt, "memory");
+        if before_failure == 2 || before_failure == 3 {
+            want.push_str("remove s/log.new; ").expect(&rt, "memory");
+        }
         expect_calls(&rt, alloc, &files, want.as_str());
     }
     let mut files = empty(alloc);
@@ -234,4 +234,57 @@ fn replaces_what_is_kept(rt: HostRuntime) {
     let paths = replacement(alloc, "b").expect(&rt, "memory");
     assert!(rt; take_away(&mut files, &paths).is_err());
     expect_calls(&rt, alloc, &files, "miss k/b; see b; ");
+}
+
+/// What a new file's calls are in a file system with hard links, in one without, and if the name is taken.
+const NEW_BY_LINK: &str =
+    "create a.partial.1; write a.partial.1; sync a.partial.1; link a.partial.1 a; \
+remove a.partial.1; sync folder .; ";
+
+const NEW_BY_FILE: &str =
+    "create a.partial.1; write a.partial.1; sync a.partial.1; create a; rename a.partial.1 a; \
+sync folder .; ";
+
+const NEW_REFUSED: &str =
+    "create a.partial.1; write a.partial.1; sync a.partial.1; remove a.partial.1; ";
+
+#[test]
+fn takes_a_name(rt: HostRuntime) {
+    let alloc = rt.alloc();
+    let mut files = empty(alloc);
+    let done = put_new(&mut files, alloc, "a.partial", "a", ".", b"1");
+    expect(&rt, alloc, &files, done, NEW_BY_LINK);
+    let mut files = empty(alloc);
+    files.links = false;
+    let done = put_new(&mut files, alloc, "a.partial", "a", ".", b"1");
+    expect(&rt, alloc, &files, done, NEW_BY_FILE);
+    // the name is taken, whether there are links or not
+    for links in [true, false] {
+        let mut files = empty(alloc);
+        files.links = links;
+        files.let_stand("a", Standing::File).expect(&rt, "memory");
+        assert!(rt; put_new(&mut files, alloc, "a.partial", "a", ".", b"1").is_err());
+        expect_calls(&rt, alloc, &files, NEW_REFUSED);
+    }
+}
+
+#[test]
+fn leaves_no_part_of_a_file(rt: HostRuntime) {
+    let alloc = rt.alloc();
+    let mut files = MemoryFiles::new(alloc, Some(1));
+    assert!(rt; write_synced(&mut files, "a", b"1").is_err());
+    expect_calls(&rt, alloc, &files, "create a; remove a; ");
+    let mut files = empty(alloc);
+    let marked = begin_mark(&mut files, "s/LOADING", b"1");
+    assert!(rt; marked.is_ok());
+    expect_calls(
+        &rt,
+        alloc,
+        &files,
+        "create s/LOADING; write s/LOADING; sync s/LOADING; ",
+    );
+    // another run's mark is not taken
+    files.log.events.clear();
+    assert!(rt; begin_mark(&mut files, "s/LOADING", b"1").is_err());
+    expect_calls(&rt, alloc, &files, "");
 }

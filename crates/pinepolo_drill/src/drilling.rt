@@ -12,7 +12,7 @@ use cs_parallel_io::load_side_by_side;
 use cs_rebuild::Run;
 use cs_schema::{Catalog, Loss};
 use pinepolo_args::DrillArgs;
-use pinepolo_places::{Meter, Places, VerbError, find_store};
+use pinepolo_places::{Listings, Meter, VerbError, find_store, require_unchanged, watch};
 use pinepolo_progress::{Progress, Stage};
 use std::marker::Sync;
 use std::thread::Threads;
@@ -34,7 +34,7 @@ fn reach_of(catalog: &Catalog, asked: Option<u8>) -> u8
 
 /// Rebuilds each loss of at most so many sites of a store from its other files, in memory, and compares it with what stands.
 /// Nothing is written.
-pub fn drill<R: Threads + Sync, G: Progress + Sync, P: Places + Meter>(
+pub fn drill<R: Threads + Sync, G: Progress + Sync, P: Listings + Meter>(
     run: &Run<'_, R, G>,
     places: &mut P,
     request: &DrillArgs<'_>,
@@ -49,11 +49,16 @@ pub fn drill<R: Threads + Sync, G: Progress + Sync, P: Places + Meter>(
         Err(error) => return Err(error),
     };
     run.gate.reached(Stage::Reading);
+    let before = watch(alloc, places, request.store)?;
     let none = Loss::none();
     let files = match load_side_by_side(run.rt, alloc, &catalog, none, &source) {
         Ok(files) => files,
-        Err(fault) => return Err(VerbError::of_store(alloc, &catalog, request.store, &fault)),
+        Err(fault) => {
+            require_unchanged(alloc, places, request.store, &before)?;
+            return Err(VerbError::of_store(alloc, &catalog, request.store, &fault));
+        }
     };
+    require_unchanged(alloc, places, request.store, &before)?;
     let at_most = reach_of(&catalog, request.at_most);
     let meter: &P = places;
     let mut watch = Stopwatch::new(alloc, meter);

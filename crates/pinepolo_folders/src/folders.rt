@@ -4,12 +4,13 @@ ghost use Rattle.cs_store.specs.Fault.{CountsFault};
 
 use crate::listing::names_in_all;
 use crate::sites::SiteFolders;
-use cs_folder_work::unfinished_kind;
-use cs_folders::{FileLimits, OutputFolder, StoreFolder, read_catalog_file, write_whole};
+use crate::stamps::{StoreStamp, stamp_of};
+use cs_folder_work::pending_work;
+use cs_folders::{FileLimits, OutputFolder, StoreFolder, read_catalog_file, write_new};
 use cs_schema::Catalog;
 use cs_sites::SitedSource;
 use cs_store::StoreFault;
-use pinepolo_places::{Listings, Places, WorkKind, World};
+use pinepolo_places::{Listings, Pending, Places, WorkKind, World};
 use std::alloc::{AllocError, Global};
 use std::fs::File;
 use std::marker::Sync;
@@ -141,7 +142,7 @@ impl<R: Files + Copy + Sync> Places for Folders<R> {
     }
 
     fn picture(&mut self, path: &str, bytes: &[u8]) -> Result<(), StoreFault> {
-        let written = write_whole(self.alloc, &self.rt, path, bytes);
+        let written = write_new(self.alloc, &self.rt, path, bytes);
         self.told(written)
     }
 
@@ -151,6 +152,8 @@ impl<R: Files + Copy + Sync> Places for Folders<R> {
 }
 
 impl<R: Files<File = File> + Alloc + Copy + Drop + Sync> Listings for Folders<R> {
+    type Stamp = StoreStamp;
+
     ghost lists = { λ s path names t. ⊤ };
 
     ghost leaves = { λ s path kind. ⊤ };
@@ -161,7 +164,22 @@ impl<R: Files<File = File> + Alloc + Copy + Drop + Sync> Listings for Folders<R>
     }
 
     fn unfinished(&self, path: &str) -> Result<Option<WorkKind>, AllocError> {
-        unfinished_kind(self.alloc, &self.rt, path)
+        Ok(match self.pending(path)? {
+            Some(Pending::Stopped(kind) | Pending::Unknown(kind)) => Some(kind),
+            Some(Pending::AtWork(_)) | None => None,
+        })
+    }
+
+    fn pending(&self, path: &str) -> Result<Option<Pending>, AllocError> {
+        pending_work(self.alloc, &self.rt, path)
+    }
+
+    fn stamp(&self, path: &str) -> Result<StoreStamp, AllocError> {
+        stamp_of(self.alloc, &self.rt, path, &self.sites)
+    }
+
+    fn is_unchanged(&self, path: &str, before: &StoreStamp) -> Result<bool, AllocError> {
+        Ok(self.stamp(path)?.is_same(before))
     }
 }
 

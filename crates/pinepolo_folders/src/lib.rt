@@ -15,6 +15,7 @@ mod shelves;
 mod sites;
 mod sites_error;
 mod siting;
+mod stamps;
 mod store_folders;
 mod tables;
 

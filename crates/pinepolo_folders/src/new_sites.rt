@@ -5,15 +5,18 @@ use crate::listing::names_in;
 use crate::replacing::LOST_AND_FOUND;
 use crate::sites::{named_sites, placed};
 use crate::sites_error::SitesError;
-use cs_file_system::{FileSystem, SystemFiles};
-use cs_folders::{BEGUN, Way, partial_path, read_catalog_file};
+use cs_file_system::{FileSystem, SystemFiles, new_folder_beside, open_regular};
+use cs_folders::{
+    BEGUN, LeftMark, Way, partial_path, read_catalog_file, unless_missing, way_of_mark,
+};
 use cs_sites::SiteFolder;
 use cs_store::StoreFault;
 use pinepolo_args::{NewFolders, Verb};
 use std::alloc::Global;
-use std::fs;
+use std::fs::File;
 use std::io::ErrorKind;
 use std::rt::Files;
+use std::{fs, io};
 
 /// How the names of files end that a run may have left which was stopped.
 const ENDS: &[&str] = &[".partial", ".seg", ".del", ".jix"];
@@ -54,6 +57,14 @@ fn is_left(name: &str) -> bool {
     false
 }
 
+/// Whether a name is that of a folder into which a run moved what it was to remove.
+fn is_moved_away(name: &str) -> bool {
+    match name.strip_prefix(BEGUN) {
+        Some(number) => number.starts_with('.'),
+        None => false,
+    }
+}
+
 /// What stands in a folder with these names: nothing, what a run left there that was stopped, or something else.
 fn way_among(names: &[String]) -> Way {
     let mut way = Way::Free;
@@ -61,6 +72,7 @@ fn way_among(names: &[String]) -> Way {
         match name.as_str() {
             LOST_AND_FOUND => {}
             BEGUN => way = Way::Begun,
+            name if is_moved_away(name) => way = Way::Begun,
             name if is_left(name) => {
                 if way == Way::Free {
                     way = Way::Taken;
@@ -72,8 +84,17 @@ fn way_among(names: &[String]) -> Way {
     way
 }
 
+/// Whether the run that began a site's folder is at work, or was stopped.
+fn way_of_begun<R: Files<File = File>>(alloc: Global, rt: &R, folder: &str) -> io::Result<Way> {
+    let mark = format!(in alloc; "{folder}/{BEGUN}")?;
+    match unless_missing(open_regular(rt, mark.as_str()))? {
+        Some(mark) => way_of_mark(&mark),
+        None => Ok(Way::Begun),
+    }
+}
+
 /// What stands where a site of a new store is to have its folder; a fault if a folder cannot be listed.
-fn way_to_folder<R: Files + Alloc + Clone + Drop>(
+fn way_to_folder<R: Files<File = File> + Alloc + Clone + Drop>(
     alloc: Global,
     rt: &R,
     folder: &str,
@@ -84,45 +105,70 @@ fn way_to_folder<R: Files + Alloc + Clone + Drop>(
         _ => {}
     }
     let names = names_in(alloc, rt, folder)?;
-    Ok(way_among(names.as_slice()))
+    match way_among(names.as_slice()) {
+        Way::Begun => match way_of_begun(alloc, rt, folder) {
+            Ok(way) => Ok(way),
+            Err(_) => Err(StoreFault::Device),
+        },
+        way => Ok(way),
+    }
 }
 
-/// Removes what a run left in a folder that was stopped, but for what tells so.
-fn remove_left<R: Files + Alloc + Clone + Drop>(
+/// Moves what a run left in a folder that was stopped into a new folder there, its mark last, and removes that.
+fn remove_left<R: Files<File = File> + Alloc + Clone + Drop>(
     alloc: Global,
     rt: &R,
     folder: &str,
-) -> Result<(), StoreFault> {
-    for name in names_in(alloc, rt, folder)? {
+) -> io::Result<()> {
+    let begun = format!(in alloc; "{folder}/{BEGUN}")?;
+    let mark = unless_missing(LeftMark::lock(rt, begun.as_str()))?;
+    let files = &mut SystemFiles(rt);
+    let own = new_folder_beside(files, alloc, begun.as_str())?;
+    for name in names_in(alloc, rt, folder).map_err(listing_error)? {
         let name = name.as_str();
-        if name == LOST_AND_FOUND || name == BEGUN {
+        let from = format!(in alloc; "{folder}/{name}")?;
+        if name == LOST_AND_FOUND || name == BEGUN || from.as_str() == own.as_str() {
             continue;
         }
-        let Ok(path) = format!(in alloc; "{folder}/{name}") else {
-            return Err(StoreFault::Memory);
-        };
-        if SystemFiles(rt).remove(path.as_str()).is_err() {
-            return Err(StoreFault::Device);
-        }
+        let to = format!(in alloc; "{own}/{name}")?;
+        files.move_left(from.as_str(), to.as_str())?;
     }
-    Ok(())
+    if mark.is_some() {
+        let to = format!(in alloc; "{own}/{BEGUN}")?;
+        files.move_left(begun.as_str(), to.as_str())?;
+    }
+    files.remove_tree(alloc, own.as_str())
 }
 
-/// Makes room for the files of a site in its folder, in which nothing may stand but what a run left that was stopped.
-pub fn clear_folder<R: Files + Alloc + Clone + Drop>(
+/// The error of a folder that could not be listed.
+fn listing_error(fault: StoreFault) -> io::Error {
+    io::Error::from(match fault {
+        StoreFault::Memory => ErrorKind::OutOfMemory,
+        StoreFault::Device => ErrorKind::Other,
+    })
+}
+
+/// Makes room for the files of a site in its folder, in which nothing may stand but, if `replaces`, what a run left that was
+/// stopped.
+pub fn clear_folder<R: Files<File = File> + Alloc + Clone + Drop>(
     alloc: Global,
     rt: &R,
     folder: &str,
+    replaces: bool,
 ) -> Result<(), StoreFault> {
     match way_to_folder(alloc, rt, folder)? {
         Way::Free => Ok(()),
-        Way::Begun => remove_left(alloc, rt, folder),
-        Way::Taken => Err(StoreFault::Device),
+        Way::Begun if replaces => match remove_left(alloc, rt, folder) {
+            Ok(()) => Ok(()),
+            Err(e) if e.kind() == ErrorKind::OutOfMemory => Err(StoreFault::Memory),
+            Err(_) => Err(StoreFault::Device),
+        },
+        _ => Err(StoreFault::Device),
     }
 }
 
 /// The error for a folder that a site of a new store can't have, if it is one.
-fn not_free<R: Files + Alloc + Clone + Drop>(
+fn not_free<R: Files<File = File> + Alloc + Clone + Drop>(
     alloc: Global,
     rt: &R,
     folder: &str,
@@ -136,6 +182,7 @@ fn not_free<R: Files + Alloc + Clone + Drop>(
         Ok(Way::Free) if identity(rt, folder).is_some() => None,
         Ok(Way::Begun) if replaces => None,
         Ok(Way::Begun) => Some(SitesError::Begun(path)),
+        Ok(Way::Busy) => Some(SitesError::Busy(path)),
         Ok(_) => Some(SitesError::NotFree(path)),
         Err(StoreFault::Device) => Some(SitesError::NoFolder(path)),
         Err(StoreFault::Memory) => Some(SitesError::OutOfMemory),
@@ -169,7 +216,7 @@ fn store_folder<R: Files>(
 
 /// The paths of the folders that a SITES file names for the sites of a new store, in the order of their numbers. Nothing is
 /// changed. None are found if there is no catalog, which whoever asks for it is told.
-fn find_new_sites<R: Files + Alloc + Copy + Drop>(
+fn find_new_sites<R: Files<File = File> + Alloc + Copy + Drop>(
     alloc: Global,
     rt: &R,
     file: &str,
@@ -196,7 +243,7 @@ fn find_new_sites<R: Files + Alloc + Copy + Drop>(
     Ok(folders)
 }
 
-impl<R: Files + Alloc + Copy + Drop> Folders<R> {
+impl<R: Files<File = File> + Alloc + Copy + Drop> Folders<R> {
     /// From now on each site of a store that this verb makes gets the folder that a SITES file names for it.
     pub(crate) fn use_new_sites(&mut self, file: &str, verb: &Verb<'_>) -> Result<(), SitesError> {
         let Some(making) = making_of(verb) else {

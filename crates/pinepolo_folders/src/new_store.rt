@@ -10,6 +10,7 @@ use cs_sites::Routes;
 use cs_store::{Sink, StoreFault};
 use pinepolo_places::NewFiles;
 use std::alloc::{AllocError, Global};
+use std::fs::File;
 use std::rt::Files;
 
 /// The folders of the sites of a new store.
@@ -50,13 +51,19 @@ fn routes_of(alloc: Global, catalog: &[u8], sites: usize) -> Result<Routes, Stor
     }
 }
 
-impl<R: Files + Alloc + Copy + Drop> NewSites<R> {
+impl<R: Files<File = File> + Alloc + Copy + Drop> NewSites<R> {
     /// Begins the folders of the sites of a store with this catalog.
-    fn begin(alloc: Global, rt: R, folders: &[String], catalog: &[u8]) -> Result<Self, StoreFault> {
+    fn begin(
+        alloc: Global,
+        rt: R,
+        folders: &[String],
+        catalog: &[u8],
+        replaces: bool,
+    ) -> Result<Self, StoreFault> {
         let routes = routes_of(alloc, catalog, folders.len())?;
         let mut sites = Vec::new(alloc);
         for folder in folders {
-            clear_folder(alloc, &rt, folder.as_str())?;
+            clear_folder(alloc, &rt, folder.as_str(), replaces)?;
             let site = NewSite::begin(alloc, &rt, folder.as_str(), catalog)?;
             if sites.push(site).is_err() {
                 return Err(StoreFault::Memory);
@@ -111,19 +118,26 @@ impl<R: Files> NewSites<R> {
     }
 }
 
-impl<R: Files + Alloc + Copy + Drop> SystemStore<R> {
-    /// Begins the store, in the place of one that was begun there: beside its path, and in the folders of its sites if there
-    /// are any.
+impl<R: Files<File = File> + Alloc + Copy + Drop> SystemStore<R> {
+    /// Begins the store, if `replaces` in the place of one that a run left which was stopped: beside its path, and in the
+    /// folders of its sites if there are any.
     pub fn make(
         alloc: Global,
         rt: R,
         path: &str,
         catalog: &[u8],
         sites: &Option<Vec<String>>,
+        replaces: bool,
     ) -> Result<Self, StoreFault> {
-        let store = NewStoreFolder::make(alloc, rt, path, catalog)?;
+        let store = NewStoreFolder::make(alloc, rt, path, catalog, replaces)?;
         let sites = match sites {
-            Some(folders) => Some(NewSites::begin(alloc, rt, folders.as_slice(), catalog)?),
+            Some(folders) => Some(NewSites::begin(
+                alloc,
+                rt,
+                folders.as_slice(),
+                catalog,
+                replaces,
+            )?),
             None => None,
         };
         Ok(Self {

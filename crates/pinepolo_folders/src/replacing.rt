@@ -9,6 +9,7 @@ use cs_sites::{SiteFolder, with_folders};
 use cs_store::StoreFault;
 use pinepolo_args::NewFolders;
 use std::alloc::Global;
+use std::fs::File;
 use std::io;
 use std::io::ErrorKind;
 use std::rt::Files;
@@ -134,7 +135,7 @@ impl Adoption {
 
     /// Gives the new folders their copies of the catalog, as long as they are there, and then writes the SITES file with them:
     /// whole or not at all.
-    fn adopt<R: Files>(
+    fn adopt<R: Files<File = File>>(
         &self,
         alloc: Global,
         rt: &R,
@@ -157,7 +158,7 @@ impl Adoption {
 }
 
 /// Puts a file in place in a folder, and brings its name to the disk.
-fn put_in<R: Files>(
+fn put_in<R: Files<File = File>>(
     alloc: Global,
     rt: &R,
     folder: &str,
@@ -172,7 +173,7 @@ fn put_in<R: Files>(
     files.sync_folder(folder)
 }
 
-impl<R: Files> Folders<R> {
+impl<R: Files<File = File>> Folders<R> {
     /// From now on the SITES file names the new folders of the sites that were restored into them, if there are any: they are
     /// among these.
     pub(crate) fn adopt(&self, folders: &StoreFolders) -> Result<(), StoreFault> {

@@ -8,7 +8,6 @@ use cs_folders::FileLimits;
 use cs_schema::{Catalog, FileName, Loss};
 use cs_store::StoreFault;
 use pinepolo_places::{GivenBack, RestoreOf, Shelves, UndoOf, Undoable, Untaken, Work};
-use std::alloc::AllocError;
 use std::fs::File;
 use std::marker::Sync;
 use std::rt::Files;
@@ -21,10 +20,15 @@ impl<R: Files + Copy + Drop> Folders<R> {
         path: &str,
         catalog: &Catalog,
         lost: Loss,
-    ) -> Result<FolderShelf<R>, AllocError> {
+    ) -> Result<FolderShelf<R>, StoreFault> {
         let folders = self.store_folders(path, catalog)?;
-        let source = self.source(path, catalog)?;
-        let names = rebuilt_names(self.alloc, catalog, lost)?;
+        let (source, names) = match (
+            self.source(path, catalog),
+            rebuilt_names(self.alloc, catalog, lost),
+        ) {
+            (Ok(source), Ok(names)) => (source, names),
+            _ => return Err(StoreFault::Memory),
+        };
         Ok(FolderShelf::new(
             self.alloc,
             self.rt,
@@ -42,9 +46,7 @@ impl<R: Files + Copy + Drop> Folders<R> {
         catalog: &Catalog,
         lost: Loss,
     ) -> Result<FolderShelf<R>, Untaken> {
-        let Ok(shelf) = self.shelf(path, catalog, lost) else {
-            return Err(Untaken::Memory);
-        };
+        let shelf = self.shelf(path, catalog, lost).map_err(untaken_by)?;
         match shelf.first_away() {
             Some(name) => Err(self.away(name)),
             None => Ok(shelf),
@@ -59,6 +61,14 @@ impl<R> Folders<R> {
             Some(_) => Untaken::Away(name),
             None => Untaken::Link(name),
         }
+    }
+}
+
+/// Why a store can't be taken of which a folder could not be looked at.
+fn untaken_by(fault: StoreFault) -> Untaken {
+    match fault {
+        StoreFault::Memory => Untaken::Memory,
+        StoreFault::Device => Untaken::Device,
     }
 }
 
@@ -106,9 +116,7 @@ impl<R: Files<File = File> + Alloc + Clock + Copy + Drop + Sync> Shelves for Fol
         path: &str,
         catalog: &Catalog,
     ) -> Result<(FolderShelf<R>, RestoreOf), Untaken> {
-        let Ok(folders) = self.store_folders(path, catalog) else {
-            return Err(Untaken::Memory);
-        };
+        let folders = self.store_folders(path, catalog).map_err(untaken_by)?;
         let taken = match resume(self.alloc, &self.rt, &folders) {
             Ok(taken) => taken,
             Err(untaken) => return Err(untaken),
@@ -128,9 +136,7 @@ impl<R: Files<File = File> + Alloc + Clock + Copy + Drop + Sync> Shelves for Fol
         catalog: &Catalog,
         asked: UndoOf,
     ) -> Result<(FolderShelf<R>, Undoable), Untaken> {
-        let Ok(shelf) = self.shelf(path, catalog, Loss::none()) else {
-            return Err(Untaken::Memory);
-        };
+        let shelf = self.shelf(path, catalog, Loss::none()).map_err(untaken_by)?;
         let limits = FileLimits::of(catalog);
         match take_undo(self.alloc, &self.rt, shelf.folders(), asked, limits) {
             Ok((taken, undoable)) => Ok((shelf.taken_by(taken), undoable)),
@@ -145,10 +151,7 @@ impl<R: Files<File = File> + Alloc + Clock + Copy + Drop + Sync> Shelves for Fol
         catalog: &Catalog,
         lost: Loss,
     ) -> Result<FolderShelf<R>, StoreFault> {
-        match self.shelf(path, catalog, lost) {
-            Ok(shelf) => Ok(shelf),
-            Err(_) => Err(StoreFault::Memory),
-        }
+        self.shelf(path, catalog, lost)
     }
 
     fn give_back(
@@ -166,6 +169,7 @@ impl<R: Files<File = File> + Alloc + Clock + Copy + Drop + Sync> Shelves for Fol
         match store.give_back(is_finished) {
             Ok(ended) => Ok(GivenBack {
                 kept: ended.kept,
+                changed: ended.changed,
                 is_unfinished,
                 is_synced: ended.is_synced,
             }),

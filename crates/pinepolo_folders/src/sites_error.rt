@@ -34,6 +34,8 @@ pub enum SitesError {
     NotFree(String),
     /// The folder of a site of a new store at this path has what a run left there that was stopped.
     Begun(String),
+    /// Another run makes a store in the folder of a site at this path.
+    Busy(String),
     /// The new folder of a site at this path cannot be listed.
     NoFolder(String),
     /// The new folder of a site at this path is not empty.
@@ -76,7 +78,8 @@ impl SitesError {
             SitesError::CatalogsDiffer(..)
             | SitesError::NotEmpty(_)
             | SitesError::NotFree(_)
-            | SitesError::Begun(_) => REFUSED,
+            | SitesError::Begun(_)
+            | SitesError::Busy(_) => REFUSED,
         }
     }
 
@@ -97,6 +100,7 @@ impl SitesError {
             SitesError::Begun(_) => {
                 "check that no other run writes it, then give --replace-partial"
             }
+            SitesError::Busy(_) => "wait for it to end, or give an empty folder",
             SitesError::CatalogsDiffer(..) => "put the right one in the place of the other",
             SitesError::NoSite(_) => "give --to the number of a site that the file names",
             SitesError::NoFolder(_) => "check that it is a folder and may be read",
@@ -150,6 +154,10 @@ impl fmt::Display for SitesError {
                     f,
                     "fault: {folder} has files that are left from an unfinished run"
                 )?;
+            }
+            SitesError::Busy(folder) => {
+                let folder = folder.as_str();
+                writeln!(f, "fault: another run makes a store in {folder}")?;
             }
             SitesError::CatalogsDiffer(one, other) => {
                 write!(f, "fault: two copies of catalog.toml differ\n{one}{other}")?;

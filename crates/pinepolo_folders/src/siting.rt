@@ -7,6 +7,7 @@ use crate::sites_error::SitesError;
 use cs_schema::Loss;
 use pinepolo_args::{ParseExit, Request, Verb};
 use pinepolo_places::{AwaySite, Sited};
+use std::fs::File;
 use std::rt::Files;
 
 /// A request, with the folders of its store's sites found.
@@ -62,7 +63,7 @@ impl<'x> SitedRequest<'x> {
     }
 }
 
-impl<R: Files + Alloc + Copy + Drop> Folders<R> {
+impl<R: Files<File = File> + Alloc + Copy + Drop> Folders<R> {
     /// Finds the folders of the sites of what was asked for: if it names a SITES file, each site of its store has the
     /// folder that this file names, or the one that takes its place, and otherwise all sites have the store's.
     pub fn find_sites_of<'x>(

@@ -9,9 +9,15 @@ use cs_folder_work::{OtherFolder, Places, StoreFolders, find_folder};
 use cs_folders::file_in;
 use cs_schema::{Catalog, FileName, Loss};
 use cs_sites::Routes;
+use cs_store::StoreFault;
 use std::alloc::{AllocError, Global};
 use std::collections::BTreeMap;
 use std::rt::Files;
+
+/// The fault of a refused allocation.
+fn no_memory(_refused: AllocError) -> StoreFault {
+    StoreFault::Memory
+}
 
 /// The folder of a site, if it is not away.
 fn site_folder<R: Files>(
@@ -122,17 +128,21 @@ impl Links {
         rt: &R,
         store: &str,
         name: FileName,
-    ) -> Result<(), AllocError>
+    ) -> Result<(), StoreFault>
         ensures { OnOk result (IsLinkNoted store.now name self.old.places self.new.places) }
     {
-        let path = file_in(alloc, store, name)?;
-        if !SystemFiles(rt).is_link(path.as_str()) {
-            return Ok(());
+        let path = file_in(alloc, store, name).map_err(no_memory)?;
+        match SystemFiles(rt).is_link(path.as_str()) {
+            Ok(false) => return Ok(()),
+            Ok(true) => {}
+            Err(_) => return Err(StoreFault::Device),
         }
-        let folder = linked_folder(alloc, rt, path.as_str(), name)?;
-        let number = self.number_of(alloc, rt, folder)?;
-        self.places.insert(name, number)?;
-        Ok(())
+        let folder = linked_folder(alloc, rt, path.as_str(), name).map_err(no_memory)?;
+        let number = self.number_of(alloc, rt, folder).map_err(no_memory)?;
+        match self.places.insert(name, number) {
+            Ok(_) => Ok(()),
+            Err(_) => Err(StoreFault::Memory),
+        }
     }
 }
 
@@ -143,7 +153,7 @@ fn linked<R: Files>(
     rt: &R,
     path: &str,
     catalog: &Catalog,
-) -> Result<StoreFolders, AllocError>
+) -> Result<StoreFolders, StoreFault>
     ensures { IfOk result (AreOfLinks catalog.now path.now) }
 {
     let mut links = Links {
@@ -151,7 +161,7 @@ fn linked<R: Files>(
         numbers: BTreeMap::new(alloc),
         places: BTreeMap::new(alloc),
     };
-    let names = catalog.surviving(alloc, Loss::none())?;
+    let names = catalog.surviving(alloc, Loss::none()).map_err(no_memory)?;
     for name in &names {
         links.note(alloc, rt, path, *name)?;
     }
@@ -161,7 +171,7 @@ fn linked<R: Files>(
         ..
     } = links;
     Ok(StoreFolders {
-        store: String::from_str(alloc, path)?,
+        store: String::from_str(alloc, path).map_err(no_memory)?,
         others: folders,
         places: Places::Links(places),
     })
@@ -173,11 +183,11 @@ impl<R: Files> Folders<R> {
         &self,
         path: &str,
         catalog: &Catalog,
-    ) -> Result<StoreFolders, AllocError>
+    ) -> Result<StoreFolders, StoreFault>
         ensures { IfOk result (λ folders. MatchOption self.now.sites (AreOfLinks catalog.now path.now folders) (λ sites. AreOfSites sites catalog.now path.now folders)) }
     {
         match &self.sites {
-            Some(sites) => sited(self.alloc, &self.rt, path, catalog, sites),
+            Some(sites) => sited(self.alloc, &self.rt, path, catalog, sites).map_err(no_memory),
             None => linked(self.alloc, &self.rt, path, catalog),
         }
     }

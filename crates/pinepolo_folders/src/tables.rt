@@ -3,12 +3,13 @@ ghost use Rattle.std.specs.Prelude.{⊤};
 
 use crate::folders::Folders;
 use crate::new_store::SystemStore;
-use cs_folders::{open_text, way_to, write_whole};
+use cs_folders::{open_text, way_to, write_new};
 use cs_store::StoreFault;
 use pinepolo_places::{Tables, Way};
+use std::fs::File;
 use std::rt::Files;
 
-impl<R: Files + Alloc + Copy + Drop> Tables for Folders<R> {
+impl<R: Files<File = File> + Alloc + Copy + Drop> Tables for Folders<R> {
     type Input = R::File;
 
     type NewStore = SystemStore<R>;
@@ -28,13 +29,19 @@ impl<R: Files + Alloc + Copy + Drop> Tables for Folders<R> {
         self.told(opened)
     }
 
-    fn new_store(&mut self, path: &str, catalog: &[u8]) -> Result<SystemStore<R>, StoreFault> {
-        let made = SystemStore::make(self.alloc, self.rt, path, catalog, &self.new_sites);
+    fn new_store(
+        &mut self,
+        path: &str,
+        catalog: &[u8],
+        replaces: bool,
+    ) -> Result<SystemStore<R>, StoreFault> {
+        let sites = &self.new_sites;
+        let made = SystemStore::make(self.alloc, self.rt, path, catalog, sites, replaces);
         self.told(made)
     }
 
     fn write_table(&mut self, path: &str, text: &[u8]) -> Result<(), StoreFault> {
-        let written = write_whole(self.alloc, &self.rt, path, text);
+        let written = write_new(self.alloc, &self.rt, path, text);
         self.told(written)
     }
 }

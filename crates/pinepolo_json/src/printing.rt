@@ -11,7 +11,8 @@ use pinepolo_places::{DEVICE, DONE, MEMORY, REFUSED, VerbError, WorkKind, error_
 use pinepolo_text::{Dumped, Unfinished, store_words};
 use serde_json::Value;
 use std::alloc::{AllocError, Global};
-use std::io::Write;
+use std::io;
+use std::io::{ErrorKind, Write};
 
 /// The status that tells an answer.
 fn status(answer: &Answer) -> u8
@@ -25,7 +26,14 @@ fn status(answer: &Answer) -> u8
         Answer::RestoredFound(found) => found.status(),
         Answer::Listed(listed) => listed.status(),
         Answer::Verified(verified) => verified.status(),
-        _ => DONE,
+        Answer::Shown(_)
+        | Answer::ShownFile(_)
+        | Answer::Recovered(_)
+        | Answer::Undone(_)
+        | Answer::Designed(_)
+        | Answer::Loaded(_)
+        | Answer::Dumped(_)
+        | Answer::Relaid(_) => DONE,
     }
 }
 
@@ -49,18 +57,30 @@ fn text_of(alloc: Global, text: &AnswerText<'_>, json: bool) -> Option<String> {
     }
 }
 
-/// Writes a text, and gives the status where that was possible.
-fn print<W: Write>(text: Option<String>, status: u8, out: &mut W) -> u8
+/// The status if standard output took what was written, or that of a device, which is said on `err`. Who closed a pipe that was
+/// written to is told nothing.
+fn written<E: Write>(done: io::Result<()>, status: u8, err: &mut E) -> u8
+    ensures { (result ≡ status) ⊎ (result ≡ DEVICE) }
+{
+    match done {
+        Ok(()) => status,
+        Err(e) if e.kind() == ErrorKind::BrokenPipe => DEVICE,
+        Err(e) => {
+            let _said = writeln!(err, "fault: could not write to standard output: {e}").is_ok();
+            DEVICE
+        }
+    }
+}
+
+/// Writes a text, and gives the status if that was possible.
+fn print<W: Write, E: Write>(text: Option<String>, status: u8, out: &mut W, err: &mut E) -> u8
     requires { status ≤ 6 }
     ensures { (result ≡ status) ⊎ ((result ≡ MEMORY) ⊎ (result ≡ DEVICE)) }
 {
     let Some(text) = text else {
         return MEMORY;
     };
-    match out.write_all(text.as_bytes()) {
-        Ok(()) => status,
-        Err(_) => DEVICE,
-    }
+    written(out.write_all(text.as_bytes()), status, err)
 }
 
 /// Prints an answer, and gives its status: that of a device where it can't be written. What is said beside the text of a table
@@ -87,9 +107,9 @@ pub fn say<W: Write, E: Write>(
                 text: Some(text),
                 ..
             },
-        ) => print_bytes(text.as_slice(), DONE, out),
+        ) => print_bytes(text.as_slice(), DONE, out, err),
         Answer::Listed(listed) => print_listed(listed, out, err),
-        _ => print(text_of(alloc, text, json), status(answer), out),
+        _ => print(text_of(alloc, text, json), status(answer), out, err),
     }
 }
 
@@ -110,20 +130,17 @@ fn warn<E: Write>(unfinished: Unfinished<'_>, err: &mut E) -> u8 {
 }
 
 /// Writes a text, and gives this status: that of a device if it can't be written.
-pub fn print_bytes<W: Write>(text: &[u8], status: u8, out: &mut W) -> u8
+pub fn print_bytes<W: Write, E: Write>(text: &[u8], status: u8, out: &mut W, err: &mut E) -> u8
     ensures { (result ≡ status) ⊎ (result ≡ DEVICE) }
 {
-    match out.write_all(text) {
-        Ok(()) => status,
-        Err(_) => DEVICE,
-    }
+    written(out.write_all(text), status, err)
 }
 
 /// Writes a manifest, and on `err` the files that have no line in it, and gives the status where that was possible.
 fn print_listed<W: Write, E: Write>(listed: &Listed, out: &mut W, err: &mut E) -> u8
     ensures { (result ≡ listed_status listed.now.files.items) ⊎ (result ≡ DEVICE) }
 {
-    let status = print_bytes(listed.text.as_slice(), listed.status(), out);
+    let status = print_bytes(listed.text.as_slice(), listed.status(), out, err);
     match write!(err, "{listed}") {
         Ok(()) => status,
         Err(_) => DEVICE,
@@ -131,9 +148,15 @@ fn print_listed<W: Write, E: Write>(listed: &Listed, out: &mut W, err: &mut E) -
 }
 
 /// Prints as JSON why a verb was refused.
-pub fn say_refusal<W: Write>(alloc: Global, verb: &str, error: &VerbError, out: &mut W) -> u8
+pub fn say_refusal<W: Write, E: Write>(
+    alloc: Global,
+    verb: &str,
+    error: &VerbError,
+    out: &mut W,
+    err: &mut E,
+) -> u8
     ensures { (result ≡ REFUSED) ⊎ ((result ≡ MEMORY) ⊎ (result ≡ DEVICE)) }
 {
     let text = object_text(alloc, error_object(alloc, verb, error));
-    print(text, REFUSED, out)
+    print(text, REFUSED, out, err)
 }

@@ -1,7 +1,7 @@
 //! What an undo came to, as JSON.
 use crate::json::placed_object;
 use cs_reports::object::{Object, count_or_null};
-use pinepolo_text::{Undone, undone_size, undone_word};
+use pinepolo_text::{Undone, undone_word};
 use serde_json::Value;
 use std::alloc::{AllocError, Global};
 
@@ -23,7 +23,7 @@ fn name_objects(alloc: Global, undone: &Undone) -> Result<Value, AllocError> {
         let back = undone.undoable.back.get(*name);
         let object = placed_object(alloc, &undone.catalog, *name)
             .text("what", undone_word(back))
-            .member("bytes", Ok(count_or_null(undone_size(back))));
+            .member("bytes", Ok(count_or_null(undone.size(*name))));
         list.push(object.finish()?)?;
     }
     Ok(Value::Array(list))

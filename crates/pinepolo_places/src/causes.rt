@@ -35,6 +35,10 @@ pub enum Failure {
     SyncEnd,
     /// The folder of this site was looked for.
     ReachSite(u8),
+    /// A store was given back of which nothing had changed: the record of this work on it was removed.
+    GiveBack(WorkKind),
+    /// This unfinished work was to go on: its store's catalog was read, or its record read and locked.
+    GoOn(WorkKind),
 }
 
 /// A place in a CSV.
@@ -69,8 +73,16 @@ pub enum Refusal {
     Unfinished(WorkKind),
     /// No such work on the store is unfinished.
     NothingToResume(WorkKind),
-    /// Other work on the store is being done.
-    Busy,
+    /// A run is at this work on the store.
+    AtWork(WorkKind),
+    /// There is this work on the store, and whether a run is at it can't be told.
+    Unknown(WorkKind),
+    /// The store changed while it was read.
+    Changed,
+    /// Another run makes what was to be made.
+    BeingMade,
+    /// Where something new is begun stands what no run began.
+    Foreign,
     /// The record of unfinished work can't be read as one.
     DamagedRecord,
     /// Nothing is kept that could be put back: under this number, if one was given.
@@ -127,8 +139,16 @@ pub fn failure_texts(failure: &Failure) -> (&'static str, &'static str) {
             "check that {0} is a folder, and that it, RESTORING and replaced in it may be read and written to",
         ),
         Failure::RemoveRecord(_) => (
-            "could not write {0}/restores.jsonl or remove {0}/RESTORING",
+            "could not write {0}/restores.jsonl or remove {0}/RESTORING: all files are in place, but the {3} is not finished",
             "pinepolo {3} --resume {5}",
+        ),
+        Failure::GiveBack(_) => (
+            "could not remove {0}/RESTORING: no file has changed, but the {3} counts as unfinished",
+            "pinepolo {3} --resume {5}",
+        ),
+        Failure::GoOn(_) => (
+            "could not read the catalog, or read and lock the record of the {3}, at {0}: the {3} is still unfinished",
+            "check that {0} may be read and written to, then pinepolo {3} --resume {5}",
         ),
         Failure::SyncEnd => (
             "could not sync {0}: all files are in place, but a crash may bring RESTORING back",
@@ -177,9 +197,26 @@ pub fn refusal_texts(refusal: &Refusal) -> (&'static str, &'static str) {
             "no undo of {0} is unfinished",
             "pinepolo undo {5}",
         ),
-        Refusal::Busy => (
-            "another restore or undo of {0} is running",
+        Refusal::AtWork(WorkKind::Restore) => (
+            "a restore of {0} is at work",
             "wait for it to end, then pinepolo check {5}",
+        ),
+        Refusal::AtWork(WorkKind::Undo) => (
+            "an undo of {0} is at work",
+            "wait for it to end, then pinepolo check {5}",
+        ),
+        Refusal::Unknown(_) => (
+            "there is work on {0}, but whether a run is at it cannot be told: {0}/RESTORING cannot be read and locked",
+            "see that no pinepolo works on {0}, on any host, and that {0}/RESTORING may be read and locked",
+        ),
+        Refusal::Changed => ("{0} changed while it was read", "run it again"),
+        Refusal::BeingMade => (
+            "another run makes {0}",
+            "wait for it to end, or choose another path",
+        ),
+        Refusal::Foreign => (
+            "{0}.partial is not what a load or a relayout left",
+            "move it away, or choose another path",
         ),
         Refusal::DamagedRecord => (
             "{0}/RESTORING is not a record of a restore or an undo",
@@ -218,7 +255,10 @@ pub fn refusal_kind(refusal: &Refusal) -> &'static str {
         Refusal::Layout => "layout",
         Refusal::Unfinished(_) => "unfinished",
         Refusal::NothingToResume(_) => "nothing to resume",
-        Refusal::Busy => "busy",
+        Refusal::AtWork(_) | Refusal::BeingMade => "busy",
+        Refusal::Unknown(_) => "unknown work",
+        Refusal::Changed => "changed",
+        Refusal::Foreign => "foreign",
         Refusal::DamagedRecord => "damaged record",
         Refusal::NothingKept(_) => "nothing kept",
         Refusal::NoRecord(_) => "no record",

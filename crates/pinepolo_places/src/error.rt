@@ -51,6 +51,16 @@ pub struct StoreError {
     pub step: Step,
 }
 
+/// Work on a store that stopped halfway.
+#[derive(Clone, Copy, Debug)]
+pub struct Halfway {
+    pub kind: WorkKind,
+    /// How many files this run replaced or took away.
+    pub changed: u64,
+    /// The N of `replaced/N`, if old files are kept there.
+    pub kept: Option<u32>,
+}
+
 /// What to do next about a fault of a store.
 #[derive(Clone, Copy, Debug)]
 pub enum Step {
@@ -58,6 +68,8 @@ pub enum Step {
     ByFault,
     /// Work that was left unfinished is resumed.
     Resume(WorkKind),
+    /// Work of this run that stopped halfway is resumed.
+    GoOn(Halfway),
     /// The store is diagnosed.
     Diagnose,
 }
@@ -194,6 +206,19 @@ impl VerbError {
             bad: Vec::new(alloc),
             step: Step::ByFault,
         })
+    }
+
+    /// The error of work that was to go on: it says that the work is still unfinished, if a call failed before it could begin.
+    pub fn still_unfinished(self, kind: WorkKind) -> Self
+        ensures { status_of result ≡ status_of self }
+    {
+        match self {
+            VerbError::Device(Failure::ReadCatalog, subject)
+            | VerbError::Device(Failure::WriteRecord, subject) => {
+                VerbError::Device(Failure::GoOn(kind), subject)
+            }
+            other => other,
+        }
     }
 
     /// The error with another step, and with all bad files, if it is a fault of a store.

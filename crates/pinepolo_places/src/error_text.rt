@@ -1,6 +1,6 @@
 //! Errors in words.
 use crate::causes::{Failure, Refusal, failure_texts, refusal_texts};
-use crate::error::{Step, StoreError, VerbError};
+use crate::error::{Halfway, Step, StoreError, VerbError};
 use cs_catalog::CatalogFault;
 use cs_reports::{Next, ShellWord, StoreWords, fill};
 use cs_schema::FileName;
@@ -57,7 +57,9 @@ fn failure_details(failure: &Failure) -> (Detail, Detail) {
     match failure {
         Failure::WriteOutput(Some(name)) => (Detail::Nothing, Detail::File(*name)),
         Failure::WriteOutput(None) => (Detail::Nothing, Detail::Mark),
-        Failure::RemoveRecord(verb) => (Detail::Verb(*verb), Detail::Nothing),
+        Failure::RemoveRecord(verb) | Failure::GiveBack(verb) | Failure::GoOn(verb) => {
+            (Detail::Verb(*verb), Detail::Nothing)
+        }
         Failure::ReachSite(site) => (Detail::Number(u32::from(*site)), Detail::Nothing),
         _ => (Detail::Nothing, Detail::Nothing),
     }
@@ -88,6 +90,18 @@ impl StoreError {
             Step::ByFault => (said, ""),
             Step::Resume(WorkKind::Restore) => (said, "pinepolo restore --resume {5}"),
             Step::Resume(WorkKind::Undo) => (said, "pinepolo undo --resume {5}"),
+            Step::GoOn(
+                Halfway {
+                    kind: WorkKind::Restore,
+                    ..
+                },
+            ) => { (said, "pinepolo restore --resume {5}") }
+            Step::GoOn(
+                Halfway {
+                    kind: WorkKind::Undo,
+                    ..
+                },
+            ) => { (said, "pinepolo undo --resume {5}") }
             Step::Diagnose => (said, "pinepolo diagnose {5}"),
         }
     }
@@ -106,6 +120,29 @@ impl StoreError {
             fault: &self.fault,
         };
         write!(f, "{next}")
+    }
+
+    /// Writes what the store is now, if work on it stopped halfway.
+    fn write_state<W: fmt::Write>(&self, f: &mut fmt::Formatter<W>) -> fmt::Result {
+        let Step::GoOn(halfway) = self.step else {
+            return Ok(());
+        };
+        let (store, kind) = (self.subject.path.as_str(), halfway.kind);
+        let changed = halfway.changed;
+        write!(
+            f,
+            "state: the {kind} is not finished, files changed by this run: {changed}"
+        )?;
+        match halfway.kept {
+            Some(number) if changed > 0 => writeln!(
+                f,
+                "; the old ones are kept in {store}/replaced/{number}, or there in the folders of their sites; do not read the store until it is finished"
+            ),
+            _ => writeln!(
+                f,
+                "; until it is finished only pinepolo should read the store"
+            ),
+        }
     }
 
     /// Writes the bad files, a line each.
@@ -221,6 +258,7 @@ impl fmt::Display for ErrorText<'_> {
         writeln!(f, "fault: {words}")?;
         if let VerbError::Store(error) = error {
             error.write_files(f)?;
+            error.write_state(f)?;
         }
         f.write_str("next: ")?;
         error.write_text(f, error.texts().1, sites)?;

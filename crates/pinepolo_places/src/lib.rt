@@ -15,13 +15,14 @@ mod places;
 mod shelves;
 mod sited;
 mod tables;
+mod watching;
 mod world;
 
 pub use causes::{CsvPlace, Failure, Refusal};
 pub use cs_folders::Way;
-pub use cs_shelf::{JOURNAL, RESTORING, UndoOf, Undoable, Untaken, Work, WorkKind};
+pub use cs_shelf::{JOURNAL, Pending, RESTORING, UndoOf, Undoable, Untaken, Work, WorkKind};
 pub use error::{
-    DEVICE, DONE, MEMORY, REFUSED, Step, StoreError, Subject, USAGE, VerbError, report,
+    DEVICE, DONE, Halfway, MEMORY, REFUSED, Step, StoreError, Subject, USAGE, VerbError, report,
 };
 pub use error_json::error_object;
 pub use finding::{find_store, find_store_text, look_up, look_up_text};
@@ -31,4 +32,5 @@ pub use places::Places;
 pub use shelves::{GivenBack, RestoreOf, Shelves};
 pub use sited::{AwaySite, Sited};
 pub use tables::{NewFiles, Tables};
+pub use watching::{refuse_pending, require_unchanged, watch};
 pub use world::World;

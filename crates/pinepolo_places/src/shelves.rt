@@ -25,6 +25,8 @@ pub struct RestoreOf {
 pub struct GivenBack {
     /// The N of `replaced/N`, where old files are kept there.
     pub kept: Option<u32>,
+    /// How many files the run replaced or took away.
+    pub changed: u64,
     /// Whether it is still to be finished.
     pub is_unfinished: bool,
     /// Whether it is on the disk that it is finished.

@@ -39,11 +39,17 @@ pub trait Tables {
     fn table(&mut self, path: &str) -> Result<Self::Input, StoreFault>
         ensures { IfOk result (λ input. opens_table self.old path.now input self.new) };
 
-    /// Begins a new store of this catalog beside this path, in the place of one that was begun there.
-    fn new_store(&mut self, path: &str, catalog: &[u8]) -> Result<Self::NewStore, StoreFault>
+    /// Begins a new store of this catalog beside this path, if `replaces` in the place of one that a run left which was
+    /// stopped.
+    fn new_store(
+        &mut self,
+        path: &str,
+        catalog: &[u8],
+        replaces: bool,
+    ) -> Result<Self::NewStore, StoreFault>
         ensures { IfOk result (λ store. begins self.old path.now catalog.now store self.new) };
 
-    /// Writes a CSV to a new file, which gets its name when all of it is on the disk.
+    /// Writes a CSV to a new file, which gets its name when all of it is on the disk. It fails if something has the name.
     fn write_table(&mut self, path: &str, text: &[u8]) -> Result<(), StoreFault>
         ensures { OnOk result (writes_table self.old path.now text.now self.new) };
 }

@@ -3,7 +3,7 @@ ghost use Rattle.std.specs.Prelude.{IfOk};
 ghost use Rattle.std.specs.Option.{option_map};
 ghost use Rattle.pinepolo_run.specs.Promises.{DesignsCatalog};
 
-use crate::drawing::draw;
+use crate::drawing::{draw, require_unnamed_picture};
 use cs_reports::{design_of, picture};
 use cs_schema::Catalog;
 use cs_store::Fault;
@@ -26,6 +26,7 @@ pub fn design<P: Places + Tables>(
         Ok(catalog) => catalog,
         Err(error) => return Err(error),
     };
+    require_unnamed_picture(alloc, places, request.svg)?;
     if !catalog.has_sites(lost) {
         let fault = &Fault::Site;
         return Err(VerbError::of_store(alloc, &catalog, request.catalog, fault));

@@ -10,7 +10,7 @@ use cs_diagnosis::{diagnose as diagnose_files, disputed_rows};
 use cs_rebuild::Run;
 use cs_verifying::manifest_if;
 use pinepolo_args::DiagnoseArgs;
-use pinepolo_places::{Listings, Tables, VerbError};
+use pinepolo_places::{Listings, Tables, VerbError, require_unchanged, watch};
 use pinepolo_progress::{Progress, Stage};
 use pinepolo_text::Diagnosed;
 use std::marker::Sync;
@@ -37,6 +37,7 @@ pub fn diagnose<R: Threads + Sync, G: Progress + Sync, P: Listings + Tables>(
         Ok(found) => found,
         Err(error) => return Err(error),
     };
+    let before = watch(alloc, places, request.store)?;
     let Ok(found) = read_trusted(run, &catalog, &source, &manifest) else {
         return Err(VerbError::OutOfMemory);
     };
@@ -44,6 +45,7 @@ pub fn diagnose<R: Threads + Sync, G: Progress + Sync, P: Listings + Tables>(
     let Ok(changed) = changed_files(run, &catalog, &source, &manifest, unreadable) else {
         return Err(VerbError::OutOfMemory);
     };
+    require_unchanged(alloc, places, request.store, &before)?;
     run.gate.reached(Stage::Inspecting);
     let Ok(diagnosis) = diagnose_files(run, &catalog, &found.files, unreadable, request.at_most)
     else {

@@ -1,9 +1,21 @@
 //! Pictures that are written.
 ghost use Rattle.std.specs.Prelude.{OnOk, ℕ, List};
 
-use crate::ways::require_free;
+use crate::ways::{make_error, require_unnamed};
 use pinepolo_places::{Failure, Places, Tables, VerbError};
 use std::alloc::{AllocError, Global};
+
+/// Sees that nothing has the name of a picture yet, if one is asked for.
+pub fn require_unnamed_picture<P: Tables>(
+    alloc: Global,
+    places: &P,
+    path: Option<&str>,
+) -> Result<(), VerbError> {
+    match path {
+        Some(path) => require_unnamed(alloc, places, path),
+        None => Ok(()),
+    }
+}
 
 /// Writes a picture to a path at which nothing is yet.
 pub fn draw<P: Places + Tables>(
@@ -17,12 +29,8 @@ pub fn draw<P: Places + Tables>(
     let Ok(text) = text else {
         return Err(VerbError::OutOfMemory);
     };
-    match require_free(alloc, places, path, true) {
-        Ok(()) => {}
-        Err(error) => return Err(error),
-    }
     match places.picture(path, text.as_bytes()) {
         Ok(()) => Ok(()),
-        Err(fault) => Err(VerbError::of_device(alloc, fault, Failure::MakeNew, path)),
+        Err(fault) => Err(make_error(alloc, places, fault, Failure::MakeNew, path)),
     }
 }

@@ -5,12 +5,14 @@ ghost use Rattle.cs_parallel_io.specs.Standing.{standing};
 ghost use Rattle.pinepolo_run.specs.TablePromises.{DumpsStore, GivesText, ReadsText, WritesText};
 
 use crate::surviving::{Surviving, read_survivors, refuse};
-use crate::ways::require_free;
+use crate::ways::{make_error, require_unnamed};
 use cs_parallel_io::SharedSource;
 use cs_rebuild::Run;
 use cs_tables::DumpFault;
 use pinepolo_args::DumpArgs;
-use pinepolo_places::{Failure, Tables, VerbError, WorkKind, World, find_store};
+use pinepolo_places::{
+    Failure, Tables, VerbError, WorkKind, World, find_store, require_unchanged, watch,
+};
 use pinepolo_progress::{Progress, Stage};
 use pinepolo_text::Dumped;
 use std::alloc::Global;
@@ -35,15 +37,20 @@ pub fn dump<R: Threads + Sync, G: Progress + Sync, P: World>(
 {
     let alloc = run.alloc;
     if let Some(path) = request.table {
-        match require_free(alloc, places, path, true) {
+        match require_unnamed(alloc, places, path) {
             Ok(()) => {}
             Err(error) => return Err(error),
         }
     }
+    let before = watch(alloc, places, request.store)?;
     let text = match read_text(run, places, request) {
         Ok(text) => text,
-        Err(error) => return Err(error),
+        Err(error) => {
+            require_unchanged(alloc, places, request.store, &before)?;
+            return Err(error);
+        }
     };
+    require_unchanged(alloc, places, request.store, &before)?;
     run.gate.reached(Stage::Writing);
     write_text(alloc, places, request.table, text)
 }
@@ -120,6 +127,6 @@ fn write_text<P: Tables>(
             bytes,
             unfinished,
         }),
-        Err(fault) => Err(VerbError::of_device(alloc, fault, Failure::MakeNew, path)),
+        Err(fault) => Err(make_error(alloc, places, fault, Failure::MakeNew, path)),
     }
 }

@@ -2,7 +2,7 @@
 ghost use Rattle.std.specs.Prelude.{IfOk};
 ghost use Rattle.pinepolo_run.specs.TablePromises.{LoadsStore, ReadsTable};
 
-use crate::making::{make_store, unsafe_already};
+use crate::making::{NewPlace, make_store, unsafe_already};
 use crate::ways::require_free;
 use cs_csv::CsvFault;
 use cs_rebuild::Run;
@@ -40,7 +40,11 @@ pub fn load<R: Threads + Sync, G: Progress + Sync, P: World>(
         Err(error) => return Err(error),
     };
     run.gate.reached(Stage::Writing);
-    make_store(alloc, places, found, files, rows, request.store)
+    let at = NewPlace {
+        path: request.store,
+        replaces: request.replaces,
+    };
+    make_store(alloc, places, found, files, rows, at)
 }
 
 /// The number of the record that is to blame for a fault, from 1 after the header, and of the column, from 0.

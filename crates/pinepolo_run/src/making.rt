@@ -2,12 +2,21 @@
 ghost use Rattle.std.specs.Prelude.{IfOk, OnOk};
 ghost use Rattle.pinepolo_run.specs.TablePromises.{IsNewStore, MakesStore, WritesStore};
 
+use crate::ways::require_free;
 use cs_design::{fatal_losses, greatest_k};
 use cs_schema::{Catalog, Loss};
 use cs_store::{Fault, FileSet, StoreFault, save};
 use pinepolo_places::{Failure, NewFiles, Tables, VerbError};
 use pinepolo_text::NewStore;
 use std::alloc::Global;
+
+/// Where a new store is made.
+#[derive(Clone, Copy)]
+pub struct NewPlace<'a> {
+    pub path: &'a str,
+    /// Whether it takes the place of one that a run left which was stopped.
+    pub replaces: bool,
+}
 
 /// Writes a new store of a catalog, of which these are the bytes. It gets its name last, when all of it is written.
 pub fn make_store<P: Tables>(
@@ -16,13 +25,13 @@ pub fn make_store<P: Tables>(
     found: (Catalog, Vec<u8>),
     files: FileSet,
     rows: usize,
-    path: &str,
+    at: NewPlace<'_>,
 ) -> Result<NewStore, VerbError>
     ensures { IfOk result (λ store. MakesStore P.begins P.NewStore.takes P.NewStore.marks
-        places.old path.now found.0 found.1.items files rows store places.new) }
+        places.old at.entry.path.now found.0 found.1.items files rows store places.new) }
 {
     let (catalog, bytes) = found;
-    match write_store(alloc, places, bytes.as_slice(), &files, path) {
+    match write_store(alloc, places, bytes.as_slice(), &files, at) {
         Ok(()) => finish(alloc, catalog, files, rows),
         Err(error) => Err(error),
     }
@@ -47,19 +56,32 @@ fn write_error<S: NewFiles>(alloc: Global, store: &S, fault: &Fault) -> VerbErro
     }
 }
 
+/// Why a new store could not be begun: something stands there meanwhile, or a call failed.
+fn begin_error<P: Tables>(
+    alloc: Global,
+    places: &P,
+    fault: StoreFault,
+    at: NewPlace<'_>,
+) -> VerbError {
+    match require_free(alloc, places, at.path, at.replaces) {
+        Ok(()) => VerbError::of_device(alloc, fault, Failure::MakeNew, at.path),
+        Err(error) => error,
+    }
+}
+
 /// Begins the store, puts the files there and gives it its name.
 fn write_store<P: Tables>(
     alloc: Global,
     places: &mut P,
     bytes: &[u8],
     files: &FileSet,
-    path: &str,
+    at: NewPlace<'_>,
 ) -> Result<(), VerbError>
-    ensures { OnOk result (WritesStore P.begins P.NewStore.takes P.NewStore.marks places.old path.now bytes.now files.now places.new) }
+    ensures { OnOk result (WritesStore P.begins P.NewStore.takes P.NewStore.marks places.old at.entry.path.now bytes.now files.now places.new) }
 {
-    let mut sink = match places.new_store(path, bytes) {
+    let mut sink = match places.new_store(at.path, bytes, at.replaces) {
         Ok(sink) => sink,
-        Err(fault) => return Err(VerbError::of_device(alloc, fault, Failure::MakeNew, path)),
+        Err(fault) => return Err(begin_error(alloc, places, fault, at)),
     };
     match save(files, &mut sink) {
         Ok(()) => Ok(()),

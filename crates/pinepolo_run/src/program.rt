@@ -20,7 +20,7 @@ use cs_verifying::{list, verify};
 use pinepolo_args::{ParseExit, Request, Verb};
 use pinepolo_drill::drill;
 use pinepolo_json::{Answer, AnswerText, print_bytes, say, say_refusal};
-use pinepolo_places::{DONE, USAGE, VerbError, World, report};
+use pinepolo_places::{DEVICE, DONE, USAGE, VerbError, World, report};
 use pinepolo_progress::Progress;
 use std::alloc::Global;
 use std::io::Write;
@@ -96,8 +96,11 @@ fn say_exit<W: Write, E: Write>(exit: &ParseExit, out: &mut W, err: &mut E) -> u
 {
     match exit {
         ParseExit::OutOfMemory => report(&VerbError::OutOfMemory, None, err),
-        ParseExit::Help(text) => print_bytes(text.as_bytes(), DONE, out),
-        ParseExit::Usage(text) => print_bytes(text.as_bytes(), USAGE, err),
+        ParseExit::Help(text) => print_bytes(text.as_bytes(), DONE, out, err),
+        ParseExit::Usage(text) => match err.write_all(text.as_bytes()) {
+            Ok(()) => USAGE,
+            Err(_) => DEVICE,
+        },
     }
 }
 
@@ -112,7 +115,7 @@ fn say_error<W: Write, E: Write>(
     ensures { IsSaid (status_of error.now) result }
 {
     if request.json && error.is_refusal() {
-        return say_refusal(alloc, request.verb.name(), error, out);
+        return say_refusal(alloc, request.verb.name(), error, out, err);
     }
     let sites = match request.sites {
         Some(file) if error.is_about(request.verb.path()) => Some(file),

@@ -4,12 +4,13 @@ ghost use Rattle.pinepolo_places.specs.Finding.{LooksUp};
 ghost use Rattle.cs_parallel_io.specs.Standing.{standing};
 ghost use Rattle.pinepolo_run.specs.Promises.{RecoversStore, StopsRecovery, RebuildsStore, WritesOutput, AsksForOutput};
 
+use crate::ways::{make_error, require_unnamed};
 use cs_parallel_io::{load_side_by_side, save_batch};
 use cs_rebuild::{Run, rebuild_owned};
 use cs_schema::Catalog;
 use cs_store::{Fault, FileSet, StoreFault};
 use pinepolo_args::RecoverArgs;
-use pinepolo_places::{Failure, Places, VerbError, find_store};
+use pinepolo_places::{Failure, Listings, Tables, VerbError, find_store, require_unchanged, watch};
 use pinepolo_progress::{Progress, Stage};
 use pinepolo_text::Recovered;
 use std::alloc::Global;
@@ -17,7 +18,7 @@ use std::marker::Sync;
 use std::thread::Threads;
 
 /// Recovers what a store has lost into an output, which is made only after the store was accepted, and marked last.
-pub fn recover<R: Threads + Sync, G: Progress + Sync, P: Places>(
+pub fn recover<R: Threads + Sync, G: Progress + Sync, P: Listings + Tables>(
     run: &Run<'_, R, G>,
     places: &mut P,
     request: &RecoverArgs<'_>,
@@ -43,7 +44,7 @@ pub fn recover<R: Threads + Sync, G: Progress + Sync, P: Places>(
 }
 
 /// The files that recover what a store has lost, with its catalog.
-fn rebuild_store<R: Threads + Sync, G: Progress + Sync, P: Places>(
+fn rebuild_store<R: Threads + Sync, G: Progress + Sync, P: Listings + Tables>(
     run: &Run<'_, R, G>,
     places: &mut P,
     request: &RecoverArgs<'_>,
@@ -57,12 +58,16 @@ fn rebuild_store<R: Threads + Sync, G: Progress + Sync, P: Places>(
         Ok(found) => found,
         Err(error) => return Err(error),
     };
+    require_unnamed(alloc, places, request.output)?;
+    let before = watch(alloc, places, request.store)?;
     let files = match load_side_by_side(run.rt, alloc, &catalog, lost, &source) {
         Ok(files) => files,
         Err(fault) => {
+            require_unchanged(alloc, places, request.store, &before)?;
             return Err(VerbError::of_store(alloc, &catalog, request.store, &fault));
         }
     };
+    require_unchanged(alloc, places, request.store, &before)?;
     match rebuild_owned(run, &catalog, lost, files) {
         Ok(rebuilt) => Ok((catalog, rebuilt)),
         Err(fault) => Err(VerbError::of_store(alloc, &catalog, request.store, &fault)),
@@ -70,7 +75,7 @@ fn rebuild_store<R: Threads + Sync, G: Progress + Sync, P: Places>(
 }
 
 /// Makes the output, puts the files there and marks it.
-fn write_output<R: Threads + Sync, G: Progress + Sync, P: Places>(
+fn write_output<R: Threads + Sync, G: Progress + Sync, P: Listings + Tables>(
     run: &Run<'_, R, G>,
     places: &mut P,
     files: &FileSet,
@@ -82,7 +87,7 @@ fn write_output<R: Threads + Sync, G: Progress + Sync, P: Places>(
     let sink = match places.output(path) {
         Ok(sink) => sink,
         Err(fault) => {
-            return Err(VerbError::of_device(run.alloc, fault, Failure::MakeOutput, path));
+            return Err(make_error(run.alloc, places, fault, Failure::MakeOutput, path));
         }
     };
     match save_batch(run.rt, run.alloc, files, sink) {

@@ -3,7 +3,7 @@ ghost use Rattle.std.specs.Prelude.{IfOk};
 ghost use Rattle.cs_parallel_io.specs.Standing.{standing};
 ghost use Rattle.pinepolo_run.specs.TablePromises.{LaysOutStore, LaysOutSurvivors, RelaysStore};
 
-use crate::making::{make_store, unsafe_already};
+use crate::making::{NewPlace, make_store, unsafe_already};
 use crate::surviving::{Surviving, read_survivors, refuse};
 use crate::ways::require_free;
 use cs_parallel_io::SharedSource;
@@ -12,7 +12,9 @@ use cs_schema::Catalog;
 use cs_store::FileSet;
 use cs_tables::{Relaid, RelayoutFault, RelayoutWords};
 use pinepolo_args::RelayoutArgs;
-use pinepolo_places::{Refusal, VerbError, World, find_store, look_up_text};
+use pinepolo_places::{
+    Refusal, VerbError, World, find_store, look_up_text, require_unchanged, watch,
+};
 use pinepolo_progress::{Progress, Stage};
 use pinepolo_text::NewStore;
 use std::marker::Sync;
@@ -38,13 +40,22 @@ pub fn relayout<R: Threads + Sync, G: Progress + Sync, P: World>(
         Ok(()) => {}
         Err(error) => return Err(error),
     }
+    let before = watch(run.alloc, places, request.store)?;
     let LaidOut { found, relaid } = match lay_out_store(run, places, request) {
         Ok(laid_out) => laid_out,
-        Err(error) => return Err(error),
+        Err(error) => {
+            require_unchanged(run.alloc, places, request.store, &before)?;
+            return Err(error);
+        }
     };
+    require_unchanged(run.alloc, places, request.store, &before)?;
     run.gate.reached(Stage::Writing);
     let Relaid { files, rows } = relaid;
-    make_store(run.alloc, places, found, files, rows, request.new)
+    let at = NewPlace {
+        path: request.new,
+        replaces: request.replaces,
+    };
+    make_store(run.alloc, places, found, files, rows, at)
 }
 
 /// Finds the store and the new catalog, and lays the store's table out.

@@ -5,7 +5,7 @@ ghost use Rattle.cs_schema.specs.FileNames.{HasName, file_path};
 ghost use Rattle.cs_parallel_io.specs.Standing.{standing};
 ghost use Rattle.pinepolo_run.specs.Showing.{Shows, ShowsStore, ShowsFile, LooksOver};
 
-use crate::drawing::draw;
+use crate::drawing::{draw, require_unnamed_picture};
 use cs_file_decode::look_into;
 use cs_inspection::{Badness, bad_files};
 use cs_parallel_io::{SharedSource, load_readable_side_by_side};
@@ -15,7 +15,9 @@ use cs_schema::{Catalog, FileName, Loss};
 use cs_store::{Fault, StoreFault};
 use pinepolo_args::ShowArgs;
 use pinepolo_json::Answer;
-use pinepolo_places::{Failure, Listings, Places, Refusal, Tables, VerbError, find_store};
+use pinepolo_places::{
+    Failure, Listings, Places, Refusal, Tables, VerbError, find_store, require_unchanged, watch,
+};
 use pinepolo_progress::{Progress, Stage};
 use pinepolo_text::{FileLine, FileView, StoreView, files_of, lines_of, strays_of};
 use std::alloc::{AllocError, Global};
@@ -83,6 +85,8 @@ fn show_store<R: Threads + Sync, G: Progress + Sync, P: Listings + Tables>(
         Ok(found) => found,
         Err(error) => return Err(error),
     };
+    require_unnamed_picture(alloc, places, svg)?;
+    let before = watch(alloc, places, path)?;
     let names = match places.names(path) {
         Ok(names) => names,
         Err(fault) => {
@@ -93,6 +97,7 @@ fn show_store<R: Threads + Sync, G: Progress + Sync, P: Listings + Tables>(
         Ok(seen) => seen,
         Err(error) => return Err(error),
     };
+    require_unchanged(alloc, places, path, &before)?;
     let Ok(design) = design_of(alloc, &catalog, Loss::none()) else {
         return Err(VerbError::OutOfMemory);
     };

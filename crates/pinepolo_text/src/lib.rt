@@ -64,5 +64,5 @@ pub use store_json::store_object;
 pub use store_text::StoreText;
 pub use store_view::StoreView;
 pub use strays::strays_of;
-pub use undone::{Undone, undone_size, undone_word};
+pub use undone::{Undone, undone_word};
 pub use unfinished::{Unfinished, with_unfinished};

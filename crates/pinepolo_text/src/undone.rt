@@ -25,21 +25,24 @@ pub fn undone_word(back: Option<&[u8]>) -> &'static str {
     }
 }
 
-/// The size of what is back, in bytes; none if that is moved back without being read, or is empty.
-pub fn undone_size(back: Option<&[u8]>) -> Option<u64> {
-    match back {
-        Some(bytes) if !bytes.is_empty() => Some(bytes.len() as u64),
-        _ => None,
-    }
-}
-
 impl Undone {
+    /// The size of what is back under a name, in bytes; none if that was moved back without being read, or nothing is back.
+    pub fn size(&self, name: FileName) -> Option<u64> {
+        if self.undoable.moved.as_slice().contains(&name) {
+            return None;
+        }
+        match self.undoable.back.get(name) {
+            Some(bytes) => Some(bytes.len() as u64),
+            None => None,
+        }
+    }
+
     /// A line for a name.
     fn write_name<W: fmt::Write>(&self, f: &mut fmt::Formatter<W>, name: FileName) -> fmt::Result {
         let site = site_of(&self.catalog, name.projection(), name.segment()).unwrap_or(0);
         let back = self.undoable.back.get(name);
         let word = undone_word(back);
-        match undone_size(back) {
+        match self.size(name) {
             Some(size) => {
                 let bytes = Grouped(size);
                 writeln!(f, "site {site}  {word}  {name}  {bytes} bytes")

@@ -7,11 +7,13 @@ use cs_schema::{Catalog, Loss};
 use cs_shelf::MemoryShelf;
 use cs_store::StoreFault;
 use pinepolo_places::{
-    GivenBack, Listings, RestoreOf, Shelves, UndoOf, Undoable, Untaken, Work, WorkKind,
+    GivenBack, Listings, Pending, RestoreOf, Shelves, UndoOf, Undoable, Untaken, Work, WorkKind,
 };
 use std::alloc::AllocError;
 
 impl Listings for MemoryPlaces {
+    type Stamp = ();
+
     ghost use Rattle.std.specs.Prelude.{◌≡◌};
     ghost use Rattle.verb_cases.specs.Standing.{ListsNames, unfinished_at};
 
@@ -39,6 +41,18 @@ impl Listings for MemoryPlaces {
             Some(Work::Undo(_)) => Some(WorkKind::Undo),
             None => None,
         })
+    }
+
+    fn pending(&self, path: &str) -> Result<Option<Pending>, AllocError> {
+        Ok(self.unfinished(path)?.map(Pending::Stopped))
+    }
+
+    fn stamp(&self, _path: &str) -> Result<(), AllocError> {
+        Ok(())
+    }
+
+    fn is_unchanged(&self, _path: &str, _before: &()) -> Result<bool, AllocError> {
+        Ok(true)
     }
 }
 

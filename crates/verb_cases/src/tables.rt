@@ -37,7 +37,12 @@ impl Tables for MemoryPlaces {
         }
     }
 
-    fn new_store(&mut self, path: &str, catalog: &[u8]) -> Result<MemoryOutput, StoreFault> {
+    fn new_store(
+        &mut self,
+        path: &str,
+        catalog: &[u8],
+        _replaces: bool,
+    ) -> Result<MemoryOutput, StoreFault> {
         match copy(self.alloc, catalog) {
             Ok(catalog) => self.begin(path, Some(catalog)),
             Err(fault) => Err(fault),

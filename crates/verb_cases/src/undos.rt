@@ -32,6 +32,7 @@ fn copy_undoable(alloc: Global, undoable: &Undoable) -> Result<Undoable, AllocEr
         number: undoable.number,
         back: copy_files(alloc, &undoable.back)?,
         names: undoable.names.clone()?,
+        moved: undoable.moved.clone()?,
     })
 }
 
@@ -89,6 +90,7 @@ fn add_undoable(
         number,
         back: begun,
         names,
+        moved: Vec::new(alloc),
     })?;
     Ok(kept)
 }
@@ -105,6 +107,7 @@ pub fn put_shelf(
     ensures restoring { OnOk result (is_finished ≡ true → store.new.restoring ≡ None) }
 {
     let is_unfinished = !is_finished && !shelf.past.is_empty();
+    let changed = shelf.past.len() as u64;
     store.files = shelf.files;
     store.kept = shelf.kept;
     let mut kept = None;
@@ -119,6 +122,7 @@ pub fn put_shelf(
     }
     Ok(GivenBack {
         kept,
+        changed,
         is_unfinished,
         is_synced: true,
     })

@@ -9,8 +9,8 @@ import subprocess
 import tempfile
 from functools import cache
 
-from crash_states.stores import HALF_MODE, LOST, RUINS, files_of, lost_names, name_folders, names_in, ruin, site_of, spread, thing
-from crash_states.trace import is_below, traced
+from fault_injection.stores import HALF_MODE, LOST, RUINS, copied, files_of, lost_names, name_folders, names_in, ruin, site_of, spread, thing
+from fault_injection.trace import is_below, traced
 
 # Where a site has a folder of its own, each folder of a room is a disk.
 SITED = "--sites"
@@ -23,16 +23,16 @@ def digest_of(found):
 
 def ended(words, status, said):
     """What is wrong with how a program ended: nothing if its status is 0. Paths are those in its folder."""
-    line = re.sub(r"\S*/crash-states-\w+/\w+/", "", said.partition("\n")[0])
+    line = re.sub(r"\S*/[a-z]+-[a-z]+-\w+/\w+/", "", said.partition("\n")[0])
     return [] if status == 0 else [f"{' '.join(word for word in words if '/' not in word)}: status {status}, {line}"]
 
 
 class Verb:
     """A verb in a folder of its own, with the program that does it."""
 
-    def __init__(self, name, program, example, sited):
-        self.name, self.program, self.example, self.sited = name, program, example, sited
-        self.does = name.removeprefix("resume-")
+    def __init__(self, name, program, example, sited, lost=LOST):
+        self.name, self.program, self.example, self.sited, self.lost_sites = name, program, example, sited, lost
+        self.does = name.removeprefix("resume-").replace("kept", "restore")
 
     @cache
     def begun(self, parent):
@@ -50,6 +50,19 @@ class Verb:
         """Whether what is to be resumed by the words of a fault is unfinished."""
         return "--resume" not in said or os.path.lexists(f"{room}/store/RESTORING")
 
+    def stop_halfway(self, room, words, kinds, names):
+        """Runs the program in a room, and kills it at half of its calls of these kinds on one of these names."""
+        copy = copied(room, os.path.dirname(room))
+        _, _, lines = traced([self.program, *words(copy)], kinds)
+        shutil.rmtree(copy)
+        calls = [line for line in lines if any(is_below(line, f"/{name}") for name in names)]
+        half = calls[len(calls) // 2]
+        # strace counts the calls of each thread.
+        begin = half.partition("(")[0]
+        number = sum(line.startswith(begin) for line in lines[:lines.index(half) + 1])
+        call = begin.split()[1]
+        traced([self.program, *words(room)], (call,), f"{call}:signal=KILL:when={number}")
+
     def folders(self, room, kind="s"):
         """The folders of the sites of a store."""
         return [f"{room}/{kind}{site}" for site in sorted(set(site_of(f"{self.example}/catalog.toml").values()))] if self.sited else []
@@ -64,7 +77,7 @@ class InPlace(Verb):
 
     def prepare(self, room):
         shutil.copytree(self.example, f"{room}/store")
-        for at, name in enumerate(lost_names(self.example)):
+        for at, name in enumerate(lost_names(self.example, self.lost_sites)):
             ruin(f"{room}/store/{name}", RUINS[at % len(RUINS)])
         if self.sited:
             spread(room)
@@ -80,8 +93,13 @@ class InPlace(Verb):
     def files(self, room):
         return files_of(self.all_folders(room))
 
+    def path(self, room, name):
+        """The path of a file of the store."""
+        site = site_of(f"{self.example}/catalog.toml")[".".join(name.split(".")[:2])]
+        return f"{room}/s{site}/{name}" if self.sited else f"{room}/store/{name}"
+
     def words(self, room):
-        return ["restore", "--quiet", *self.store(room), *LOST] if self.does == "restore" else ["undo", *self.store(room), "1"]
+        return ["restore", "--quiet", *self.store(room), *self.lost_sites] if self.does == "restore" else ["undo", *self.store(room), "1"]
 
     def has_ended(self, room):
         return not os.path.lexists(f"{room}/store/RESTORING") and self.files(room) == self.after
@@ -103,7 +121,7 @@ class InPlace(Verb):
         wrong = self.lost(room) + self.told(f"{room}/store/restores.jsonl")
         # What replaces a file has its mode.
         paths = names_in(self.all_folders(room))
-        halves = lost_names(self.example)[::len(RUINS)]
+        halves = lost_names(self.example, self.lost_sites)[::len(RUINS)]
         wrong += [f"another mode: {name}" for name in halves if stat.S_IMODE(os.lstat(paths[name]).st_mode) != HALF_MODE]
         wrong += self.run("undo", *self.store(room))
         if not wrong and self.files(room) != self.before:
@@ -142,21 +160,13 @@ class InPlace(Verb):
 
 
 class Resumed(InPlace):
-    """`restore --resume` or `undo --resume`, after a kill among the changes of names."""
+    """`restore --resume` or `undo --resume`, after a kill among the changes of names, or among the second names that are given
+    to what is kept."""
+    KINDS = {"resume-restore": ("rename", "unlink"), "resume-undo": ("rename", "unlink"), "resume-kept": ("link",)}
 
     def prepare(self, room):
         super().prepare(room)
-        copy = tempfile.mkdtemp(dir=os.path.dirname(room))
-        subprocess.run(["cp", "-a", f"{room}/.", copy], check=True)
-        _, _, lines = traced([self.program, *super().words(copy)], ("rename", "unlink"))
-        shutil.rmtree(copy)
-        changes = [line for line in lines if any(is_below(line, f"/{name}") for name in self.changed)]
-        half = changes[len(changes) // 2]
-        # strace counts the calls of each thread.
-        begin = half.partition("(")[0]
-        number = sum(line.startswith(begin) for line in lines[:lines.index(half) + 1])
-        call = begin.split()[1]
-        traced([self.program, *super().words(room)], (call,), f"{call}:signal=KILL:when={number}")
+        self.stop_halfway(room, super().words, self.KINDS[self.name], self.changed)
         if not os.path.lexists(f"{room}/store/RESTORING"):
             raise RuntimeError("not killed")
 
@@ -167,20 +177,23 @@ class Resumed(InPlace):
 class IntoNew(Verb):
     """A verb that makes something new at a path, and does nothing else."""
 
-    def prepare(self, room):
+    def furnish(self, room):
+        """What a new store is made of, and the folders of its sites."""
         shutil.copytree(self.example, f"{room}/store")
         shutil.copy(f"{self.example}/catalog.toml", f"{room}/catalog.toml")
         self.run("dump", self.example, f"{room}/table.csv")
         if self.name == "recover":
-            os.remove(f"{room}/store/{lost_names(self.example)[0]}")
+            os.remove(f"{room}/store/{lost_names(self.example, self.lost_sites)[0]}")
         if self.sited:
             spread(room)
             name_folders(room, "new.toml", sorted(set(site_of(f"{room}/catalog.toml").values())), "n")
             for folder in self.folders(room, "n"):
                 os.mkdir(folder)
+
+    def prepare(self, room):
+        self.furnish(room)
         self.beside = self.not_made(room)
-        copy = tempfile.mkdtemp(dir=os.path.dirname(room))
-        subprocess.run(["cp", "-a", f"{room}/.", copy], check=True)
+        copy = copied(room, os.path.dirname(room))
         if failed := self.run(*self.words(copy)):
             raise RuntimeError(failed[0])
         self.after = self.made(copy)
@@ -190,7 +203,7 @@ class IntoNew(Verb):
         new, to = f"{room}/new", [SITED, f"{room}/new.toml"] if self.sited else []
         return {"load": ["load", "--replace-partial", *to, f"{room}/catalog.toml", f"{room}/table.csv", new],
                 "relayout": ["relayout", "--replace-partial", *[word.replace(SITED, "--new-sites") for word in to], *self.store(room), f"{room}/catalog.toml", new],
-                "recover": ["recover", "--quiet", *self.store(room), new, *LOST],
+                "recover": ["recover", "--quiet", *self.store(room), new, *self.lost_sites],
                 "dump": ["dump", *self.store(room), new],
                 "design": ["design", "--svg", new, f"{room}/catalog.toml"]}[self.name]
 
@@ -238,4 +251,4 @@ def verb_of(name, program, example, sited):
     return kind(name, program, example, sited)
 
 
-VERBS = ("restore", "undo", "resume-restore", "resume-undo", "load", "relayout", "recover", "dump", "design")
+VERBS = ("restore", "undo", "resume-restore", "resume-undo", "resume-kept", "load", "relayout", "recover", "dump", "design")

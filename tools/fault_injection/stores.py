@@ -4,6 +4,7 @@ import os
 import shutil
 import stat
 import subprocess
+import tempfile
 import tomllib
 
 LOST = ("2", "3")
@@ -27,6 +28,13 @@ def thing(path):
         with open(path, "rb") as file:
             return file.read()
     return os.readlink(path) if stat.S_ISLNK(mode) else "pipe"
+
+
+def copied(folder, parent):
+    """A copy of a folder, links and pipes too, in another one."""
+    room = tempfile.mkdtemp(dir=parent)
+    subprocess.run(["cp", "-a", f"{folder}/.", room], check=True)
+    return room
 
 
 def is_name(name):
@@ -58,9 +66,9 @@ def names_of(store):
     return {name: site for name, site in found.items() if site}
 
 
-def lost_names(store):
+def lost_names(store, lost=LOST):
     """The names of the files of the lost sites."""
-    return [name for name, site in names_of(store).items() if site in LOST]
+    return [name for name, site in names_of(store).items() if site in lost]
 
 
 def ruin(path, how):

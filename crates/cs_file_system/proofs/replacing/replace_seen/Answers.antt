@@ -1,5 +1,5 @@
 use Rattle.std.proofs.lemmas.Result.{on_ok_weaker}
-use Rattle.cs_file_system.proofs.replacing.replace_kept.Goals as goal
+use Rattle.cs_file_system.proofs.replacing.replace_seen.Goals as goal
 
 pub returns : goal.returns
 returns g c = on_ok_weaker c.replace.result (λ added. λ calls made.
@@ -8,6 +8,6 @@ returns g c = on_ok_weaker c.replace.result (λ added. λ calls made.
     record {
       before = x.0;
       last = rw (← c.as_str-beside.ensures.value, ← c.as_str-path.ensures.value) x.2;
-      synced = rw (← c.as_str-beside.ensures.value) (y.2 c.as_str-beside.result.now (c.in_ok-write_owned.ensures y.0 y.1));
+      synced = y.2 _ (c.requires y.0 y.1);
       safe = rw (← c.as_str-path.ensures.value, ← c.as_str-kept.ensures.value, ← c.as_str-folder.ensures.value) (c.in_ok-see_kept.ensures.kept x.0 x.1);
     }) c.replace.ensures.ok

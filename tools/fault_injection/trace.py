@@ -9,7 +9,7 @@ from dataclasses import dataclass, field
 
 # Calls that change files, and those by which it is known on which file they are done.
 CHANGES = ("openat", "write", "pwrite64", "ftruncate", "link", "linkat", "rename", "renameat", "renameat2", "unlink",
-           "unlinkat", "rmdir", "mkdir", "mkdirat", "symlink", "symlinkat", "chmod", "fsync", "fdatasync", "close")
+           "unlinkat", "rmdir", "mkdir", "mkdirat", "symlink", "symlinkat", "chmod", "fchmod", "fsync", "fdatasync", "close")
 LINE = re.compile(r"^(\d+) +(\w+)\((.*)\) += (-?\d+)(.*)$")
 UNFINISHED = re.compile(r"^(\d+) +(.*) <unfinished \.\.\.>$")
 CLOSING = re.compile(r"^(\d+ +close\(.*) <unfinished \.\.\.>$")
@@ -139,7 +139,7 @@ class Log:
             files[result] = self.opened(paths[0], words[2])
         elif call == "close":
             files.pop(number_of(words[0]), None)
-        elif call in ("write", "pwrite64", "ftruncate", "fsync", "fdatasync"):
+        elif call in ("write", "pwrite64", "ftruncate", "fchmod", "fsync", "fdatasync"):
             if (file := files.get(number_of(words[0]))) is not None:
                 self.on_file(file, call, words, result)
         elif call.startswith("mkdir"):
@@ -175,6 +175,8 @@ class Log:
             self.ops.append(Op("sync" if result == 0 else "unsynced", node=node))
         elif call == "ftruncate":
             self.truncate(node, int(words[1]))
+        elif call == "fchmod":
+            self.ops.append(Op("mode", node=node, at=int(words[1], 8)))
         else:
             data = bytes_of(words[1])[:result]
             if call == "pwrite64":
@@ -228,10 +230,11 @@ def is_below(line, path):
     return "".join(f"\\x{byte:02x}" for byte in os.fsencode(path)) in line
 
 
-def traced(words, calls=CHANGES, inject=None):
-    """Runs a program under strace: its status, what it said, and its calls, a line each."""
+def traced(words, calls=CHANGES, inject=None, path=None):
+    """Runs a program under strace: its status, what it said, and its calls, a line each; those on a path alone if one is given."""
     with tempfile.NamedTemporaryFile("r") as trace:
         run = ["strace", "-f", "-y", "-yy", "-xx", "-s", "16777216", "-e", "signal=none", "-e", f"trace={','.join(calls)}"]
         run += ["-e", f"inject={inject}"] if inject else []
+        run += ["--quiet=path-resolution", "-P", path] if path else []
         done = subprocess.run([*run, "-o", trace.name, *words], stdin=subprocess.DEVNULL, capture_output=True, text=True)
         return done.returncode, done.stdout + done.stderr, list(joined(trace.read().splitlines()))
