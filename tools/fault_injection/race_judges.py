@@ -1,12 +1,14 @@
 """What is wrong with what came of two programs in one folder. Each judge answers with a list, empty if all is right."""
 import json
 import os
+import re
 
 from fault_injection.stores import files_of, names_in, thing
 
-# By these words a program says that another one is at work, and that it read while another one wrote.
-AT_WORK, CHANGED = "at work", "changed while it was read"
-DONE, REFUSED, DOUBTFUL = 0, 1, 5
+# By these words a program says that another one is at work, that it read while another one wrote, and that it named the files
+# of its sites and then could not name its store.
+AT_WORK, CHANGED, HALF_NAMED = "at work", "changed while it was read", "files are in place in"
+DONE, REFUSED, FAILED, DOUBTFUL = 0, 1, 4, 5
 
 
 def first_line(said):
@@ -49,13 +51,34 @@ def differences(found, wanted, path=""):
     return [it for name in sorted({*found, *wanted}) for it in differences(found.get(name), wanted.get(name), f"{path}/{name}".lstrip("/"))]
 
 
+def is_told(race, path):
+    """Whether a program that failed says that it leaves what stands under the first name of a path: names it, or what it is a
+    part of with the option that replaces it."""
+    name = f"ROOM/{path.partition('/')[0]}"
+    for _, status, said in race.runs():
+        names = [name] + ([name.removesuffix(".partial")] if "--replace-partial" in said else [])
+        if status != DONE and {*names} & {*re.split(r"[\s,()]+", said)}:
+            return True
+    return False
+
+
+def is_in(tree, path):
+    """Whether something stands at a path below a folder."""
+    for name in path.split("/"):
+        if not isinstance(tree, dict) or name not in tree:
+            return False
+        tree = tree[name]
+    return True
+
+
 def made(race):
-    """Of two programs that make something of one name one makes it, and the other one changes nothing."""
-    wrong = ended(race)
+    """Of two programs that make something of one name one makes it. The other one changes nothing of that, and says what it
+    leaves."""
+    wrong = ended(race, (DONE, REFUSED, FAILED) if any(HALF_NAMED in said for _, _, said in race.runs()) else (DONE, REFUSED))
     if len(done(race)) > 1:
         return [*wrong, "both ended with 0"]
     right, _ = race.start.after(*[race.case.first if which == "first" else race.case.second for which in done(race)])
-    differ = differences(thing(race.room), right)
+    differ = [it for it in differences(thing(race.room), right) if is_in(right, it) or not is_told(race, it)]
     return wrong + ([f"not as after the {' '.join(done(race)) or 'neither'} alone: {named(differ)}"] if differ else [])
 
 
