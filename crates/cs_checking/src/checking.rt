@@ -11,7 +11,7 @@ use cs_schema::Loss;
 use pinepolo_args::CheckArgs;
 use pinepolo_places::{Listings, VerbError, find_store, require_unchanged, watch};
 use pinepolo_progress::Progress;
-use pinepolo_text::Checked;
+use pinepolo_answers::Checked;
 use std::marker::Sync;
 use std::thread::Threads;
 

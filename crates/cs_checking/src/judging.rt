@@ -5,7 +5,7 @@ ghost use Rattle.cs_schema.specs.Losses.{Sites};
 ghost use Rattle.cs_store.specs.FileSet.{contents_of};
 ghost use Rattle.cs_recovery.specs.Claims.{IsCheckAnswer};
 ghost use Rattle.cs_inspection.specs.BadFiles.{AreBadFiles};
-ghost use Rattle.pinepolo_text.specs.declared.checked.Verdict.TheVariants.{Fatal};
+ghost use Rattle.pinepolo_answers.specs.declared.checked.Verdict.TheVariants.{Fatal};
 ghost use Rattle.cs_checking.specs.Checks.{IsChosen, HasFatal, IsFirstFatal, IsJudged};
 
 use cs_design::{fatal_losses, greatest_k};
@@ -15,7 +15,7 @@ use cs_schema::{Catalog, FileName, Loss};
 use cs_store::{Fault, FileSet};
 use pinepolo_places::VerbError;
 use pinepolo_progress::{Progress, Stage};
-use pinepolo_text::Verdict;
+use pinepolo_answers::Verdict;
 use std::alloc::Global;
 use std::marker::Sync;
 use std::thread::Threads;

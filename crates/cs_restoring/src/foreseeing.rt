@@ -10,7 +10,7 @@ use cs_schema::Catalog;
 use pinepolo_args::RestoreArgs;
 use pinepolo_places::{Failure, Listings, Shelves, VerbError, WorkKind, refuse_pending};
 use pinepolo_progress::Progress;
-use pinepolo_text::Restoration;
+use pinepolo_answers::Restoration;
 use std::alloc::Global;
 use std::marker::Sync;
 use std::thread::Threads;

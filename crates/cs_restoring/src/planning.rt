@@ -10,7 +10,7 @@ use cs_schema::{Catalog, Loss};
 use cs_store::Readable;
 use pinepolo_places::VerbError;
 use pinepolo_progress::Progress;
-use pinepolo_text::Restored;
+use pinepolo_answers::Restored;
 use std::marker::Sync;
 use std::thread::Threads;
 

@@ -15,7 +15,7 @@ use cs_shelf::{Shelf, load_readable_held};
 use cs_store::Readable;
 use pinepolo_places::VerbError;
 use pinepolo_progress::Progress;
-use pinepolo_text::{Diagnosed, Doubted};
+use pinepolo_answers::{Diagnosed, Doubted};
 use std::alloc::Global;
 use std::marker::Sync;
 use std::thread::Threads;

@@ -16,7 +16,7 @@ use cs_store::Readable;
 use pinepolo_args::RestoreArgs;
 use pinepolo_places::{Listings, RestoreOf, Shelves, VerbError, WorkKind, find_store};
 use pinepolo_progress::Progress;
-use pinepolo_text::Restoration;
+use pinepolo_answers::Restoration;
 use std::alloc::Global;
 use std::marker::Sync;
 use std::thread::Threads;

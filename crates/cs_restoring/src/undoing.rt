@@ -8,7 +8,7 @@ use cs_restore::put_back;
 use cs_schema::{Catalog, Loss};
 use pinepolo_args::UndoArgs;
 use pinepolo_places::{Shelves, UndoOf, Undoable, VerbError, WorkKind, find_store};
-use pinepolo_text::Undone;
+use pinepolo_answers::Undone;
 use std::alloc::Global;
 
 /// Which work a request asks to undo.
