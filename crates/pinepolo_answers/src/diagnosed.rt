@@ -4,7 +4,7 @@ ghost use Rattle.pinepolo_answers.specs.OnlyLoss.{AreFatalBeside};
 ghost use Rattle.pinepolo_answers.specs.Statuses.{diagnosed_status};
 
 use crate::changed::ChangedFile;
-use crate::only_loss::only_loss;
+use crate::explained::only_loss;
 use cs_design::fatal_losses;
 use cs_diagnosis::{Diagnosis, TableDisputes, Verdict};
 use cs_schema::{Catalog, Loss};
