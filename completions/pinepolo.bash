@@ -1,6 +1,6 @@
 # Completions of pinepolo for bash. Written by tools/write-reference.
 _pinepolo() {
-    local word=${COMP_WORDS[COMP_CWORD]} words=
+    local word=${COMP_WORDS[COMP_CWORD]#=} words=
     if [ "$COMP_CWORD" -eq 1 ]; then
         mapfile -t COMPREPLY < <(compgen -W "check show diagnose drill recover restore undo manifest verify design load dump relayout --help --version" -- "$word")
         return
@@ -19,6 +19,10 @@ _pinepolo() {
     load) words="--sites --workers --quiet --json --replace-partial --help" ;;
     dump) words="--lost --sites --workers --quiet --help" ;;
     relayout) words="--lost --sites --new-sites --workers --quiet --json --replace-partial --help" ;;
+    esac
+    case ${COMP_WORDS[COMP_CWORD-1]} in
+    --at-most|--disputes|--k|--lose|--lost|--site|--to|--workers) return ;;
+    --manifest|--new-sites|--sites|--svg|=) words= ;;
     esac
     mapfile -t COMPREPLY < <(compgen -W "$words" -- "$word"; compgen -f -- "$word")
 }

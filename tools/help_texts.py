@@ -108,3 +108,9 @@ def notes(path):
     with open(path, encoding="utf-8") as file:
         sections = re.split(r"(?m)^## (.*)\n", file.read())[1:]
     return {title: body.strip().split("\n\n") for title, body in zip(sections[::2], sections[1::2])}
+
+
+def examples_of(noted, commands=None, program="pinepolo"):
+    """The examples of a verb, or all of a program, each with its sentence in the notes."""
+    rows = dict(re.findall(r"(?m)^\| `([^`]+)` \| (.*) \|$", noted["Examples"][-1]))
+    return [(it, rows[it]) for it in (commands or [it for it in rows if it.startswith(f"{program} ")])]

@@ -1,68 +1,27 @@
-"""Manual pages in mdoc."""
+"""Manual pages: one of each program, one of each verb, and one of the catalog."""
 import re
-import textwrap
 
-from help_texts import common, own, own_statuses
+from help_texts import common, examples_of
+from mdoc import block_lines, blocks_lines, literal, rows_of, section, table, tagged, text_lines
 
-DATE = "November 29, 2026"
-
-
-def escaped(text):
-    return text.replace("\\", "\\e").replace("-", "\\-")
+SHORT = {"--help": "h", "--version": "V"}
 
 
-def text_lines(text):
-    """Lines of running text: a sentence begins a line, code is bold, and no line is long."""
-    marked = re.sub(r"`([^`]+)`", lambda it: f"\\fB{escaped(it[1])}\\fR", text)
-    # (neither "e.g." nor ".." nor a file's name ends a sentence)
-    sentences = re.split(r"(?<=[a-z0-9)RK][.?!])\s+(?=[A-Z\\`])", marked)
-    lines = [line for it in sentences for line in textwrap.wrap(it, 78, break_long_words=False, break_on_hyphens=False)]
-    return [f"\\&{it}" if it[0] in "'." else it for it in lines]
+def page(name, number, about, lines):
+    # (write-reference puts the date there)
+    return "\n".join([".Dd DATE", f".Dt {name.upper()} {number}", ".Os", ".Sh NAME", f".Nm {name}", f".Nd {about}", *lines]) + "\n"
 
 
-def table(rows):
-    """A table as a tagged list: the first cell is the tag, the others follow it."""
-    yield ".Bl -tag -width Ds"
-    for tag, *cells in rows:
-        yield " ".join([".It", *text_lines(tag)])
-        yield from text_lines(sentence(cells))
-    yield ".El"
+def lower(text):
+    return text[:1].lower() + text[1:]
 
 
-def sentence(cells):
-    """The cells behind the tag: a meaning, a status and a meaning, or a meaning and what to do."""
-    if len(cells) == 2 and cells[0].isdigit():
-        return f"Status {cells[0]}: {cells[1]}."
-    first = cells[0][:1].upper() + cells[0][1:]
-    return f"{first}." if len(cells) == 1 else f"{first}. What to do: {cells[1]}."
-
-
-def block_lines(block):
-    """A paragraph, a list or a table."""
-    if block.startswith("|"):
-        rows = [[it.strip() for it in line.strip("|").split(" | ")] for line in block.split("\n")]
-        yield from table(rows[2:])
-    elif block.startswith("- ") or "\n- " in block:
-        head, *items = re.split(r"(?m)^- ", block)
-        yield from text_lines(head)
-        yield ".Bl -dash -compact"
-        for item in items:
-            yield ".It"
-            yield from text_lines(item)
-        yield ".El"
-    else:
-        yield from text_lines(block)
-
-
-def blocks_lines(blocks):
-    for at, block in enumerate(blocks):
-        if at and not block.startswith("|"):
-            yield ".Pp"
-        yield from block_lines(block)
+def alone(text):
+    """A text without what points to other places of its document."""
+    return re.sub(r", (see below|by the rule above)", "", text)
 
 
 def synopsis(verb):
-    yield ".Nm"
     yield f".Cm {verb.name}"
     required = verb.required()
     for option in verb.options:
@@ -73,65 +32,79 @@ def synopsis(verb):
         yield f".Op Ar {name}{dots}" if word.startswith("[") else f".Ar {name}{dots}"
 
 
-def head(name, about):
-    return [f".Dd {DATE}", f".Dt {name.upper()} 1", ".Os", ".Sh NAME", f".Nm {name}", f".Nd {about}", ".Sh SYNOPSIS"]
+def word_pairs(arguments, options):
+    """The tags and the texts of arguments and options, the general ones last."""
+    for name, text in arguments:
+        yield f"Ar {name.strip('<>[].').rstrip('>]')}", text
+    for option in options:
+        short = f"Fl {SHORT[option.name]} , " if option.name in SHORT else ""
+        yield f"{short}Fl {option.name[1:]}" + (f" Ar {option.value}" if option.value else ""), option.text
 
 
-def tagged(pairs):
-    """A tagged list of macros and texts."""
-    pairs = list(pairs)
-    if not pairs:
-        return
-    yield ".Bl -tag -width Ds"
-    for tag, text in pairs:
-        yield f".It {tag}"
-        yield from text_lines(f"{text}.")
-    yield ".El"
+def examples(found):
+    """Each example behind its sentence."""
+    for at, (command, text) in enumerate(found):
+        yield from ([".Pp"] if at else [])
+        yield from (*text_lines(text), *literal([f"$ {command}"]))
 
 
-def option_pairs(options):
-    return ((f"Fl {it.name[1:]}" + (f" Ar {it.value}" if it.value else ""), it.text) for it in options)
+def see_also(*names):
+    return [".Sh SEE ALSO", *(f"\\fB{escaped_name}\\fR({number})" + ("," if at + 1 < len(names) else "")
+                              for at, (escaped_name, number) in enumerate(names))]
 
 
-def argument_pairs(arguments):
-    return ((f"Ar {name.strip('<>[].').rstrip('>]')}", text) for name, text in arguments)
+def verb_page(verb, noted):
+    lines = [".Sh SYNOPSIS", ".Nm pinepolo", *synopsis(verb), ".Sh DESCRIPTION", *blocks_lines([*verb.prose, *noted[verb.name]])]
+    lines += [".Pp", "The arguments and options:", *tagged(word_pairs(verb.arguments, [*verb.options, *verb.general]))]
+    lines += [".Sh EXIT STATUS", *tagged(verb.statuses)]
+    lines += [".Sh EXAMPLES", *examples(examples_of(noted, verb.examples))]
+    lines += see_also(("pinepolo", 1), ("pinepolo\\-catalog", 5))
+    return page(f"pinepolo-{verb.name}", 1, lower(verb.about), lines)
 
 
-def verb_lines(verb, top, shared, blocks):
-    yield f".Ss {verb.name}"
-    yield from text_lines(f"{verb.about}.")
-    yield from tagged([*argument_pairs(own(verb, "arguments", shared)), *option_pairs(own(verb, "options", shared))])
-    for it in [*verb.prose, *blocks]:
-        if not it.startswith("|"):
-            yield ".Pp"
-        yield from block_lines(it)
-    if statuses := own_statuses(verb, top):
-        yield from (".Pp", "Exit status:")
-        yield from tagged(statuses)
-
-
-def pinepolo_page(top, verbs, notes):
+def pinepolo_page(top, verbs, noted, docs):
     words, options = common(verbs, "arguments"), common(verbs, "options")
-    lines = head("pinepolo", "check column stores, and rebuild what lost sites took from them")
-    for verb in verbs:
-        lines += synopsis(verb)
-    lines += [".Sh DESCRIPTION", *blocks_lines(notes["pinepolo"]), ".Pp", "Words of several verbs:"]
-    lines += tagged([*argument_pairs(words), *option_pairs(options)])
-    lines.append(".Sh VERBS")
-    for verb in verbs:
-        lines += verb_lines(verb, top, words + options, notes[verb.name])
-    lines += [".Sh FILES", *blocks_lines(notes["Files"]), ".Sh EXIT STATUS", *tagged(top.statuses)]
-    lines += [".Sh EXAMPLES", ".Bd -literal -compact"]
-    for verb in verbs:
-        lines += [escaped(it) for it in verb.examples]
-    lines += [".Ed", ".Sh DIAGNOSTICS", *blocks_lines(notes["Faults"]), ".Sh SEE ALSO", "\\fBcs_cli\\fR(1)"]
-    return "\n".join(lines) + "\n"
+    lines = [".Sh SYNOPSIS", ".Nm", ".Ar verb", ".Op Ar option ...", ".Op Ar argument ...", ".Nm", ".Fl -help", ".Nm", ".Fl -version"]
+    lines += [".Sh DESCRIPTION", *blocks_lines(noted["pinepolo"]), ".Pp", "The verbs, each with a page of its own:"]
+    lines += tagged((f"\\fBpinepolo\\-{it.name}\\fR(1)", it.about) for it in verbs)
+    lines += [".Pp", "Arguments and options of several verbs:", *tagged(word_pairs(words, options))]
+    lines += [".Pp", "Options of the program itself:", *tagged(word_pairs([], top.general))]
+    lines += [".Sh ENVIRONMENT", *blocks_lines(noted["Environment"])]
+    lines += [".Sh FILES", *blocks_lines(noted["Files"]), ".Sh EXIT STATUS", *tagged(top.statuses)]
+    lines += [".Sh EXAMPLES", *examples(examples_of(noted)), ".Sh DIAGNOSTICS", *blocks_lines(noted["Faults"])]
+    limits = next(it for it in section(f"{docs}/formats.md", "Limits") if it.startswith("|"))
+    lines += [".Sh LIMITS", *block_lines("\n".join(f"- {alone(what)}: {least} to {most}" for what, least, most in rows_of(limits)))]
+    lines += [".Pp", *blocks_lines(noted["Limits"])]
+    lines += see_also(("cs_cli", 1), ("sha256sum", 1), ("pinepolo\\-catalog", 5))
+    lines += [".Sh REPORTING BUGS", *blocks_lines(noted["Reporting bugs"])]
+    return page("pinepolo", 1, "check column stores, and rebuild what lost sites took from them", lines)
 
 
-def cs_cli_page(verbs, top, notes):
-    lines = [*head("cs_cli", "check column stores and recover lost files, for scripts"), ".Nm"]
+def cs_cli_page(verbs, top, noted):
+    lines = [".Sh SYNOPSIS", ".Nm"]
     for verb in verbs:
-        lines += synopsis(verb)
-    lines += [".Sh DESCRIPTION", *blocks_lines(notes["cs_cli"])]
-    lines += [".Sh EXIT STATUS", *tagged(it for it in top.statuses if int(it[0]) <= 4), ".Sh SEE ALSO", "\\fBpinepolo\\fR(1)"]
-    return "\n".join(lines) + "\n"
+        lines += [".Nm", *synopsis(verb)]
+    lines += [".Sh DESCRIPTION", *blocks_lines(noted["cs_cli"])]
+    lines += [".Sh ENVIRONMENT", *blocks_lines(noted["Environment"])]
+    lines += [".Sh EXIT STATUS", *tagged(it for it in top.statuses if int(it[0]) <= 4)]
+    lines += [".Sh EXAMPLES", *examples(examples_of(noted, program="cs_cli")), *see_also(("pinepolo", 1))]
+    return page("cs_cli", 1, "check column stores and recover lost files, for scripts", lines)
+
+
+def catalog_page(noted, docs, example):
+    """The page of the catalog, from the documents and an example."""
+    lines = [".Sh DESCRIPTION", *blocks_lines(noted["Catalog"])]
+    for block in section(f"{docs}/catalogs.md", "A catalog, member by member"):
+        if block.startswith("|"):
+            head = block.split("\n")[0].strip("| ").split(" | ")[0]
+            lines += [".Pp", f"{head}:", *table((name, alone(text)) for name, text in rows_of(block))]
+        elif lines[-1] == ".El" and not block.startswith("```"):
+            lines += [".Pp", *block_lines(block)]
+    with open(example, encoding="utf-8") as file:
+        lines += [".Sh EXAMPLES", *text_lines(noted["Catalog example"][0]), *literal(file.read().rstrip().split("\n"))]
+    rules = section(f"{docs}/formats.md", "The catalog")
+    begin = next(at for at, it in enumerate(rules) if it.startswith("Its rules"))
+    lines += [".Sh RULES", *blocks_lines(["The" + rules[begin].removeprefix("Its"), *rules[begin + 1:]])]
+    lines += [".Sh SITES FILE", *blocks_lines(section(f"{docs}/formats.md", "A SITES file"))]
+    lines += see_also(("pinepolo", 1), ("pinepolo\\-design", 1))
+    return page("pinepolo-catalog", 5, "the layout of a store: its copies, their orders, and the sites of their segments", lines)

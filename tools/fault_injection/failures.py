@@ -51,14 +51,25 @@ class Reading(IntoNew):
         done = subprocess.run([self.program, *self.words(room)], stdin=subprocess.DEVNULL, capture_output=True, text=True)
         return done.returncode, MEASURED.sub("#", (done.stdout + done.stderr).replace(f"{room}/", ""))
 
-    def wrong(self, room, status, said):
-        """What is wrong with an answer: it is that without a failure, or says that a file could not be read, or whether a run is at
-        work. A restore that reads a file once and the next time cannot read it is in doubt."""
+    def answer_without(self, room, site):
+        """How it ends if the folder of a site is not there, and what it says."""
+        os.rename(f"{room}/{site}", f"{room}/{site}.away")
+        answer = self.answer(room)
+        os.rename(f"{room}/{site}.away", f"{room}/{site}")
+        return answer
+
+    def wrong(self, room, path, status, said):
+        """What is wrong with an answer if a call on this path failed: it is that without a failure, or says that a file could not be
+        read, or whether a run is at work. A restore that reads a file once and the next time cannot read it is in doubt. A site
+        whose folder or catalog can't be read is away."""
         if status == DEVICE or "cannot be told" in said or self.name.split()[0] in ("show", "diagnose") and "unreadable" in said:
             return []
         if self.name == "restore --dry-run" and status == DOUBTFUL:
             return []
-        return [] if (status, MEASURED.sub("#", said)) == self.answer(room) else [f"status {status}, {first_line(said)}"]
+        answer = status, MEASURED.sub("#", said)
+        if self.sited and (site := re.match(r"s\d+\b", path)) and answer == self.answer_without(room, site[0]):
+            return []
+        return [] if answer == self.answer(room) else [f"status {status}, {first_line(said)}"]
 
 
 def form_of(name, program, example, sited):
@@ -141,7 +152,7 @@ def failed(verb, parent, case, has_words):
         wrong = words_wrong(line, said, case.error) if has_words and status == DEVICE else []
         said = said.replace(f"{room}/", "")
         if isinstance(verb, Reading):
-            return wrong + verb.wrong(room, status, said) + ([] if thing(room) == before else ["something has changed"])
+            return wrong + verb.wrong(room, case.path, status, said) + ([] if thing(room) == before else ["something has changed"])
         return wrong + changing_wrong(verb, room, before, case.kind, status, said)
     finally:
         shutil.rmtree(room)

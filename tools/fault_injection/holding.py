@@ -41,7 +41,7 @@ class Run:
 
     def __init__(self, words, call=None):
         self.trace, self.said, self.seen, self.begun = tempfile.NamedTemporaryFile("r"), tempfile.TemporaryFile("w+"), 0, time.monotonic()
-        run = ["strace", "-f", "-y", "-s", "16", "-e", "signal=SIGSTOP", "-e", f"trace={','.join('?' + it for it in CALLS)}"]
+        run = ["strace", "-f", "--quiet=attach", "-y", "-s", "16", "-e", "signal=SIGSTOP", "-e", f"trace={','.join('?' + it for it in CALLS)}"]
         run += ["-e", f"inject={call.kind}:signal=STOP:when={call.number}"] if call else []
         self.process = subprocess.Popen([*run, "-o", self.trace.name, *words], stdin=subprocess.DEVNULL, stdout=self.said, stderr=self.said)
 

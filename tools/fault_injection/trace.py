@@ -233,8 +233,8 @@ def is_below(line, path):
 def traced(words, calls=CHANGES, inject=None, path=None):
     """Runs a program under strace: its status, what it said, and its calls, a line each; those on a path alone if one is given."""
     with tempfile.NamedTemporaryFile("r") as trace:
-        run = ["strace", "-f", "-y", "-yy", "-xx", "-s", "16777216", "-e", "signal=none", "-e", f"trace={','.join(calls)}"]
+        run = ["strace", "-f", "--quiet=attach,path-resolution", "-y", "-yy", "-xx", "-s", "16777216", "-e", "signal=none", "-e", f"trace={','.join(calls)}"]
         run += ["-e", f"inject={inject}"] if inject else []
-        run += ["--quiet=path-resolution", "-P", path] if path else []
+        run += ["-P", path] if path else []
         done = subprocess.run([*run, "-o", trace.name, *words], stdin=subprocess.DEVNULL, capture_output=True, text=True)
         return done.returncode, done.stdout + done.stderr, list(joined(trace.read().splitlines()))
