@@ -66,12 +66,13 @@ impl StoreText<'_> {
         site: u8,
         line: &FileLine,
     ) -> fmt::Result {
+        let catalog = &self.view.catalog;
         let name = line.name;
         let p = name.projection();
-        if site_of(&self.view.catalog, p, name.segment()) != Some(site) {
+        if site_of(catalog, p, name.segment()) != Some(site) {
             return Ok(());
         }
-        let projection = match self.view.catalog.projections.get(usize::from(p)) {
+        let projection = match catalog.projections.get(usize::from(p)) {
             Some(projection) => projection.name.as_str(),
             None => "",
         };
@@ -88,9 +89,10 @@ impl StoreText<'_> {
 
     /// The table of files, by sites. A site that is away has one line.
     fn write_table<W: fmt::Write>(&self, f: &mut fmt::Formatter<W>, away: Loss) -> fmt::Result {
+        let catalog = &self.view.catalog;
         writeln!(f, "site  file          projection")?;
         for site in 1..17u8 {
-            if site > self.view.catalog.sites {
+            if site > catalog.sites {
                 return Ok(());
             }
             if has(away, site) {
