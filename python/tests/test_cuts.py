@@ -70,10 +70,10 @@ class TestLayout(unittest.TestCase):
         self.assertEqual(orders_of("id", [["id"]], 1), [["id"], ["id"]])
 
     def test_sites(self):
-        self.assertEqual([it.sites for it in projections_of([["a"]] * 3, 7)], [[1, 2], [3, 4], [5, 6, 7]])
-        self.assertEqual([(it.name, it.sites) for it in projections_of([["a"]] * 3, 2)], [("by_a", [1]), ("by_a_2", [2]), ("by_a_3", [1])])
-        self.assertEqual(Projection(["a"], [1, 2], rows=[9] * 5).segment_sites(), [1, 1, 1, 2, 2])
-        self.assertEqual(Projection(["a"], [1, 2, 3], rows=[9, 9]).segment_sites(), [1, 2])
+        self.assertEqual([it.sites for it in projections_of([["a"]] * 3, 7, ["a"])], [[1, 2], [3, 4], [5, 6, 7]])
+        self.assertEqual([(it.name, it.sites) for it in projections_of([["a"]] * 3, 2, ["a"])], [("by_a", [1]), ("by_a_2", [2]), ("by_a_3", [1])])
+        self.assertEqual(Projection(["a"], [1, 2], "a", ["a"], rows=[9] * 5).segment_sites(), [1, 1, 1, 2, 2])
+        self.assertEqual(Projection(["a"], [1, 2, 3], "a", ["a"], rows=[9, 9]).segment_sites(), [1, 2])
 
 
 if __name__ == "__main__":
