@@ -16,7 +16,7 @@ from .cuts import AIM, SEGMENTS, above
 from .digest import RowsDigest
 from .dumped import blocks, dumped
 from .errors import USAGE, DataError
-from .generations import ROWS, Writing, about, need_own, site_words
+from .generations import ROWS, Writing, about, need_own, sites_of
 from .making import TIMES, Maker, Spool, header, row_bytes
 from .ordered import Row, Source, Survey
 from .parallel import available, in_order, jobs_for
@@ -118,7 +118,7 @@ class Run:
         stored = [Column(name, make_type(kind)) for name, kind in types.stored()]
         key = self.source.names.index(self.source.key)
         with about(self.work.path(it.store)):
-            for block in dumped(self.work.path(it.store), types, site_words(self.work.folder, self.work.table, it.store), None, stored):
+            for block in dumped(self.work.path(it.store), types, sites_of(self.work.folder, self.work.table, it.store), None, stored):
                 cells = [lists[0] for lists in block]
                 self.keep(dict(zip(self.source.names, cells)), self.kept)
                 yield from zip(cells[key], lines([list(map(str, own)) for own in cells]), repeat(0))

@@ -52,7 +52,7 @@ def reading(folder: str) -> Iterator[PartitionedTable]:
         os.close(readers)
 
 
-def site_words(folder: str, table: PartitionedTable, store: str) -> str | None:
+def sites_of(folder: str, table: PartitionedTable, store: str) -> str | None:
     """The SITES file of a store, if its sites have folders of their own."""
     return os.path.join(folder, store, SITES) if table.sites else None
 

@@ -33,7 +33,7 @@ def import_table(folder: str, path: str, store: str, sites: str | None = None) -
 
 def load(catalog: str, store: str, sites: str | None, blocks: Iterable[bytes], locks: Sequence[int]) -> str:
     """Makes a store of blocks of CSV, and answers what `load` said. The program keeps the locks."""
-    words = ["load", "--quiet", *(["--sites", sites] if sites else []), "--", catalog, "-", store]
+    words = ["load", "--quiet", *program.site_words(sites), "--", catalog, "-", store]
     try:
         with program.started(words, stdin=subprocess.PIPE, stdout=subprocess.PIPE, kept=locks) as process:
             assert process.stdin and process.stdout

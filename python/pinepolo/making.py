@@ -114,8 +114,7 @@ class Maker:
         with open(os.path.join(new, SPOOL), "rb") as file:
             load(os.path.join(new, CATALOG), made, sites, iter(lambda: file.read(CHUNK), b""), [self.work.lock])
         os.remove(os.path.join(new, SPOOL))
-        words = ["--sites", sites] if sites else []
-        program.answer(["check", "--quiet", *words, "--", made])
+        program.check(made, sites)
         digest = given_back(made, table.types, sites)
         if digest.rows != spool.partition.rows:
             raise DataError(f"{made} gives {digest.rows} rows back, and {spool.partition.rows} were loaded", "run it again, and report this if it stays")

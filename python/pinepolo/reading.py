@@ -13,7 +13,7 @@ from .columns import Column
 from .database import sql_values
 from .dumped import dumped
 from .errors import DataError
-from .generations import about, need_own, site_words
+from .generations import about, need_own, sites_of
 from .kinds import Stored
 from .making import CHUNK, TIMES
 from .parallel import in_order, jobs_for
@@ -44,7 +44,7 @@ class Reading:
         return os.path.join(self.folder, it.store)
 
     def blocks(self, it: Partition, columns: list[Column] | None = None) -> Blocks:
-        return dumped(self.path(it), self.table.types, site_words(self.folder, self.table, it.store), self.lost, columns)
+        return dumped(self.path(it), self.table.types, self.sites(it), self.lost, columns)
 
     def texts(self, head: str, make: Callable[[Blocks], Iterator[str]]) -> Iterator[str]:
         """A head, and the texts that are made of the rows, in the order of the key."""
@@ -79,7 +79,7 @@ class Reading:
         ends = dict(zip(self.table.partitions, bounds))
 
         def work(it: Partition, _: IO[bytes]) -> str:
-            told = program.answer(["check", "--quiet", *self.sites(it), "--", self.path(it)])
+            told = program.check(self.path(it), self.sites(it))
             rows, first, last = 0, None, None
             for block in self.blocks(it, [key]):
                 keys = block[0][0]
@@ -94,14 +94,13 @@ class Reading:
             yield told
         yield f"ok rows={self.table.rows()} stores={len(self.table.partitions)}\n"
 
-    def sites(self, it: Partition) -> list[str]:
-        file = site_words(self.folder, self.table, it.store)
-        return ["--sites", file] if file else []
+    def sites(self, it: Partition) -> str | None:
+        return sites_of(self.folder, self.table, it.store)
 
     def verbs(self, words: Sequence[str]) -> Iterator[tuple[int, str, bytes]]:
         """The status, the store and what it printed, of a verb of pinepolo for each store."""
         def work(it: Partition, file: IO[bytes]) -> int:
-            command = [program.find(), words[0], *self.sites(it), *self.filled(words[1:], it)]
+            command = [program.find(), words[0], *program.site_words(self.sites(it)), *self.filled(words[1:], it)]
             return subprocess.run(command, stdin=subprocess.DEVNULL, stdout=file, stderr=subprocess.STDOUT,
                                   preexec_fn=program.ending_with(os.getpid()), check=False).returncode
 
