@@ -19,7 +19,7 @@ from .errors import USAGE, DataError
 from .generations import ROWS, Writing, about, need_own, sites_of
 from .making import TIMES, Maker, Spool, header, row_bytes
 from .ordered import Row, Source, Survey
-from .parallel import available, in_order, jobs_for
+from .parallel import in_order, jobs_for, share_of
 from .partitioned import Partition, PartitionedTable, templates
 from .places import CATALOG, read, read_sites, types_of
 from .catalog import Catalog, read_catalog
@@ -40,7 +40,7 @@ def import_partitioned(drafted: str, path: str, folder: str, sites: str | None, 
     begin = list(islice(own, BLOCK))
     size = row_bytes(begin, types, catalog)
     if rows is None:
-        rows = (available() if memory is None else memory) // ((os.cpu_count() or 1) * size * TIMES)
+        rows = share_of(memory) // (size * TIMES)
     table = PartitionedTable(os.urandom(8).hex(), 0, max(1, min(rows, MOST)), size, types, catalog, site_folders(sites, catalog))
     with Writing(folder, table) as work:
         if survey and not survey.ascends:
@@ -62,7 +62,9 @@ def append(folder: str, path: str, is_replacing: bool, memory: int | None) -> It
         if 2 * last.rows >= table.rows_per_store and (start := above(last.last)) is not None:
             ranges.append(Partition("", start, None, 0, ""))
         survey = source.survey([it.start for it in ranges[1:]])
-        run = Run(work, source, survey, jobs_for(memory, table.row_bytes * TIMES * table.rows_per_store), is_replacing)
+        # (one more process gives the rows of the old stores)
+        jobs = max(1, jobs_for(memory, table.row_bytes * TIMES * table.rows_per_store) - 1)
+        run = Run(work, source, survey, jobs, is_replacing)
         yield run.ends(run.made(run.merged(ranges)))
 
 
@@ -87,7 +89,8 @@ class Run:
         self.replacements = 0
 
     def in_order(self, rows: Iterator[Row]) -> Iterator[Row]:
-        return self.source.in_order(rows, self.survey, self.work.path(ROWS), self.work.table.rows_per_store)
+        # (what is sorted in memory is less than what `dump` takes of a store)
+        return self.source.in_order(rows, self.survey, self.work.path(ROWS), -(-self.work.table.rows_per_store // 4))
 
     def whole(self, rows: Iterator[Row]) -> Iterator[Spool]:
         """The spools of a table that has no stores yet."""

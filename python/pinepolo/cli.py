@@ -188,6 +188,7 @@ def add_each(verbs: Any) -> None:
     it.add_argument("table", metavar="TABLE")
     it.add_argument("words", metavar="-- VERB WORD", nargs="+",
                     help="the verb, and its words: {} stands for the path of the store, which else comes last, and {store} for its name")
+    it.add_argument("--store", metavar="NAME", help="run it for this store alone")
     add_memory(it)
     it.set_defaults(run=run_each)
 
@@ -195,7 +196,7 @@ def add_each(verbs: Any) -> None:
 def run_each(words: argparse.Namespace) -> None:
     statuses = []
     with reading(words.table) as table:
-        for status, store, said in Reading(words.table, table, words.memory).verbs(words.words):
+        for status, store, said in Reading(words.table, table, words.memory).verbs(words.words, words.store):
             put(f"{store}\t{line}\n" for line in said.decode(errors="replace").splitlines())
             statuses.append(status)
     if any(statuses):

@@ -39,6 +39,13 @@ def jobs_for(memory: int | None, each: int) -> int:
     return max(1, min(os.cpu_count() or 1, (available() if memory is None else memory) // (each + PROCESS)))
 
 
+def share_of(memory: int | None) -> int:
+    """What of the memory a process may take for its store, if each processor has one that is worth it."""
+    memory = available() if memory is None else memory
+    share = memory // jobs_for(memory, 3 * PROCESS)
+    return max(share - PROCESS, share // 2)
+
+
 def in_order(work: Callable[[Item, IO[bytes]], Any], items: Iterable[Item], jobs: int) -> Iterator[tuple[Any, IO[bytes]]]:
     """What `work` answers for each item, and the file that it wrote, in the order of the items.
 

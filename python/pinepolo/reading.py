@@ -97,14 +97,18 @@ class Reading:
     def sites(self, it: Partition) -> str | None:
         return sites_of(self.folder, self.table, it.store)
 
-    def verbs(self, words: Sequence[str]) -> Iterator[tuple[int, str, bytes]]:
-        """The status, the store and what it printed, of a verb of pinepolo for each store."""
+    def verbs(self, words: Sequence[str], only: str | None = None) -> Iterator[tuple[int, str, bytes]]:
+        """The status, the store and what it printed, of a verb of pinepolo for each store, or for one."""
+        chosen = [it for it in self.table.partitions if only in (None, it.store)]
+        if not chosen:
+            raise DataError(f"{self.folder} has no store {only}", "an append may have made it anew: take the stores of table.toml")
+
         def work(it: Partition, file: IO[bytes]) -> int:
             command = [program.find(), words[0], *program.site_words(self.sites(it)), *self.filled(words[1:], it)]
             return subprocess.run(command, stdin=subprocess.DEVNULL, stdout=file, stderr=subprocess.STDOUT,
                                   preexec_fn=program.ending_with(os.getpid()), check=False).returncode
 
-        for (status, file), it in zip(in_order(work, self.table.partitions, self.jobs), self.table.partitions):
+        for (status, file), it in zip(in_order(work, chosen, self.jobs), chosen):
             yield status, it.store, file.read()
 
     def filled(self, words: Sequence[str], it: Partition) -> list[str]:

@@ -45,6 +45,8 @@ class TestReading(Partitions):
         self.assertEqual([(store, json.loads(answer)["rows"]) for store, answer in lines], [("000.1", 4), ("001.1", 4), ("002.1", 2)])
         self.good("each", self.table, "--", "recover", "{}", self.at / "out-{store}", 1)
         self.assertEqual(sorted(it.name for it in self.at.glob("out-*")), ["out-000.1", "out-001.1", "out-002.1"])
+        self.assertEqual(self.good("each", "--store", "002.1", self.table, "--", "check"), "002.1\tok rows=2 k=1\n")
+        self.refused(1, "t has no store 002.7", "each", "--store", "002.7", self.table, "--", "check")
         os.remove(self.table / "001.1/p0.s0.seg")
         status, told, faults = self.run_data("each", self.table, "--", "check", "--quiet")
         self.assertEqual((status, faults.splitlines()[0]), (1, "fault: pinepolo check: 1 of 3 stores ended with another status than 0"))
