@@ -107,7 +107,7 @@ class Writing:
         return self
 
     def failed(self, error: OSError) -> DataError:
-        return device(OSError(error.errno, error.strerror, error.filename or self.folder), "check the path and the room on its disk: nothing has changed")
+        return device(OSError(error.errno, error.strerror, error.filename or self.folder), "check the path and the room on its disk")
 
     def take_lock(self) -> None:
         if self.first and not set(os.listdir(self.folder)) <= {LOCK, READERS, FILE, FILE + NEW} and not is_table(self.folder):
@@ -189,8 +189,8 @@ class Writing:
     def leave(self) -> None:
         """Removes what was not committed; of a first import that failed all. What can't be removed is left for the next run."""
         try:
-            self.clear()
-            if self.first and not self.table.partitions:
+            left = self.clear()
+            if self.first and not self.table.partitions and not left:
                 for name in (FILE, READERS, LOCK):
                     remove(self.path(name))
                 os.rmdir(self.folder)

@@ -121,6 +121,8 @@ class Maker:
         give([made, *folders.values()], FILE, table.types.text().encode())
         if sites:
             give([made], SITES, read(sites))
+        for folder in folders.values():
+            sync(os.path.dirname(folder))
         return replace(spool.partition, catalog=hashlib.sha256(catalog).hexdigest()), digest
 
     def cut(self, spool: Spool) -> Catalog:
