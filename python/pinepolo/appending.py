@@ -6,26 +6,23 @@ import io
 import os
 from bisect import bisect_right
 from collections.abc import Iterable, Iterator
-from dataclasses import replace
 from itertools import chain, groupby, islice, repeat
 from operator import itemgetter
-from typing import Any
 
-from .columns import Column
+from .catalog import Catalog, read_catalog
 from .cuts import AIM, SEGMENTS, above
 from .digest import RowsDigest
 from .dumped import blocks, dumped
 from .errors import USAGE, DataError
 from .generations import ROWS, Writing, about, need_own, sites_of
-from .making import TIMES, Maker, Spool, header, row_bytes
+from .kinds import Stored
+from .making import TIMES, Maker, Spool, row_bytes, text_of
 from .ordered import Row, Source, Survey
 from .parallel import in_order, jobs_for, share_of
 from .partitioned import Partition, PartitionedTable, templates
 from .places import CATALOG, read, read_sites, types_of
-from .catalog import Catalog, read_catalog
 from .summary import number_of, size_text
 from .table_csv import BLOCK, Table, lines
-from .types import make_type
 
 # Most rows that are asked for a store: half of what its segments hold, since rows with one value stay together.
 MOST = AIM * SEGMENTS // 2
@@ -84,7 +81,7 @@ class Run:
         self.work, self.source, self.survey, self.jobs, self.is_replacing = work, source, survey, jobs, is_replacing
         self.maker = Maker(work)
         self.kept, self.found = RowsDigest(), RowsDigest()
-        self.before: list[Partition] = list(work.table.partitions)
+        self.staying: list[Partition] = list(work.table.partitions)
         self.replaced: list[str] = []
         self.replacements = 0
 
@@ -103,32 +100,32 @@ class Run:
             yield from self.maker.spools(chain([first], found), most, None, None)
 
     def merged(self, ranges: list[Partition]) -> Iterator[Spool]:
-        """The spools of the partitions that get rows, with those which they have. They are taken from those of before."""
+        """The spools of the partitions that get rows, with those that they have. These partitions don't stay."""
         assert self.survey
-        bounds = [it.start for it in ranges[1:]]
+        bounds, sizes = [it.start for it in ranges[1:]], self.survey.counts.sizes()
         for at, rows in groupby(self.in_order(self.source.rows()), lambda row: bisect_right(bounds, row[0])):
             it, most = ranges[at], self.work.table.rows_per_store
-            size = it.rows + self.survey.counts[at]
+            size = it.rows + sizes[at]
             both = heapq.merge(self.old(it) if it.store else (), rows, key=itemgetter(0))
             if it.store:
-                self.before.remove(it)
+                self.staying.remove(it)
             yield from self.maker.spools(self.single(both), -(-size // -(-size // most)), it.number() if it.store else None, it.start)
 
     def old(self, it: Partition) -> Iterator[Row]:
         """The rows of a store."""
         need_own(self.work.folder, it)
-        types = self.work.table.types
-        stored = [Column(name, make_type(kind)) for name, kind in types.stored()]
-        key = self.source.names.index(self.source.key)
+        types, key = self.work.table.types, self.source.names.index(self.source.key)
+        sites = sites_of(self.work.folder, self.work.table, it.store)
         with about(self.work.path(it.store)):
-            for block in dumped(self.work.path(it.store), types, sites_of(self.work.folder, self.work.table, it.store), None, stored):
+            for block in dumped(self.work.path(it.store), types, sites, None, types.plain_columns()):
                 cells = [lists[0] for lists in block]
-                self.keep(dict(zip(self.source.names, cells)), self.kept)
+                self.add(self.kept, cells)
                 yield from zip(cells[key], lines([list(map(str, own)) for own in cells]), repeat(0))
 
-    def keep(self, cells: dict[str, Any], digest: RowsDigest) -> None:
-        types = self.work.table.types
-        digest.add([it.unmap([cells[name] for name in it.stored]) for it in types.columns])
+    def add(self, digest: RowsDigest, cells: list[Stored]) -> None:
+        """Adds rows as a store keeps them, by columns, to a digest of canonical ones."""
+        stored = dict(zip(self.source.names, cells))
+        digest.add([it.unmap([stored[name] for name in it.stored]) for it in self.work.table.types.columns])
 
     def single(self, rows: Iterable[Row]) -> Iterator[Row]:
         """The rows, of two with one key the new one, if that may replace the other."""
@@ -150,10 +147,8 @@ class Run:
     def forget(self) -> None:
         """Takes the rows that were replaced out of what the new stores have to have."""
         types, gone = self.work.table.types, RowsDigest()
-        stored = [Column(name, make_type(kind)) for name, kind in types.stored()]
-        text = header(types) + "".join(f"{it}\n" for it in self.replaced)
-        for block in blocks(io.StringIO(text, newline=""), stored):
-            self.keep(dict(zip(self.source.names, [lists[0] for lists in block])), gone)
+        for block in blocks(io.StringIO(text_of(types, self.replaced), newline=""), types.plain_columns()):
+            self.add(gone, [lists[0] for lists in block])
         self.kept.join(gone, -1)
         self.replacements += len(self.replaced)
         self.replaced.clear()
@@ -176,7 +171,7 @@ class Run:
         if self.found != self.kept:
             raise DataError(f"the new stores give {self.found.rows} rows back that are not the {self.kept.rows} of {path} and of the table",
                             "nothing has changed: run it again, and report this if it stays")
-        left = work.commit(sorted([*self.before, *made], key=lambda it: (it.start is not None, it.start)))
+        left = work.commit(sorted([*self.staying, *made], key=lambda it: (it.start is not None, it.start)))
         table = work.table
         told = f"ok rows={table.rows()} stores={len(table.partitions)}\ncompared with {path}: {number_of(rows, 'row')}"
         told += f", {self.replacements} of which replaced others\n" if self.is_replacing else "\n"

@@ -4,7 +4,7 @@ from __future__ import annotations
 import hashlib
 import io
 import os
-from collections.abc import Iterator, Sequence
+from collections.abc import Iterable, Iterator, Sequence
 from dataclasses import dataclass, replace
 from itertools import islice
 from typing import IO, Any
@@ -12,8 +12,7 @@ from typing import IO, Any
 from . import program
 from .catalog import Catalog
 from .choice import cell_bytes
-from .columns import Column
-from .cuts import Counts
+from .cuts import Counts, candidates
 from .digest import RowsDigest
 from .draft import cut
 from .dumped import blocks
@@ -27,7 +26,7 @@ from .places import CATALOG, read
 from .sample import Sample
 from .table_csv import BLOCK, lines
 from .toml_text import toml_string
-from .types import FILE, Types, make_type
+from .types import FILE, Types
 from .workshop import give, sync, write
 
 SPOOL, CHUNK = "rows.csv", 1 << 20
@@ -37,18 +36,15 @@ TIMES = 3
 
 def row_bytes(rows: Sequence[Row], types: Types, catalog: Catalog) -> int:
     """The bytes of a row in a store, plainly encoded, as some rows have them."""
-    columns = {name: Column(name, make_type(kind)) for name, kind in types.stored()}
-    found = next(blocks(io.StringIO(text_of(types, rows), newline=""), list(columns.values())), [[()] for _ in columns])
-    sizes = {name: cell_bytes(cells[0]) for name, cells in zip(columns, found)}
+    columns = types.plain_columns()
+    found = next(blocks(io.StringIO(text_of(types, (line for _, line, _ in rows)), newline=""), columns), [[()] for _ in columns])
+    sizes = {it.name: cell_bytes(cells[0]) for it, cells in zip(columns, found)}
     return max(1, round(sum(sizes[name] for it in catalog.projections for name in it.columns)))
 
 
-def header(types: Types) -> str:
-    return lines([[name] for name, _ in types.stored()])[0] + "\n"
-
-
-def text_of(types: Types, rows: Sequence[Row]) -> str:
-    return header(types) + "".join(f"{line}\n" for _, line, _ in rows)
+def text_of(types: Types, rows: Iterable[str]) -> str:
+    """The CSV of rows as a store keeps them."""
+    return "".join(f"{it}\n" for it in [lines([[name] for name, _ in types.stored()])[0], *rows])
 
 
 @dataclass(frozen=True)
@@ -86,14 +82,14 @@ class Maker:
         sample: Sample[str] = Sample()
         block, last, size = [first] if first else [], None, 0
         with open(self.work.path(store + NEW, SPOOL), "w", encoding="utf-8", newline="") as file:
-            file.write(header(self.table.types))
+            file.write(text_of(self.table.types, ()))
             while block:
                 text = [line for _, line, _ in block]
                 file.write("\n".join(text) + "\n")
                 sample.take(len(text), text.__getitem__)
                 size, last = size + len(block), block[-1][0]
                 block = list(islice(rows, min(BLOCK, most - size)))
-        return Spool(Partition(store, start, last, size, ""), header(self.table.types) + "".join(f"{it}\n" for it in sample.items))
+        return Spool(Partition(store, start, last, size, ""), text_of(self.table.types, sample.items))
 
     def make(self, spool: Spool, _: IO[bytes]) -> tuple[Partition, RowsDigest]:
         """Makes the store of a spool, checks it, and reads its rows back. All of it is on the disk then."""
@@ -129,12 +125,12 @@ class Maker:
         """The catalog of a spool's store: the table's, cut by exact counts of its rows between candidates of its sample."""
         table = self.table
         names = list(dict.fromkeys(it.sort[0] for it in table.catalog.projections))
-        columns = [Column(name, make_type(table.catalog.kind(name))) for name in names]
+        columns = [next(it for it in table.types.plain_columns() if it.name == name) for name in names]
         sample: list[list[Any]] = [[] for _ in names]
         for block in blocks(io.StringIO(spool.sample, newline=""), columns):
             for values, cells in zip(sample, block):
                 values += cells[0]
-        counts = dict(zip(names, map(Counts, sample)))
+        counts = {name: Counts(candidates(values)) for name, values in zip(names, sample)}
         with open(self.work.path(spool.partition.store + NEW, SPOOL), encoding="utf-8", newline="") as file:
             for block in blocks(file, columns):
                 for name, cells in zip(names, block):

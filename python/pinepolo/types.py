@@ -56,6 +56,10 @@ class Types:
         own = [(self.key.name, "text" if self.key.columns else "int")] if self.key else []
         return own + [(name, it.type.kind) for it in self.columns for name in it.stored]
 
+    def plain_columns(self) -> list[Column]:
+        """The columns that the catalog has, as ints and texts."""
+        return [Column(name, make_type(kind)) for name, kind in self.stored()]
+
     def text(self, within: str = "") -> str:
         """The text of types.toml, or of the tables of TOML below a name such as `types.`"""
         parts = [f"version = {VERSION}\ndelimiter = {toml_string(self.delimiter)}\nencoding = {toml_string(self.encoding)}\n"

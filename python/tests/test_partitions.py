@@ -123,6 +123,14 @@ class TestImport(Partitions):
             self.refused(1, "t/000.1: order day: 4 rows have the value '2026-01-01', and a segment holds at most 2", "import", "--rows-per-store", 4,
                          self.drafted, self.csv, self.table)
 
+    def test_a_draft_of_more_rows_than_a_store_holds(self):
+        """Smaller segments stand in for large tables: what is drafted is one of several stores."""
+        words = ["draft", self.write("more.csv", HEAD + "".join(f"{it},2026-01-{1 + it % 25:02},1.00\n" for it in range(1000))), "--key", "id", "--k", 1, "--sites", 2]
+        with mock.patch.multiple("pinepolo.cuts", FULL=40, AIM=40, CANDIDATES=100, COMMON=1), mock.patch.multiple("pinepolo.draft", FULL=40, STORE_ROWS=500):
+            told = self.good(*words, "--order", "day", "-o", self.at / "more").splitlines()
+        self.assertEqual(told[7:11], ["these are more rows than one store holds: import them into stores by --memory; what follows is of one of 2", "",
+                                      "projection, its sort columns, and the rows of each segment", f"  by_id (id): {', '.join(['40'] * 12)}, 20"])
+
     def test_refused(self):
         words = ["import", "--rows-per-store", 4, self.drafted]
         self.refused(1, "bad.csv: record 11: id 12 already exists (record 3)", *words, self.write("bad.csv", TABLE + ROWS[2]), self.table)
