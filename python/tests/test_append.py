@@ -1,12 +1,14 @@
 """Append: the table is the old one or the new one; what is refused; what readers and killed runs leave."""
+import csv
 import fcntl
+import io
 import os
 import shutil
 import subprocess
 import sys
 import unittest
 
-from tables import TOP
+from tables import TOP, csv_text
 from test_partitions import HEAD, ROWS, TABLE, Partitions
 
 KILLS = os.environ.get("PINEPOLO_KILLS", "3")
@@ -38,6 +40,22 @@ class TestAppend(Partitions):
         self.good("import", "--rows-per-store", 6, folder, self.csv, table)
         self.good("append", table, self.csv)
         self.assertEqual(self.good("export", table), TABLE + "".join(ROWS))
+
+    def test_keys_of_any_text(self):
+        """Texts with commas, quotes, line breaks and U+0000 are bounds of ranges too, and rows that others replace."""
+        keys = ["", "\0", "a", "a,b", 'a"', "a\nb", "a\r", "b", "\u00e9", "\U0001f600", "\u00e9\n", "z" * 250]
+        rows = [[key, str(at % 5), key[::-1]] for at, key in enumerate(keys)]
+        folder, table = self.at / "d2", self.at / "texts"
+        for at, key in enumerate(("k", "v,w")):
+            self.good("draft", self.write("all.csv", csv_text([["k", "v", "w"], *rows])), "--key", key, "--k", 1, "--sites", 2, "--order", "w", "-o", folder)
+            self.good("import", "--rows-per-store", 3, folder, self.write("some.csv", csv_text([["k", "v", "w"], *rows[::-2]])), table)
+            changed = [[rows[3][0], rows[3][1], rows[3][2]]] if at else [[rows[3][0], "9", "\n"]]
+            self.good("append", "--replace", table, self.write("more.csv", csv_text([["k", "v", "w"], *rows[::2], *changed])))
+            wanted = {tuple(it) for it in [*rows[:3], *changed, *rows[4:]]}
+            self.assertEqual({tuple(it) for it in list(csv.reader(io.StringIO(self.good("export", table), newline="")))[1:]}, wanted)
+            self.good("check", table)
+            shutil.rmtree(folder)
+            shutil.rmtree(table)
 
     def test_refused(self):
         self.make()
