@@ -120,6 +120,9 @@ class Writing:
     def begin(self) -> None:
         """Removes what killed runs left, and takes a number."""
         before = read_table(self.folder) if is_table(self.folder) else None
+        for found in filter(None, map(STORE.fullmatch, os.listdir(self.folder))):
+            if before and int(found[2]) > before.generation:
+                raise DataError(f"{self.path(FILE)} is an older copy: {found[0]} is of a later run", f"put the {FILE} of that run there")
         self.table = before or self.first  # type: ignore[assignment]
         self.clear()
         if self.first and before:

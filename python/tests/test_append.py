@@ -3,6 +3,7 @@ import csv
 import fcntl
 import io
 import os
+import re
 import shutil
 import subprocess
 import sys
@@ -94,6 +95,19 @@ class TestAppend(Partitions):
         (self.at / "kept").rename(self.table / store)
         self.refused(1, f"t/{store}: its catalog.toml is not the one that table.toml names: it is a store of another table or generation", "export", self.table)
 
+    def test_an_older_table_file(self):
+        """The stores that it does not name are not removed."""
+        self.make()
+        older = (self.table / "table.toml").read_text()
+        self.append("9,2026-02-01,1.00\n")
+        newer = (self.table / "table.toml").read_text()
+        (self.table / "table.toml").write_text(older)
+        status, _, faults = self.run_data("append", self.table, self.csv)
+        self.assertEqual((status, re.sub("00[03].2", "STORE", faults.splitlines()[0])), (1, f"fault: {self.table}/table.toml is an older copy: STORE is of a later run"))
+        self.refused(1, "t/000.1 is missing, and table.toml names it", "export", self.table)
+        (self.table / "table.toml").write_text(newer)
+        self.assertEqual(self.good("export", self.table), self.rows("9,2026-02-01,1.00\n", *ROWS))
+
     def test_while_it_is_read(self):
         """Old stores stay as long as somebody reads what named them, and go with the next run."""
         self.make("--sites", self.sites())
@@ -148,7 +162,9 @@ class TestKills(Partitions):
         self.assertEqual(process.wait(), -9)
         os.environ["PINEPOLO"] = real
         self.assertTrue(list(self.at.glob("disks/1/*/catalog.toml")))
-        self.refused(1, "t has no stores: its import did not end", "export", self.table)
+        status, _, faults = self.run_data("export", self.table)
+        self.assertEqual((status, faults.splitlines()[0]), (1, f"fault: {self.table} has no stores: its import did not end"))
+        # (a killed run's `load` may live for a moment)
         while "is at work" in self.run_data(*words)[2]:
             pass
         self.assertEqual(self.good("export", self.table), TABLE)
