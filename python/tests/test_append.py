@@ -144,9 +144,8 @@ class TestAppend(Partitions):
 
 class TestKills(Partitions):
     def test_killed_at_any_moment(self):
-        for words in ([], ["--sites"]):
-            done = subprocess.run([sys.executable, TOP / "tools/kill-append", os.environ["PINEPOLO"], KILLS, *words], capture_output=True, check=False)
-            self.assertEqual((done.returncode, done.stderr), (0, b""), done.stdout)
+        done = subprocess.run([sys.executable, TOP / "tools/kill-append", os.environ["PINEPOLO"], KILLS, "--sites"], capture_output=True, check=False)
+        self.assertEqual((done.returncode, done.stderr), (0, b""), done.stdout)
 
     def test_a_killed_import(self):
         """There is no table after it, and the next import ends well. It also removes what is on the disks."""
