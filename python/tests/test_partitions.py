@@ -110,6 +110,10 @@ class TestImport(Partitions):
         self.make("--sites", self.sites())
         self.assertEqual(sorted(os.listdir(self.at / "disks/1")), ["000.1", "001.1", "002.1"])
         self.assertEqual(sorted(os.listdir(self.at / "disks/1/000.1")), ["catalog.toml", "p0.s0.del", "p0.s0.seg", "types.toml"])
+        # (another table would have its stores in the same folders)
+        self.refused(1, "other/000.1: disks/1/000.1 is not an empty folder and cannot be made", "import", "--memory", "4G", "--sites", self.sites(), self.drafted, self.csv,
+                     self.at / "other")
+        self.assertEqual(self.good("export", self.table), TABLE)
         shutil.rmtree(self.at / "disks/1")
         self.assertEqual(self.good("export", "--lost", 1, self.table), TABLE)
         shutil.rmtree(self.table)
