@@ -176,4 +176,4 @@ class Run:
         told = f"ok rows={table.rows()} stores={len(table.partitions)}\ncompared with {path}: {number_of(rows, 'row')}"
         told += f", {self.replacements} of which replaced others\n" if self.is_replacing else "\n"
         told += f"made: {', '.join(it.store for it in made)}\n" if made else ""
-        return told + (f"old stores that are still read go with the next run: {', '.join(left)}\n" if left else "")
+        return told + (f"old stores that are still read, or can't be removed, go with the next run: {', '.join(left)}\n" if left else "")

@@ -14,6 +14,7 @@ from __future__ import annotations
 import fcntl
 import hashlib
 import os
+import re
 import shutil
 from collections.abc import Iterator, Sequence
 from contextlib import contextmanager
@@ -26,6 +27,7 @@ from .places import CATALOG, read, read_sites
 from .workshop import LOCK, PARTIAL, locked, remove, sync, write
 
 READERS, NEW, ROWS, SITES = "READERS", ".new", "rows.new", "sites.toml"
+MADE = re.compile(rf"({STORE.pattern})(?:{re.escape(NEW)}|{re.escape(PARTIAL)})?")
 
 
 def is_table(path: str) -> bool:
@@ -151,7 +153,7 @@ class Writing:
         named = {it.store for it in self.table.partitions}
         names = os.listdir(self.folder)
         left = []
-        for store in sorted({it.removesuffix(NEW).removesuffix(PARTIAL) for it in names if STORE.fullmatch(it.removesuffix(NEW).removesuffix(PARTIAL))}):
+        for store in sorted({found[1] for found in map(MADE.fullmatch, names) if found}):
             try:
                 if store in named:
                     rmtree(self.path(store + NEW))

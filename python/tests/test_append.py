@@ -114,7 +114,7 @@ class TestAppend(Partitions):
         with open(self.table / "READERS") as readers:
             fcntl.flock(readers, fcntl.LOCK_SH)
             told = self.append("9,2026-02-01,1.00\n").splitlines()[-1]
-            self.assertEqual(told, "old stores that are still read go with the next run: 000.1")
+            self.assertEqual(told, "old stores that are still read, or can't be removed, go with the next run: 000.1")
             self.assertTrue((self.at / "disks/1/000.1/catalog.toml").exists())
         self.append("40,2026-02-01,1.00\n")
         self.assertEqual(sorted(os.listdir(self.at / "disks/1")), ["000.2", "001.1", "002.1", "003.2", "004.3"])
