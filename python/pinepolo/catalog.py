@@ -8,8 +8,8 @@ from dataclasses import dataclass
 from typing import Any
 
 from .errors import DataError
+from .kinds import TEXT_BYTES
 
-TEXT_BYTES = 255
 NAME = re.compile(r"[a-z][a-z0-9_]{0,31}")
 TEXTS, INTEGERS = ("columns", "sort", "joins"), ("codes", "sites")
 

@@ -15,6 +15,7 @@ from itertools import accumulate
 from typing import Any
 
 from .broken import need
+from .kinds import GREATEST, LEAST
 
 # Some cells of a column, and how one is read: the cell at an offset of a body, and the offset behind it.
 Cells = Sequence[Any]
@@ -23,7 +24,6 @@ ReadCell = Callable[[bytes, int], tuple[Any, int]]
 BATCH = 65_536
 # Positions of a block of differences, of which the first has its value in full.
 BLOCK = 128
-LEAST, GREATEST = -2**63, 2**63 - 1
 RUN = struct.Struct(">II")
 ANCHOR = struct.Struct(">Iq")
 INT = struct.Struct(">q")

@@ -8,7 +8,7 @@ from typing import Any
 from .catalog import Catalog
 from .catalog import Projection as Placed
 from .naming import name_of
-from .toml_text import toml_string
+from .toml_text import toml_list, toml_string
 
 PROJECTIONS, SITES, COLUMNS, SORT = 8, 16, 32, 4
 
@@ -70,17 +70,13 @@ def value_text(value: Any) -> str:
     return str(value) if isinstance(value, int) else toml_string(value)
 
 
-def strings(names: Sequence[str]) -> str:
-    return f"[{', '.join(map(toml_string, names))}]"
-
-
 def catalog_text(catalog: Catalog, within: str = "") -> str:
     """The text of catalog.toml, or of the tables of TOML below a name such as `catalog.`"""
     version, safety = (2, f"safety = {toml_string(catalog.safety)}\n") if catalog.safety != "whole" else (1, "")
     parts = [f"version = {version}\ntable = {toml_string(catalog.table)}\nkey = {toml_string(catalog.key)}\nsites = {catalog.sites}\n{safety}"]
     parts += [f"\n[[{within}column]]\nname = {toml_string(it.name)}\nkind = {toml_string(it.kind)}\n" for it in catalog.columns]
     for it in catalog.projections:
-        parts.append(f"\n[[{within}projection]]\nname = {toml_string(it.name)}\ncolumns = {strings(it.columns)}\ncodes = {list(it.codes)}\n"
-                     f"sort = {strings(it.sort)}\ncuts = [{', '.join(map(value_text, it.cuts))}]\n"
-                     f"sites = {list(it.sites)}\njoins = {strings(it.joins)}\n")
+        parts.append(f"\n[[{within}projection]]\nname = {toml_string(it.name)}\ncolumns = {toml_list(it.columns)}\ncodes = {list(it.codes)}\n"
+                     f"sort = {toml_list(it.sort)}\ncuts = [{', '.join(map(value_text, it.cuts))}]\n"
+                     f"sites = {list(it.sites)}\njoins = {toml_list(it.joins)}\n")
     return "".join(parts)

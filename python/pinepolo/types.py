@@ -25,7 +25,7 @@ from .errors import REFUSED, DataError
 from .kinds import PARTS, Bool, DecimalType, Float, Int, LongText, Text, Type
 from .naming import first_repeated
 from .times import LIKE, LIKES, DateType, Timestamp
-from .toml_text import toml_string
+from .toml_text import toml_list, toml_string
 
 FILE = "types.toml"
 VERSION = 1
@@ -67,10 +67,6 @@ class Types:
         if self.key:
             parts.append(f"\n[{within}key]\nname = {toml_string(self.key.name)}\ncolumns = {toml_list(self.key.columns)}\n")
         return "".join(parts + [column_text(it, within) for it in self.columns])
-
-
-def toml_list(items: tuple[str, ...]) -> str:
-    return f"[{', '.join(map(toml_string, items))}]"
 
 
 def column_text(column: Column, within: str) -> str:
