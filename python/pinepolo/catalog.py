@@ -81,6 +81,11 @@ def read_catalog(data: bytes, where: str) -> Catalog:
         need_words(document)
     except ValueError:
         raise DataError(f"{where}: catalog: not TOML", "mend the catalog") from None
+    return catalog_in(document, where)
+
+
+def catalog_in(document: dict[str, Any], where: str) -> Catalog:
+    """The catalog that a document of TOML has. A DataError says which rule it breaks first."""
     try:
         catalog = typed(document)
         for rule in RULES:

@@ -5,7 +5,7 @@ from collections.abc import Iterator, Sequence
 from dataclasses import replace
 
 from .block import drafted_key, taken
-from .cuts import Counts
+from .cuts import Counts, candidates
 from .errors import DataError
 from .keys import Repeats
 from .kinds import Stored
@@ -23,7 +23,7 @@ class Counted:
         if types.key:
             sample[types.key.name] = drafted_key(types.key, sample, range(len(cells[0])))
         self.sample = {name: list(it) for name, it in sample.items()}
-        self.counts = {name: Counts(self.sample[name]) for name in names}
+        self.counts = {name: Counts(candidates(self.sample[name])) for name in names}
         own = types.key.columns if types.key else (key,)
         needed = {*names, *own}
         # (some column is read even if only row numbers are counted)

@@ -22,16 +22,21 @@ def above(value: Any) -> Any:
     return value + "\0" if utf8_length(value) < TEXT_BYTES else None
 
 
-class Counts:
-    """The rows of a column between candidate cuts."""
+def candidates(sample: Sequence[Any]) -> list[Any]:
+    """Cuts to choose from: about a thousand values of a sample, common ones among them, each with the value next above."""
+    ordered = sorted(sample)
+    common = [it for it, count in Counter(ordered).most_common(200) if count * COMMON > len(ordered)]
+    found = set(ordered[::max(1, len(ordered) // CANDIDATES)])
+    found.update(common)
+    found.update(it for it in map(above, common) if it is not None)
+    return sorted(found)
 
-    def __init__(self, sample: Sequence[Any]) -> None:
-        ordered = sorted(sample)
-        common = [it for it, count in Counter(ordered).most_common(200) if count * COMMON > len(ordered)]
-        found = set(ordered[::max(1, len(ordered) // CANDIDATES)])
-        found.update(common)
-        found.update(it for it in map(above, common) if it is not None)
-        self.cuts = sorted(found)
+
+class Counts:
+    """The rows of a column between cuts."""
+
+    def __init__(self, cuts: Sequence[Any]) -> None:
+        self.cuts = cuts
         self.counts = [0] * (len(self.cuts) + 1)
         self.waiting: list[Any] = []
 
@@ -53,23 +58,23 @@ class Counts:
         values.clear()
 
     def sizes(self) -> list[int]:
-        """The rows below the first candidate, between each two, and from the last on."""
+        """The rows below the first cut, between each two, and from the last on."""
         self.count()
         return self.counts
 
     def fullest(self) -> tuple[Any, int]:
-        """The candidate with the most rows from it up to the next one, and how many they are."""
+        """The cut with the most rows from it up to the next one, and how many they are."""
         sizes = self.sizes()
         at = max(range(len(sizes)), key=sizes.__getitem__)
         return self.cuts[max(0, at - 1)], sizes[at]
 
 
-def filled(candidates: Sequence[Any], sizes: Sequence[int], most: int) -> tuple[list[Any], list[int]]:
+def filled(among: Sequence[Any], sizes: Sequence[int], most: int) -> tuple[list[Any], list[int]]:
     """Cuts, and the rows of each segment, if segments are filled from the left to at most so many rows."""
     cuts, rows = [], [0]
     for at, size in enumerate(sizes):
         if rows[-1] and rows[-1] + size > most:
-            cuts.append(candidates[at - 1])
+            cuts.append(among[at - 1])
             rows.append(0)
         rows[-1] += size
     if not rows[-1] and cuts:
@@ -78,13 +83,13 @@ def filled(candidates: Sequence[Any], sizes: Sequence[int], most: int) -> tuple[
     return cuts, rows
 
 
-def even_cuts(candidates: Sequence[Any], sizes: Sequence[int], wanted: int) -> tuple[list[Any], list[int]] | None:
+def even_cuts(among: Sequence[Any], sizes: Sequence[int], wanted: int) -> tuple[list[Any], list[int]] | None:
     """Cuts into the wanted number of segments, or more if these would be above 1,000,000 rows, as even as can be.
 
     None if a range between two candidates is too large for a segment, or 16 segments are too few.
     """
     for most in (AIM, FULL):
-        segments = len(filled(candidates, sizes, most)[1])
+        segments = len(filled(among, sizes, most)[1])
         if segments <= SEGMENTS:
             break
     else:
@@ -95,8 +100,8 @@ def even_cuts(candidates: Sequence[Any], sizes: Sequence[int], wanted: int) -> t
     low, high = max(1, -(-sum(sizes) // wanted)), max(most, max(sizes))
     while low < high:
         middle = (low + high) // 2
-        if len(filled(candidates, sizes, middle)[1]) <= wanted:
+        if len(filled(among, sizes, middle)[1]) <= wanted:
             high = middle
         else:
             low = middle + 1
-    return filled(candidates, sizes, high)
+    return filled(among, sizes, high)

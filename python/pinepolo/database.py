@@ -50,12 +50,12 @@ def sql_values(column: Column, lists: Sequence[Stored]) -> list[Any]:
     return column.back(lists, list, None)
 
 
-def fill(database: sqlite3.Connection, columns: Sequence[Column], blocks: Iterable[list[list[Stored]]]) -> None:
-    """Inserts blocks of rows of these columns."""
+def fill(database: sqlite3.Connection, columns: Sequence[Column], blocks: Iterable[list[list[Any]]]) -> None:
+    """Inserts blocks of values of these columns."""
     marks = ", ".join("?" for _ in columns)
     insert = f"INSERT INTO t_scaled ({', '.join(name(it.name) for it in columns)}) VALUES ({marks})"
     for block in blocks:
-        database.executemany(insert, zip(*map(sql_values, columns, block)))
+        database.executemany(insert, zip(*block))
 
 
 def dec(text: str | None) -> int | None:

@@ -24,5 +24,9 @@ class RowsDigest:
             total += int.from_bytes(sha256(row.encode()).digest(), "big")
         self.total = total % MODULUS
 
+    def join(self, other: RowsDigest, sign: int = 1) -> None:
+        """Adds the rows of another table, or takes them away if the sign is -1."""
+        self.rows, self.total = self.rows + sign * other.rows, (self.total + sign * other.total) % MODULUS
+
     def __eq__(self, other: object) -> bool:
         return isinstance(other, RowsDigest) and (self.rows, self.total) == (other.rows, other.total)

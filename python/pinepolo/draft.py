@@ -6,9 +6,10 @@ import shutil
 from collections.abc import Sequence
 from dataclasses import dataclass, field
 
+from .catalog import Catalog, Field
 from .choice import code_of
 from .counted import Counted
-from .cuts import FULL, SEGMENTS, even_cuts
+from .cuts import AIM, FULL, SEGMENTS, Counts, even_cuts
 from .drafted_types import drafted_types, sortable
 from .errors import DataError, device
 from .layout import PROJECTIONS, SITES, SORT, Projection, catalog_text, orders_of, projections_of
@@ -20,6 +21,8 @@ from .types import FILE, Types
 
 # Rows of the sample by which codes are chosen.
 MEASURED = 8192
+# Rows of one store of a table that a store can't hold, as the draft takes them.
+STORE_ROWS = 2 * AIM
 
 
 @dataclass(frozen=True)
@@ -40,15 +43,18 @@ def draft(table: Table, wanted: Wanted, folder: str, given: Types | None = None)
     possible(wanted)
     seen = Seen(table, wanted.columns, given)
     types, key = drafted_types(seen, wanted.key)
-    projections = projections_of(orders_of(key, given_orders(seen, types, wanted.orders), wanted.k), wanted.sites)
+    orders = orders_of(key, given_orders(seen, types, wanted.orders), wanted.k)
+    projections = projections_of(orders, wanted.sites, [name for name, _ in types.stored()])
     counted = Counted(seen, types, key, list(dict.fromkeys(it.sort[0] for it in projections)))
+    stores = 1 if seen.rows <= FULL * SEGMENTS else -(-seen.rows // STORE_ROWS)
     for it in projections:
-        cut(it, counted)
+        cut(it, counted.counts[it.sort[0]], types, stores)
         encode(it, counted)
     stem = os.path.splitext(os.path.basename(table.path))[0]
-    text = catalog_text(name_of(stem), key, wanted.sites, types.stored(), projections)
-    write_folder(folder, {"catalog.toml": text, FILE: types.text()})
-    return summary(types, seen, projections, wanted.sites)
+    columns = tuple(Field(name, kind) for name, kind in types.stored())
+    catalog = Catalog(name_of(stem), key, wanted.sites, "whole", columns, tuple(it.placed() for it in projections))
+    write_folder(folder, {"catalog.toml": catalog_text(catalog), FILE: types.text()})
+    return summary(types, seen, projections, wanted.sites, stores)
 
 
 def possible(wanted: Wanted) -> None:
@@ -74,20 +80,22 @@ def given_orders(seen: Seen, types: Types, orders: Sequence[list[str]]) -> list[
     return found
 
 
-def cut(projection: Projection, counted: Counted) -> None:
-    """Cuts a projection into a segment for each of its sites, or into more if these were too large."""
+def cut(projection: Projection, counts: Counts, types: Types, stores: int = 1) -> None:
+    """Cuts a projection into a segment for each of its sites, or into more if these were too large.
+
+    The counted rows are those of so many stores, of which each has its part.
+    """
     name = projection.sort[0]
-    counts = counted.counts[name]
-    sizes = counts.sizes()
+    sizes = [-(-it // stores) for it in counts.sizes()]
     found = even_cuts(counts.cuts, sizes, len(projection.sites))
     if found is None:
         value, rows = counts.fullest()
-        if rows > FULL:
-            cell = next(it for it in counted.types.columns if it.name == name).unmap([[value]])[0]
+        if (rows := -(-rows // stores)) > FULL:
+            cell = next((it.unmap([[value]])[0] for it in types.columns if it.stored == [name]), str(value))
             raise DataError(f"order {name}: {rows} rows have the value {cell!r}, and a segment holds at most {FULL}",
                             "sort by a column whose commonest value has fewer rows first")
         raise DataError(f"order {name}: {sum(sizes)} rows do not fit into {SEGMENTS} segments, each of whole values and at most {FULL} rows",
-                        "sort by a column with more values first, or split the table into several stores")
+                        "sort by a column with more values first, or import it into several stores (docs/data.md)")
     projection.cuts, projection.rows = found
 
 

@@ -17,7 +17,7 @@ from .types import Types
 
 
 def dump_words(store: str, sites: str | None, lost: str | None) -> list[str]:
-    return ["dump", "--quiet", *(["--sites", sites] if sites else []), *(["--lost", lost] if lost else []), "--", store]
+    return ["dump", "--quiet", *program.site_words(sites), *(["--lost", lost] if lost else []), "--", store]
 
 
 def dumped(store: str, types: Types, sites: str | None = None, lost: str | None = None,

@@ -1,4 +1,4 @@
-"""`pinepolo-data export`: the table of a store as CSV, as lines of JSON, or in a file of SQLite."""
+"""`pinepolo-data export`: a table as CSV, as lines of JSON, or in a file of SQLite."""
 from __future__ import annotations
 
 import json
@@ -7,32 +7,28 @@ import os
 import sqlite3
 import tempfile
 from collections.abc import Iterable, Iterator, Sequence
+from typing import Any
 
 from .columns import Column
 from .database import fill, make_tables
-from .dumped import dumped
 from .errors import DEVICE, DataError, device
 from .kinds import Bool, DecimalType, Float, Int, Stored
-from .places import living_sites, types_of
+from .reading import Blocks, Reading
+from .rows import StoreRows
 from .table_csv import lines
-from .types import Types
 
-Blocks = Iterable[list[list[Stored]]]
-
-
-def opened(store: str, sites: str | None, lost: str | None) -> tuple[Types, Blocks]:
-    types = types_of(store, living_sites(sites, lost))
-    return types, dumped(store, types, sites, lost)
+Rows = StoreRows | Reading
 
 
-def csv_text(store: str, sites: str | None = None, lost: str | None = None) -> Iterator[str]:
+def csv_text(rows: Rows) -> Iterator[str]:
     """The table as CSV, with the headers that it came with, block by block."""
-    types, blocks = opened(store, sites, lost)
-    head = lines([[it.header] for it in types.columns])[0] + "\n"
-    for block in blocks:
-        yield head + "\n".join(lines([it.unmap(lists) for it, lists in zip(types.columns, block)])) + "\n"
-        head = ""
-    yield head
+    columns = rows.types.columns
+
+    def texts(blocks: Blocks) -> Iterator[str]:
+        for block in blocks:
+            yield "\n".join(lines([it.unmap(lists) for it, lists in zip(columns, block)])) + "\n"
+
+    return rows.texts(lines([[it.header] for it in columns])[0] + "\n", texts)
 
 
 def json_cells(column: Column, lists: Sequence[Stored]) -> list[str]:
@@ -49,25 +45,28 @@ def json_float(value: float) -> str:
     return repr(value) if math.isfinite(value) else f'"{value!r}"'
 
 
-def json_text(store: str, sites: str | None = None, lost: str | None = None) -> Iterator[str]:
+def json_text(rows: Rows) -> Iterator[str]:
     """The table as an object of JSON a line, block by block."""
-    types, blocks = opened(store, sites, lost)
-    heads = [json.dumps(it.name) + ":" for it in types.columns]
-    for block in blocks:
-        cells = [[head + it for it in json_cells(column, lists)] for head, column, lists in zip(heads, types.columns, block)]
-        yield "".join(f"{{{','.join(row)}}}\n" for row in zip(*cells))
+    columns = rows.types.columns
+    heads = [json.dumps(it.name) + ":" for it in columns]
+
+    def texts(blocks: Blocks) -> Iterator[str]:
+        for block in blocks:
+            cells = [[head + it for it in json_cells(column, lists)] for head, column, lists in zip(heads, columns, block)]
+            yield "".join(f"{{{','.join(row)}}}\n" for row in zip(*cells))
+
+    return rows.texts("", texts)
 
 
-def to_sqlite(store: str, path: str, sites: str | None = None, lost: str | None = None) -> None:
+def to_sqlite(rows: Rows, path: str) -> None:
     """Makes a file of SQLite with `t_scaled` and `t`. It has its name only when it is whole, and takes none that is there."""
     if os.path.lexists(path):
         raise DataError(f"{path} already exists", "give another path")
-    types, blocks = opened(store, sites, lost)
     around, name = os.path.split(os.path.abspath(path))
     try:
         with tempfile.TemporaryDirectory(prefix=f"{name}.partial.", dir=around) as folder:
             partial = os.path.join(folder, name)
-            write_sqlite(partial, types.columns, blocks)
+            write_sqlite(partial, rows.types.columns, rows.values(rows.types.columns))
             take_name(partial, path)
     except FileExistsError:
         raise DataError(f"{path} already exists", "give another path") from None
@@ -89,7 +88,7 @@ def take_name(partial: str, path: str) -> None:
         os.replace(partial, path)
 
 
-def write_sqlite(path: str, columns: Sequence[Column], blocks: Blocks) -> None:
+def write_sqlite(path: str, columns: Sequence[Column], blocks: Iterable[list[list[Any]]]) -> None:
     database = sqlite3.connect(path, isolation_level=None)
     try:
         database.execute("PRAGMA journal_mode = OFF")

@@ -2,7 +2,7 @@
 from __future__ import annotations
 
 import subprocess
-from collections.abc import Iterator
+from collections.abc import Iterable, Iterator, Sequence
 
 from . import program
 from .block import header_places, taken
@@ -22,10 +22,8 @@ def import_table(folder: str, path: str, store: str, sites: str | None = None) -
     places = header_places(table, types)
     with Workshop(folder, store, sites) as shop:
         wanted = RowsDigest()
-        told = load(shop, mapped(table, types, places, wanted))
-        found = RowsDigest()
-        for block in dumped(shop.store, types, sites):
-            found.add([it.unmap(lists) for it, lists in zip(types.columns, block)])
+        told = load(shop.catalog, shop.store, sites, mapped(table, types, places, wanted), [shop.lock])
+        found = given_back(shop.store, types, sites)
         if found != wanted:
             raise DataError(f"the store gives {found.rows} rows back that are not the {wanted.rows} of {path}",
                             "nothing is left of the store: import it again, and report this if it stays")
@@ -33,15 +31,29 @@ def import_table(folder: str, path: str, store: str, sites: str | None = None) -
     return f"{told}compared with {path}: {wanted.rows} rows"
 
 
-def load(shop: Workshop, blocks: Iterator[bytes]) -> str:
-    words = ["load", "--quiet", *shop.load_words(), "--", shop.catalog, "-", shop.store]
-    with program.started(words, stdin=subprocess.PIPE, stdout=subprocess.PIPE, kept=(shop.lock,)) as process:
-        assert process.stdin and process.stdout
-        for block in blocks:
-            process.stdin.write(block)
-        process.stdin.close()
-        told = process.stdout.read().decode()
+def load(catalog: str, store: str, sites: str | None, blocks: Iterable[bytes], locks: Sequence[int]) -> str:
+    """Makes a store of blocks of CSV, and answers what `load` said. The program keeps the locks."""
+    words = ["load", "--quiet", *program.site_words(sites), "--", catalog, "-", store]
+    try:
+        with program.started(words, stdin=subprocess.PIPE, stdout=subprocess.PIPE, kept=locks) as process:
+            assert process.stdin and process.stdout
+            for block in blocks:
+                process.stdin.write(block)
+            process.stdin.close()
+            told = process.stdout.read().decode()
+    except DataError as error:
+        # (what `load` left goes anyhow)
+        error.advice = error.advice.replace(" with --replace-partial", "")
+        raise
     return told
+
+
+def given_back(store: str, types: Types, sites: str | None) -> RowsDigest:
+    """The digest of the canonical rows that a store gives back."""
+    found = RowsDigest()
+    for block in dumped(store, types, sites):
+        found.add([it.unmap(lists) for it, lists in zip(types.columns, block)])
+    return found
 
 
 def mapped(table: Table, types: Types, places: list[int], digest: RowsDigest) -> Iterator[bytes]:

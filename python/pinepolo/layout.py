@@ -5,6 +5,8 @@ from collections.abc import Sequence
 from dataclasses import dataclass, field
 from typing import Any
 
+from .catalog import Catalog
+from .catalog import Projection as Placed
 from .naming import name_of
 from .toml_text import toml_list, toml_string
 
@@ -13,11 +15,13 @@ PROJECTIONS, SITES, COLUMNS, SORT = 8, 16, 32, 4
 
 @dataclass
 class Projection:
-    """A copy of all columns in an order: names of the catalog, cuts with the rows of each segment, and sites."""
+    """A copy of some columns in an order: names of the catalog, cuts with the rows of each segment, and sites."""
 
     sort: list[str]
     sites: list[int]
-    name: str = ""
+    name: str
+    columns: list[str]
+    joins: list[str] = field(default_factory=list)
     cuts: list[Any] = field(default_factory=list)
     rows: list[int] = field(default_factory=list)
     codes: list[int] = field(default_factory=list)
@@ -28,6 +32,16 @@ class Projection:
         segments = len(self.rows)
         return [self.sites[at * len(self.sites) // segments] for at in range(segments)]
 
+    def placed(self) -> Placed:
+        """The projection as a catalog has it."""
+        return Placed(self.name, tuple(self.columns), tuple(self.codes), tuple(self.sort), tuple(self.cuts),
+                      tuple(self.segment_sites()), tuple(self.joins))
+
+
+def uncut(it: Placed) -> Projection:
+    """A projection of a catalog that is to be cut anew, on the same sites."""
+    return Projection(list(it.sort), list(dict.fromkeys(it.sites)), it.name, list(it.columns), list(it.joins), codes=list(it.codes))
+
 
 def orders_of(key: str, given: Sequence[list[str]], k: int) -> list[list[str]]:
     """The orders of the projections: those that are given, that of the key if they are too few, and again from the first."""
@@ -37,8 +51,8 @@ def orders_of(key: str, given: Sequence[list[str]], k: int) -> list[list[str]]:
     return orders + [orders[at % len(orders)] for at in range(k + 1 - len(orders))]
 
 
-def projections_of(orders: Sequence[list[str]], sites: int) -> list[Projection]:
-    """The projections on their sites. Each has sites of its own, as long as there are enough of them.
+def projections_of(orders: Sequence[list[str]], sites: int, columns: Sequence[str]) -> list[Projection]:
+    """The projections of all columns on their sites. Each has sites of its own, as long as there are enough of them.
 
     So K is one less than the number of projections, or than the number of sites if these are fewer.
     """
@@ -48,7 +62,7 @@ def projections_of(orders: Sequence[list[str]], sites: int) -> list[Projection]:
         group = at % groups
         own = range(group * sites // groups, (group + 1) * sites // groups)
         name = name_of("by_" + "_".join(order), [it.name for it in found])
-        found.append(Projection(order, [it + 1 for it in own], name))
+        found.append(Projection(order, [it + 1 for it in own], name, list(columns)))
     return found
 
 
@@ -56,13 +70,13 @@ def value_text(value: Any) -> str:
     return str(value) if isinstance(value, int) else toml_string(value)
 
 
-def catalog_text(table: str, key: str, sites: int, columns: Sequence[tuple[str, str]], projections: Sequence[Projection]) -> str:
-    """The text of catalog.toml, version 1, without join indexes. `columns` are names and kinds."""
-    parts = [f"version = 1\ntable = {toml_string(table)}\nkey = {toml_string(key)}\nsites = {sites}\n"]
-    parts += [f"\n[[column]]\nname = {toml_string(name)}\nkind = {toml_string(kind)}\n" for name, kind in columns]
-    names = [name for name, _ in columns]
-    for it in projections:
-        parts.append(f"\n[[projection]]\nname = {toml_string(it.name)}\ncolumns = {toml_list(names)}\ncodes = {it.codes}\n"
+def catalog_text(catalog: Catalog, within: str = "") -> str:
+    """The text of catalog.toml, or of the tables of TOML below a name such as `catalog.`"""
+    version, safety = (2, f"safety = {toml_string(catalog.safety)}\n") if catalog.safety != "whole" else (1, "")
+    parts = [f"version = {version}\ntable = {toml_string(catalog.table)}\nkey = {toml_string(catalog.key)}\nsites = {catalog.sites}\n{safety}"]
+    parts += [f"\n[[{within}column]]\nname = {toml_string(it.name)}\nkind = {toml_string(it.kind)}\n" for it in catalog.columns]
+    for it in catalog.projections:
+        parts.append(f"\n[[{within}projection]]\nname = {toml_string(it.name)}\ncolumns = {toml_list(it.columns)}\ncodes = {list(it.codes)}\n"
                      f"sort = {toml_list(it.sort)}\ncuts = [{', '.join(map(value_text, it.cuts))}]\n"
-                     f"sites = {it.segment_sites()}\njoins = []\n")
+                     f"sites = {list(it.sites)}\njoins = {toml_list(it.joins)}\n")
     return "".join(parts)

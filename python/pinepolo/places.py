@@ -13,14 +13,14 @@ CATALOG = "catalog.toml"
 LONGEST, SITES_BYTES = 1 << 20, 65_536
 
 
-def read(path: str) -> bytes:
+def read(path: str, longest: int = LONGEST) -> bytes:
     try:
         with open(path, "rb") as file:
-            data = file.read(LONGEST + 1)
+            data = file.read(longest + 1)
     except OSError as error:
         raise DataError(f"could not read {path}: {error.strerror}", "check the path and the permissions", DEVICE) from None
-    if len(data) > LONGEST:
-        raise DataError(f"{path} has more than {LONGEST} bytes", "check that it is the right file")
+    if len(data) > longest:
+        raise DataError(f"{path} has more than {longest} bytes", "check that it is the right file")
     return data
 
 
@@ -50,30 +50,34 @@ def one_of(name: str, found: dict[str, bytes]) -> tuple[str, bytes]:
 
 def read_sites(path: str) -> dict[int, str]:
     """The folder of each site that a SITES file names; a relative path begins at the folder of the file."""
-    def refuse(what: str) -> DataError:
-        return DataError(f"{path}: {what}", "mend it by docs/formats.md", USAGE)
-
     try:
         data = read(path)
         if len(data) > SITES_BYTES:
-            raise refuse(f"more than {SITES_BYTES} bytes")
-        document = tomllib.loads(data.decode())
-    except ValueError:
-        raise refuse("not TOML") from None
+            raise ValueError(f"more than {SITES_BYTES} bytes")
+        return sites_in(tomllib.loads(data.decode()), os.path.dirname(path))
+    except (tomllib.TOMLDecodeError, UnicodeDecodeError):
+        what = "not TOML"
+    except ValueError as error:
+        what = str(error)
+    raise DataError(f"{path}: {what}", "mend it by docs/formats.md", USAGE)
+
+
+def sites_in(document: dict[str, Any], around: str) -> dict[int, str]:
+    """The folder of each site that a document of TOML names, from a folder on. A ValueError says what is wrong."""
     tables = document.get("site")
     if not isinstance(tables, list):
-        raise refuse("no [[site]] tables")
+        raise ValueError("no [[site]] tables")
     found: dict[int, str] = {}
     for place, table in enumerate(tables):
         values: dict[str, Any] = table if isinstance(table, dict) else {}
         number, folder = values.get("number"), values.get("folder")
         if type(number) is not int or not 1 <= number <= 16:
-            raise refuse(f"[[site]] {place}: number is missing or not an integer between 1 and 16")
+            raise ValueError(f"[[site]] {place}: number is missing or not an integer between 1 and 16")
         if not isinstance(folder, str):
-            raise refuse(f"[[site]] {place}: folder is missing or not a string")
+            raise ValueError(f"[[site]] {place}: folder is missing or not a string")
         if number in found:
-            raise refuse(f"site {number} specified more than once")
-        found[number] = os.path.join(os.path.dirname(path), folder)
+            raise ValueError(f"site {number} specified more than once")
+        found[number] = os.path.join(around, folder)
     return found
 
 

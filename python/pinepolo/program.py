@@ -82,6 +82,22 @@ def fault(verb: str, status: int, text: str) -> DataError:
     return DataError(found["fault"], found["next"], status, before)
 
 
+def site_words(sites: str | None) -> list[str]:
+    """The words that name a SITES file, if there is one."""
+    return ["--sites", sites] if sites else []
+
+
+def check(store: str, sites: str | None) -> str:
+    """What `check` says of a sound store. What it says of another one is raised."""
+    words = ["check", "--quiet", *site_words(sites), "--", store]
+    done = subprocess.run([find(), *words], stdin=subprocess.DEVNULL, stdout=subprocess.PIPE, stderr=subprocess.STDOUT,
+                          preexec_fn=ending_with(os.getpid()), check=False)
+    text = done.stdout.decode(errors="replace")
+    if done.returncode:
+        raise fault(words[0], done.returncode, text)
+    return text
+
+
 def answer(words: Sequence[str], **streams: int) -> str:
     """What the program prints on standard output."""
     with started(words, stdout=subprocess.PIPE, **streams) as process:

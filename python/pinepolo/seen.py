@@ -1,20 +1,17 @@
 """The first pass of a draft: the types of the columns, a sample of the rows, and how many there are."""
 from __future__ import annotations
 
-import random
 from collections.abc import Sequence
 from dataclasses import replace
 
 from .block import header_places, taken
-from .cuts import FULL, SEGMENTS
 from .errors import DataError
 from .guess import Guess
 from .layout import COLUMNS
 from .naming import name_of
+from .sample import Sample
 from .table_csv import Table
 from .types import Types
-
-SAMPLE = 20_000
 
 
 def place_of(name: str, headers: Sequence[str], path: str) -> int:
@@ -43,7 +40,7 @@ class Seen:
         self.headers = [header[at] for at in self.places]
         self.guesses = [] if types else [Guess(it) for it in self.headers]
         self.rows = 0
-        self.sample: list[list[str]] = []
+        self.sample: Sample[list[str]] = Sample()
         self.read()
 
     def look(self, first: int, columns: list[list[str]]) -> None:
@@ -54,20 +51,12 @@ class Seen:
             guess.take(cells, first)
 
     def read(self) -> None:
-        chance, step = random.Random(1), 1
         for first, columns in self.table.blocks(self.places):
             self.look(first, columns)
             size = len(columns[0])
             self.rows += size
-            for at in chance.sample(range(size), -(-size // step)):
-                self.sample.append([cells[at] for cells in columns])
-            if len(self.sample) > 2 * SAMPLE:
-                step *= 2
-                self.sample = chance.sample(self.sample, len(self.sample) // 2)
-        if self.rows > FULL * SEGMENTS:
-            raise DataError(f"{self.table.path}: {self.rows} rows, and a store has at most {FULL * SEGMENTS}",
-                            "split the table into several stores")
+            self.sample.take(size, lambda at, columns=columns: [cells[at] for cells in columns])
 
     def columns(self) -> list[list[str]]:
         """The sample by columns."""
-        return [list(it) for it in zip(*self.sample)] or [[] for _ in self.headers]
+        return [list(it) for it in zip(*self.sample.items)] or [[] for _ in self.headers]

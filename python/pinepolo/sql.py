@@ -1,4 +1,4 @@
-"""`pinepolo-data sql`: a query over a store's table, by SQLite."""
+"""`pinepolo-data sql`: a query over a table, by SQLite."""
 from __future__ import annotations
 
 import sqlite3
@@ -7,16 +7,15 @@ from typing import Any
 
 from .columns import Column
 from .database import Functions, fill, make_tables
-from .dumped import dumped
-from .places import living_sites, types_of
+from .exporting import Rows
 from .table_csv import lines
 
 ROWS = 4096
 
 
-def query(store: str, text: str, sites: str | None = None, lost: str | None = None) -> Iterator[str]:
+def query(rows: Rows, text: str) -> Iterator[str]:
     """The answer of a query as CSV, a text for some lines each. Rows are read first, of those columns that it names."""
-    types = types_of(store, living_sites(sites, lost))
+    types = rows.types
     database = sqlite3.connect("", isolation_level=None)
     functions = Functions(database)
     try:
@@ -24,7 +23,7 @@ def query(store: str, text: str, sites: str | None = None, lost: str | None = No
         make_tables(database, types.columns)
         columns = named(database, types.columns, text)
         database.execute("BEGIN")
-        fill(database, columns, dumped(store, types, sites, lost, columns))
+        fill(database, columns, rows.values(columns))
         database.execute("COMMIT")
         database.execute("PRAGMA query_only = ON")
         found = database.execute(text)

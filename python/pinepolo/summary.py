@@ -13,16 +13,18 @@ STORE_TIMES, TABLE_CELLS, STORE_CELLS = 3, 400_000, 5_000_000
 FILE_BYTES = 140
 
 
-def summary(types: Types, seen: Seen, projections: Sequence[Projection], sites: int) -> str:
-    """The lines of a summary."""
+def summary(types: Types, seen: Seen, projections: Sequence[Projection], sites: int, stores: int = 1) -> str:
+    """The lines of a summary. The projections are those of one of so many stores."""
     lines = [f"{seen.table.path}: {number_of(seen.rows, 'row')}, {number_of(len(types.columns), 'column')}", "", *columns_table(types, seen), ""]
+    if stores > 1:
+        lines += [f"these are more rows than one store holds: import them into stores by --memory; what follows is of one of {stores}", ""]
     lines += ["projection, its sort columns, and the rows of each segment"]
     for it in projections:
         lines.append(f"  {it.name} ({', '.join(it.sort)}): {', '.join(map(str, it.rows))}")
     sizes = site_bytes(projections, sites)
     lines += ["", "about " + ", ".join(f"{size_text(size)} on site {site}" for site, size in enumerate(sizes, 1))]
     memory = STORE_TIMES * sum(sizes) + 20_000_000
-    cells = seen.rows * len(types.stored())
+    cells = -(-seen.rows // stores) * len(types.stored())
     seconds = cells / TABLE_CELLS + cells * len(projections) / STORE_CELLS
     lines.append(f"an import takes about {size_text(memory)} of memory and {max(1, round(seconds))} s")
     return "\n".join(lines)

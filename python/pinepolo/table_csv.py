@@ -6,6 +6,7 @@ import csv
 import os
 import stat
 from collections.abc import Iterator, Sequence
+from contextlib import contextmanager
 from itertools import islice
 from typing import TextIO
 
@@ -18,20 +19,29 @@ SPECIAL = ('"', ",", "\r", "\n")
 
 
 class Table:
-    """A CSV file that is read block by block, more than once if need be.
+    """A CSV file that is read block by block, more than once if need be. If it may be a pipe, that is read once.
 
     The first record is the header, record 0. Empty lines are skipped, and are no records.
     """
 
-    def __init__(self, path: str, delimiter: str = ",", encoding: str = "utf-8") -> None:
+    def __init__(self, path: str, delimiter: str = ",", encoding: str = "utf-8", may_be_pipe: bool = False) -> None:
         self.path, self.delimiter = path, delimiter
         self.encoding = checked(encoding)
-        with self.opened() as file:
-            self.header = self.read_header(file)
+        self.may_be_pipe = may_be_pipe
+        self.pipe: TextIO | None = None
+        file = self.opened()
+        self.header = self.read_header(file)
+        if self.is_regular():
+            file.close()
+        else:
+            self.pipe = file
+
+    def is_regular(self) -> bool:
+        return stat.S_ISREG(os.stat(self.path).st_mode)
 
     def opened(self) -> TextIO:
         try:
-            if not stat.S_ISREG(os.stat(self.path).st_mode):
+            if not self.may_be_pipe and not self.is_regular():
                 raise DataError(f"{self.path} is no regular file", "write the table into a file: it is read twice", DEVICE)
             return open(self.path, newline="", encoding=self.encoding)
         except OSError as error:
@@ -59,7 +69,8 @@ class Table:
             raise DataError(f"{self.path}: record {before + 1 + len(list(filter(None, rows)))}: {reason(error)}",
                             "mend the CSV: a quote in a cell is doubled, and the cell quoted") from None
         except UnicodeDecodeError:
-            raise DataError(f"{self.path}: not {self.encoding.removesuffix('-sig')}, from byte {self.bad_byte()} on",
+            where = "" if self.pipe else f", from byte {self.bad_byte()} on"
+            raise DataError(f"{self.path}: not {self.encoding.removesuffix('-sig')}{where}",
                             "mend the text, or name its encoding by --encoding") from None
         except OSError as error:
             raise DataError(f"could not read {self.path}: {error.strerror}", "mend the device", DEVICE) from None
@@ -78,13 +89,22 @@ class Table:
                 if not chunk:
                     return fed
 
+    @contextmanager
+    def body(self) -> Iterator[TextIO]:
+        """The text behind the header."""
+        if self.pipe:
+            yield self.pipe
+            return
+        with self.opened() as file:
+            self.fill([], filter(None, self.records(file)), 1, -1)
+            yield file
+
     def blocks(self, places: Sequence[int] | None = None) -> Iterator[tuple[int, list[list[str]]]]:
         """The number of the first record of each block, and the block's columns, or those at some places of the header."""
         width = len(self.header)
         chosen = range(width) if places is None else places
-        with self.opened() as file:
+        with self.body() as file:
             records, number = self.records(file), 0
-            self.fill([], filter(None, records), 1, -1)
             while True:
                 rows: list[list[str]] = []
                 self.fill(rows, records, BLOCK, number)

@@ -56,17 +56,21 @@ class Types:
         own = [(self.key.name, "text" if self.key.columns else "int")] if self.key else []
         return own + [(name, it.type.kind) for it in self.columns for name in it.stored]
 
-    def text(self) -> str:
-        """The text of types.toml."""
+    def plain_columns(self) -> list[Column]:
+        """The columns that the catalog has, as ints and texts."""
+        return [Column(name, make_type(kind)) for name, kind in self.stored()]
+
+    def text(self, within: str = "") -> str:
+        """The text of types.toml, or of the tables of TOML below a name such as `types.`"""
         parts = [f"version = {VERSION}\ndelimiter = {toml_string(self.delimiter)}\nencoding = {toml_string(self.encoding)}\n"
                  f"left_out = {toml_list(self.left_out)}\n"]
         if self.key:
-            parts.append(f"\n[key]\nname = {toml_string(self.key.name)}\ncolumns = {toml_list(self.key.columns)}\n")
-        return "".join(parts + [column_text(it) for it in self.columns])
+            parts.append(f"\n[{within}key]\nname = {toml_string(self.key.name)}\ncolumns = {toml_list(self.key.columns)}\n")
+        return "".join(parts + [column_text(it, within) for it in self.columns])
 
 
-def column_text(column: Column) -> str:
-    lines = ["", "[[column]]", f"name = {toml_string(column.name)}", f"type = {toml_string(column.type.name)}"]
+def column_text(column: Column, within: str) -> str:
+    lines = ["", f"[[{within}column]]", f"name = {toml_string(column.name)}", f"type = {toml_string(column.type.name)}"]
     if column.header != column.name:
         lines.append(f"header = {toml_string(column.header)}")
     if column.null:

@@ -15,6 +15,7 @@ import fcntl
 import json
 import os
 import shutil
+from collections.abc import Iterable
 from types import TracebackType
 
 from .catalog import read_catalog
@@ -40,6 +41,26 @@ def write(path: str, data: bytes) -> None:
         file.write(data)
         file.flush()
         os.fsync(file.fileno())
+
+
+def give(folders: Iterable[str], name: str, data: bytes) -> None:
+    """Writes a file into folders, and brings it and its names to the disk."""
+    for folder in folders:
+        write(os.path.join(folder, name), data)
+        sync(folder)
+
+
+def locked(path: str) -> int:
+    """An exclusive lock of a file, which is made if it is not there; below 0 if somebody has one. It does not wait."""
+    lock = os.open(path, os.O_CREAT | os.O_RDWR, 0o644)
+    try:
+        fcntl.flock(lock, fcntl.LOCK_EX | fcntl.LOCK_NB)
+        same = os.path.samestat(os.fstat(lock), os.stat(path))
+    except (BlockingIOError, FileNotFoundError):
+        same = False
+    if not same:
+        os.close(lock)
+    return lock if same else -1
 
 
 def remove(path: str) -> None:
@@ -108,14 +129,8 @@ class Workshop:
         strange = set(os.listdir(self.folder))
         if strange and LOCK not in strange:
             raise DataError(f"{self.folder} is there, and is no folder of an import", "move it away, or give another path")
-        self.lock = os.open(self.path(LOCK), os.O_CREAT | os.O_RDWR, 0o644)
-        try:
-            fcntl.flock(self.lock, fcntl.LOCK_EX | fcntl.LOCK_NB)
-            same = os.path.samestat(os.fstat(self.lock), os.stat(self.path(LOCK)))
-        except (BlockingIOError, FileNotFoundError):
-            same = False
-        if not same:
-            os.close(self.lock)
+        self.lock = locked(self.path(LOCK))
+        if self.lock < 0:
             raise DataError(f"another import of {self.named} is running", "wait for it to end")
 
     def clear(self) -> None:
@@ -145,17 +160,12 @@ class Workshop:
         os.rename(mark + PARTIAL, mark)
         sync(self.folder)
 
-    def load_words(self) -> list[str]:
-        return ["--sites", self.sites] if self.sites else []
-
     def finish(self) -> None:
         """Gives the store its types, and its name last. All is on the disk by then."""
         try:
             types = os.path.join(self.drafted, FILE)
             if os.path.isfile(types):
-                for folder in [self.store, *self.site_folders]:
-                    write(os.path.join(folder, FILE), read(types))
-                    sync(folder)
+                give([self.store, *self.site_folders], FILE, read(types))
             os.rename(self.path(MARK), self.path(COMPARED))
             sync(self.folder)
             os.rename(self.store, self.named)

@@ -6,7 +6,7 @@ from pathlib import Path
 
 sys.path.insert(0, str(Path(__file__).resolve().parent.parent))
 
-from pinepolo.cuts import FULL, Counts, even_cuts, filled
+from pinepolo.cuts import FULL, Counts, candidates, even_cuts, filled
 from pinepolo.keys import CHUNK, Repeats, packed
 from pinepolo.layout import Projection, orders_of, projections_of
 
@@ -35,7 +35,7 @@ class TestCuts(unittest.TestCase):
         for of in (lambda it: it, lambda it: f"{it:x}"):
             values = [of(int(chance.gauss(0, 300))) for _ in range(70_000)] + [of(77)] * 9000
             chance.shuffle(values)
-            counts = Counts(chance.sample(values, 3000))
+            counts = Counts(candidates(chance.sample(values, 3000)))
             for at in range(0, len(values), 1000):
                 counts.take(values[at:at + 1000])
             cuts, rows = even_cuts(counts.cuts, counts.sizes(), 5)
@@ -70,10 +70,10 @@ class TestLayout(unittest.TestCase):
         self.assertEqual(orders_of("id", [["id"]], 1), [["id"], ["id"]])
 
     def test_sites(self):
-        self.assertEqual([it.sites for it in projections_of([["a"]] * 3, 7)], [[1, 2], [3, 4], [5, 6, 7]])
-        self.assertEqual([(it.name, it.sites) for it in projections_of([["a"]] * 3, 2)], [("by_a", [1]), ("by_a_2", [2]), ("by_a_3", [1])])
-        self.assertEqual(Projection(["a"], [1, 2], rows=[9] * 5).segment_sites(), [1, 1, 1, 2, 2])
-        self.assertEqual(Projection(["a"], [1, 2, 3], rows=[9, 9]).segment_sites(), [1, 2])
+        self.assertEqual([it.sites for it in projections_of([["a"]] * 3, 7, ["a"])], [[1, 2], [3, 4], [5, 6, 7]])
+        self.assertEqual([(it.name, it.sites) for it in projections_of([["a"]] * 3, 2, ["a"])], [("by_a", [1]), ("by_a_2", [2]), ("by_a_3", [1])])
+        self.assertEqual(Projection(["a"], [1, 2], "a", ["a"], rows=[9] * 5).segment_sites(), [1, 1, 1, 2, 2])
+        self.assertEqual(Projection(["a"], [1, 2, 3], "a", ["a"], rows=[9, 9]).segment_sites(), [1, 2])
 
 
 if __name__ == "__main__":

@@ -5,9 +5,8 @@ import re
 
 from fault_injection.stores import files_of, names_in, thing
 
-# By these words a program says that another one is at work, that it read while another one wrote, and that it named the files
-# of its sites and then could not name its store.
-AT_WORK, CHANGED, HALF_NAMED = "at work", "changed while it was read", "files are in place in"
+# By these words a program says that another one is at work, and that it read while another one wrote.
+AT_WORK, CHANGED = "at work", "changed while it was read"
 DONE, REFUSED, FAILED, DOUBTFUL = 0, 1, 4, 5
 
 
@@ -72,9 +71,9 @@ def is_in(tree, path):
 
 
 def made(race):
-    """Of two programs that make something of one name one makes it. The other one changes nothing of that, and says what it
-    leaves."""
-    wrong = ended(race, (DONE, REFUSED, FAILED) if any(HALF_NAMED in said for _, _, said in race.runs()) else (DONE, REFUSED))
+    """Of two programs that make something of one name one makes it. The other one is refused, or fails if the name was taken after
+    its last look. It changes nothing of what has the name, and says what it leaves."""
+    wrong = ended(race, (DONE, REFUSED, FAILED))
     if len(done(race)) > 1:
         return [*wrong, "both ended with 0"]
     right, _ = race.start.after(*[race.case.first if which == "first" else race.case.second for which in done(race)])

@@ -242,6 +242,9 @@ class IntoNew(Verb):
         if self.name == "recover":
             # the name of the mark tells all
             made[0]["DONE"] = self.after[0]["DONE"]
+        elif self.name in ("load", "relayout"):
+            # a store that has its name is whole, also with the mark of the run that made it
+            made[0].pop("LOADING", None)
         wrong = [] if made == self.after else ["not right: what was made"]
         return wrong + ([] if self.not_made(room) == self.beside else ["the store has changed"])
 

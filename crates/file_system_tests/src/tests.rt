@@ -155,7 +155,7 @@ fn ends_work(rt: HostRuntime) {
         let ended = end_work(&mut files, &work, b"1");
         assert_eq!(rt; ended.is_ok(), before_failure == 11);
         let mut want = first_of_ended(alloc, before_failure).expect(&rt, "memory");
-        if before_failure == 2 || before_failure == 3 {
+        if (2..5).contains(&before_failure) {
             want.push_str("remove s/log.new; ").expect(&rt, "memory");
         }
         expect_calls(&rt, alloc, &files, want.as_str());
