@@ -1,5 +1,5 @@
 //! Reading a catalog.
-use super::attempt::{Answer, Report, allocate};
+use crate::attempt::{Answer, Report, allocate};
 use anyhow::{Result, anyhow};
 use cs_catalog::{CatalogFault, read_catalog};
 use cs_schema::samples::CITIES;

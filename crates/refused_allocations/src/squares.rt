@@ -1,7 +1,7 @@
 //! Squares of numbers, as work for a run of workers.
 ghost use Rattle.std.specs.Prelude.{◌≤◌};
 
-use super::attempt::{Answer, Report, allocate};
+use crate::attempt::{Answer, Report, allocate};
 use cs_board::{OpenGate, RunFault, Work, run};
 use std::thread::Threads;
 
@@ -25,7 +25,7 @@ struct Squares {
 impl Work for Squares {
     ghost use Rattle.std.proofs.Common.{rules, sym, ◌∙◌};
     ghost use Rattle.std.specs.Prelude.{◌≡◌, ◌*◌, ◌==◌, ◌||◌, Option, Some, None, true, false, if◌then◌else◌};
-    ghost use Rattle.bench.specs.declared.refusals.squares.SquareFault.TheVariants.{Memory, Refused};
+    ghost use Rattle.refused_allocations.specs.declared.squares.SquareFault.TheVariants.{Memory, Refused};
 
     type Out = u64;
 

@@ -1,5 +1,5 @@
 //! A claim board, from the first claim to its end.
-use super::attempt::{Answer, Report, allocate};
+use crate::attempt::{Answer, Report, allocate};
 use cs_board::Board;
 use std::alloc::{AllocError, Global};
 

@@ -1,8 +1,8 @@
 //! Rebuilding and checking stores.
 ghost use Rattle.std.specs.Prelude.{◌≤◌};
 
-use super::attempt::{Answer, Report, allocate};
-use super::catalogs::catalog_of;
+use crate::attempt::{Answer, Report, allocate};
+use crate::catalogs::catalog_of;
 use anyhow::Result;
 use cs_rebuild::{check, rebuild};
 use cs_schema::samples::{CITIES, SPLIT_COLUMNS, THREE_PROJECTIONS, TWO_ORDERS};

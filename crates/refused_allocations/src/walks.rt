@@ -2,8 +2,8 @@
 ghost use Rattle.std.specs.Prelude.{◌≡◌, ◌<◌, length, map, IfOk, IfSome};
 ghost use Rattle.cs_segment.specs.SegmentData.{kinds_at};
 
-use super::attempt::{Answer, Report, allocate};
-use super::catalogs::catalog_of;
+use crate::attempt::{Answer, Report, allocate};
+use crate::catalogs::catalog_of;
 use anyhow::{Result, anyhow};
 use cs_delta::{Image, merge, read_delta};
 use cs_rows::by_rows::walk_rows;

@@ -1,11 +1,14 @@
-//! Calls with one allocation refused.
+//! Calls with one allocation refused, and a large recovery.
 //!
-//! A line names a call, its number of workers, and how many allocations to make before it. So where the environment refuses
-//! the Nth allocation, a line says which allocation of the call that is. `tools/refuse-allocations` runs the program once for
-//! each allocation of each call.
+//! A line of standard input names a call, its number of workers, and how many allocations to make before it. So if the
+//! environment refuses the Nth allocation, a line says which allocation of the call that is. `tools/refuse-allocations`
+//! runs the program once for each allocation of each call. A line `large` recovers more than two million rows.
+#![tactic(auto)]
+
 mod attempt;
 mod boards;
 mod catalogs;
+mod large;
 mod recoveries;
 mod squares;
 mod walks;
@@ -16,30 +19,6 @@ use anyhow::{Result, anyhow};
 use attempt::Report;
 use recoveries::{CITIES_STORE, JOINED_STORE, ONE_LOST, THREE_STORE};
 use std::thread::Threads;
-
-/// Each call, with numbers of workers that it is tried with.
-const CALLS: [(&str, u32); 20] = [
-    ("read-catalog", 1),
-    ("rebuild-one-lost", 1),
-    ("rebuild-one-lost", 2),
-    ("rebuild-cities", 1),
-    ("rebuild-cities", 2),
-    ("rebuild-three-projections", 1),
-    ("rebuild-three-projections", 2),
-    ("rebuild-joined", 1),
-    ("rebuild-joined", 2),
-    ("check-cities", 1),
-    ("check-cities", 2),
-    ("board", 1),
-    ("squares", 1),
-    ("squares", 2),
-    ("squares-refused", 1),
-    ("squares-refused", 2),
-    ("walk-rows", 1),
-    ("append", 1),
-    ("once", 1),
-    ("join-once", 1),
-];
 
 /// Makes the inputs of a call, then so many allocations, then the call.
 fn make_call(
@@ -69,7 +48,7 @@ fn make_call(
 }
 
 /// Makes the call that a line asks for.
-pub fn perform(rt: &(impl AllocGlobal + Threads + Sync), line: &str) -> Result<Report> {
+fn perform(rt: &(impl AllocGlobal + Threads + Sync), line: &str) -> Result<Report> {
     let mut words = line.split_whitespace();
     let call = words.next().ok_or(anyhow!("no call"))?;
     let workers = words.next().ok_or(anyhow!("no workers"))?;
@@ -82,11 +61,15 @@ pub fn perform(rt: &(impl AllocGlobal + Threads + Sync), line: &str) -> Result<R
     make_call(rt, call, workers, before)
 }
 
-/// Makes each call once, with ample memory, and says what came of it.
-pub fn make_all(rt: &(impl AllocGlobal + Threads + Sync + Print)) -> Result<()> {
-    for (call, workers) in CALLS.iter() {
-        let report = make_call(rt, call, *workers, 0)?;
-        println!(rt; "{call} {workers}: {report}")?;
+fn main(rt: HostRuntime) -> Result<()> {
+    for line in rt.lines(rt.alloc()) {
+        let line = line?;
+        if line.as_str() == "large" {
+            large::recover_all(&rt)?;
+        } else {
+            let report = perform(&rt, line.as_str())?;
+            println!(rt; "{line}: {report}")?;
+        }
     }
     Ok(())
 }
