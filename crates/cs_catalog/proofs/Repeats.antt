@@ -49,7 +49,7 @@ module _ (rs : List (Bor (List ℕ))) (i : ℕ) (d : Bor (List ℕ)) (h : i < le
   repeats found =
       let last : (are_distinct (texts (take i rs)) && not (is_among (get_or rs i d).now (texts (take i rs)))) ≡ false = rw found (and-false (are_distinct (texts (take i rs)))) in
       let whole : (texts (take (i + 1) rs) ++ texts (drop (i + 1) rs)) ≡ texts rs =
-          sym (map-append (λ (r : Bor (List ℕ)). r.now) (take (i + 1) rs) (drop (i + 1) rs)) ∙ ap (λ (l : List (Bor (List ℕ))). texts l) (take-append-drop (i + 1) rs) in
+      sym (map-append (λ (r : Bor (List ℕ)). r.now) (take (i + 1) rs) (drop (i + 1) rs)) ∙ ap (λ (l : List (Bor (List ℕ))). texts l) (take-append-drop (i + 1) rs) in
       elim (cases_Bool (are_distinct (texts rs))) [
         | inl distinct ↦
             let first = distinct_first (texts (take (i + 1) rs)) (texts (drop (i + 1) rs)) (ap are_distinct whole ∙ distinct) in
