@@ -16,8 +16,8 @@ readable() {
     if ! [ -f "$1" ] || ! [ -r "$1" ]; then fail "$1 is no file that can be read"; fi
 }
 
-# Sets `hosts` to the lines of HOSTS without comments, or fails.
-read_hosts() {
+# Prints the lines of HOSTS without comments, or fails.
+hosts_of() {
     readable "$1"
     hosts=$(sed 's/#.*//; s/[[:blank:]]*$//; /^$/d; s/[[:blank:]][[:blank:]]*/ /' "$1")
     [ -n "$hosts" ] || fail "$1 has no sites"
@@ -25,10 +25,11 @@ read_hosts() {
     [ -z "$wrong" ] || fail "$1: not a site from 1 to 16 and HOST:/FOLDER of letters, digits and /._-: $wrong"
     twice=$(echo "$hosts" | cut -d ' ' -f 1 | sort | uniq -d | head -n 1)
     [ -z "$twice" ] || fail "$1 has site $twice twice"
+    echo "$hosts"
 }
 
-# Sets `files` to a line for each file of a store, its site and its name, as the catalog says, or fails.
-read_files() {
+# Prints a line for each file of a store, its site and its name, as the catalog says, or fails.
+files_of() {
     files=$(pinepolo design --json -- "$1" | python3 -c '
 import json, sys
 for site in json.load(sys.stdin)["sites"]:
@@ -37,6 +38,7 @@ for site in json.load(sys.stdin)["sites"]:
     for site in $(echo "$files" | cut -d ' ' -f 1 | uniq); do
         echo "$hosts" | grep -q "^$site " || fail "site $site of $1 has no host"
     done
+    echo "$files"
 }
 
 # Calls a function for the sites of $2 at once, as `$1 SITE HOST FOLDER`. What it prints comes behind the number of its site.
