@@ -175,7 +175,7 @@ class Writing:
         return readers >= 0
 
     def remove(self, store: str) -> None:
-        """Removes a store, of each site's folder only what its catalog names there; then what says where all this was."""
+        """Removes a store, and the folder of each of its sites that has its catalog; then what says where all this was."""
         at = self.path(store + NEW if os.path.lexists(self.path(store + NEW)) else store)
         if os.path.isfile(os.path.join(at, SITES)) and os.path.isfile(os.path.join(at, CATALOG)):
             catalog = read(os.path.join(at, CATALOG))
