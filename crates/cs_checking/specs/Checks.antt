@@ -13,9 +13,9 @@ use Rattle.cs_inspection.specs.declared.badness.Badness.{Badness}
 use Rattle.cs_inspection.specs.BadFiles.{AreBadFiles}
 use Rattle.cs_design.specs.Fatal.{IsFatal, IsSafeBeyond, IsFatalAt, AreFatalLosses}
 use Rattle.pinepolo_places.specs.Finding.{FindsStore}
-use Rattle.pinepolo_text.specs.declared.checked.Checked.{Checked}
-use Rattle.pinepolo_text.specs.declared.checked.Verdict.{Verdict}
-use Rattle.pinepolo_text.specs.declared.checked.Verdict.TheVariants.{Sound, Fatal, BadFiles, Unsound}
+use Rattle.pinepolo_answers.specs.declared.checked.Checked.{Checked}
+use Rattle.pinepolo_answers.specs.declared.checked.Verdict.{Verdict}
+use Rattle.pinepolo_answers.specs.declared.checked.Verdict.TheVariants.{Sound, Fatal, BadFiles, Unsound}
 use Rattle.cs_shelf.specs.declared.work.WorkKind.{WorkKind}
 
 -- The number of sites that is asked for, or none, may fail.

@@ -8,10 +8,10 @@ use crate::judging::judge;
 use cs_parallel_io::load_readable_side_by_side;
 use cs_rebuild::Run;
 use cs_schema::Loss;
+use pinepolo_answers::Checked;
 use pinepolo_args::CheckArgs;
 use pinepolo_places::{Listings, VerbError, find_store, require_unchanged, watch};
 use pinepolo_progress::Progress;
-use pinepolo_text::Checked;
 use std::marker::Sync;
 use std::thread::Threads;
 

@@ -26,13 +26,17 @@ fn take_by_file<F: FileSystem>(files: &mut F, beside: &str, path: &str) -> io::R
 }
 
 /// Gives a new file, whose bytes are on the disk, a name by a call that refuses one that is there: an error of the kind
-/// `AlreadyExists` if something has the name. That it has the name is not on the disk yet.
+/// `AlreadyExists` if something has the name. That it has the name is not on the disk yet. After an error it does not have it, if
+/// that can be taken back.
 pub fn take_name<F: FileSystem>(files: &mut F, beside: &str, path: &str) -> io::Result<()>
     requires { Always (F.made files.old) (IsSynced beside.now) }
     ensures { OnOk result (Always (F.made files.new) (IsTaken beside.now path.now)) }
 {
     match files.link_new(beside, path) {
-        Ok(()) => files.remove(beside),
+        Ok(()) => {
+            let removed = files.remove(beside);
+            or_remove(files, path, removed)
+        }
         Err(e) if refuses_links(&e) => take_by_file(files, beside, path),
         Err(e) => Err(e),
     }

@@ -11,8 +11,8 @@ use Rattle.cs_shelf.specs.Shelf.{IsNoMore, IsReadIn}
 use Rattle.cs_shelf.proofs.Steps.{from_more}
 use Rattle.cs_restore.specs.Restoring.{IsFinished}
 use Rattle.cs_diagnosis.specs.declared.diagnosing.Diagnosis.{Diagnosis}
-use Rattle.pinepolo_text.specs.declared.restoration.Restoration.{Restoration}
-use Rattle.pinepolo_text.specs.declared.restoration.Restoration.TheVariants as restoration
+use Rattle.pinepolo_answers.specs.declared.restoration.Restoration.{Restoration}
+use Rattle.pinepolo_answers.specs.declared.restoration.Restoration.TheVariants as restoration
 use Rattle.cs_restoring.specs.Doubts.{IsDoubtOf, IsUndoubtedOf}
 use Rattle.cs_restoring.specs.Restores.{EndsDoubted, EndsRestore, FinishesRestore, HasPlan, PlansFrom, WorksOnStore}
 

@@ -14,10 +14,10 @@ use Rattle.cs_shelf.specs.Shelf.{Follows, IsNoMore, IsReadOf}
 use Rattle.cs_restore.specs.Restoring.{IsFinished, PlansFor, PlansRestore, ReadsBack}
 use Rattle.pinepolo_places.specs.Finding.{FindsStore}
 use Rattle.pinepolo_places.specs.declared.shelves.RestoreOf.{RestoreOf}
-use Rattle.pinepolo_text.specs.declared.doubted.Doubted.{Doubted}
-use Rattle.pinepolo_text.specs.declared.restoration.Restoration.{Restoration}
-use Rattle.pinepolo_text.specs.declared.restored.Restored.{Restored}
-use Rattle.pinepolo_text.specs.declared.restoration.Restoration.TheVariants as restoration
+use Rattle.pinepolo_answers.specs.declared.doubted.Doubted.{Doubted}
+use Rattle.pinepolo_answers.specs.declared.restoration.Restoration.{Restoration}
+use Rattle.pinepolo_answers.specs.declared.restored.Restored.{Restored}
+use Rattle.pinepolo_answers.specs.declared.restoration.Restoration.TheVariants as restoration
 use Rattle.cs_restoring.specs.Doubts.{IsDoubtOf, IsUndoubtedOf}
 
 -- the greatest number of sites of which any may fail, or 0 if the catalog is not safe as it is

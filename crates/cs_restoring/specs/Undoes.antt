@@ -8,7 +8,7 @@ use Rattle.cs_shelf.specs.declared.work.UndoOf.{UndoOf}
 use Rattle.cs_shelf.specs.declared.work.UndoOf.TheVariants.{Last, Number, Unfinished}
 use Rattle.cs_restore.specs.Undoing.{IsBack}
 use Rattle.pinepolo_places.specs.Finding.{FindsStore}
-use Rattle.pinepolo_text.specs.declared.undone.Undone.{Undone}
+use Rattle.pinepolo_answers.specs.declared.undone.Undone.{Undone}
 
 -- Each name that had changed has what it had before, now and after a stop, and no other changed; the store was given back
 -- as finished, and these files and names are the answer.

@@ -8,9 +8,9 @@ use cs_rebuild::Run;
 use cs_restore::{Step, plan_restore};
 use cs_schema::{Catalog, Loss};
 use cs_store::Readable;
+use pinepolo_answers::Restored;
 use pinepolo_places::VerbError;
 use pinepolo_progress::Progress;
-use pinepolo_text::Restored;
 use std::marker::Sync;
 use std::thread::Threads;
 

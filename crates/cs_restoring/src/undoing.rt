@@ -6,9 +6,9 @@ use crate::ending::{LostStore, lock_error};
 use crate::working::{finish, leave};
 use cs_restore::put_back;
 use cs_schema::{Catalog, Loss};
+use pinepolo_answers::Undone;
 use pinepolo_args::UndoArgs;
 use pinepolo_places::{Shelves, UndoOf, Undoable, VerbError, WorkKind, find_store};
-use pinepolo_text::Undone;
 use std::alloc::Global;
 
 /// Which work a request asks to undo.

@@ -13,8 +13,8 @@ use Rattle.cs_manifest.specs.Reading.{IsReading}
 use Rattle.cs_manifest.specs.declared.digesting.Digested.{Digested}
 use Rattle.cs_manifest.specs.declared.manifest.Manifest.{Manifest}
 use Rattle.pinepolo_places.specs.Finding.{FindsStoreText}
-use Rattle.cs_verifying.specs.declared.listed.Listed.{Listed}
-use Rattle.cs_verifying.specs.declared.verified.Verified.{Verified}
+use Rattle.pinepolo_answers.specs.declared.listed.Listed.{Listed}
+use Rattle.pinepolo_answers.specs.declared.verified.Verified.{Verified}
 
 -- the loss is that of each site but this one; without a site it is none
 abbrev pub AreOthers : Option ℕ → Sites → Type 0

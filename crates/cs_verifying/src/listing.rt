@@ -4,8 +4,8 @@ ghost use Rattle.cs_parallel_io.specs.Standing.{standing};
 ghost use Rattle.cs_verifying.specs.Promises.{ListsStore};
 
 use crate::digests::digest_store;
-use crate::listed::Listed;
 use cs_manifest::write_manifest;
+use pinepolo_answers::Listed;
 use pinepolo_places::{Listings, VerbError};
 use std::alloc::Global;
 

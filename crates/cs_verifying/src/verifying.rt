@@ -5,8 +5,8 @@ ghost use Rattle.cs_verifying.specs.Promises.{VerifiesStore};
 
 use crate::digests::digest_store;
 use crate::reading::manifest_at;
-use crate::verified::Verified;
 use cs_manifest::compare;
+use pinepolo_answers::Verified;
 use pinepolo_places::{Listings, Tables, VerbError};
 use std::alloc::Global;
 

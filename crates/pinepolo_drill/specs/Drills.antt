@@ -9,7 +9,7 @@ use Rattle.cs_store.specs.Load.{Loads}
 use Rattle.cs_design.specs.Fatal.{IsGreatestK}
 use Rattle.cs_drill.specs.Drills.{AreTrials}
 use Rattle.pinepolo_places.specs.Finding.{FindsStore}
-use Rattle.pinepolo_drill.specs.declared.drilled.Drilled.{Drilled}
+use Rattle.pinepolo_answers.specs.declared.drilled.Drilled.{Drilled}
 
 -- losses of as many sites as are asked for are tried, or else of as many as may fail, which are 16 at most
 abbrev pub IsReach : CatalogData → Option ℕ → ℕ → Type 0

@@ -1,2 +1,1 @@
 pub mod Drills
-pub mod Statuses

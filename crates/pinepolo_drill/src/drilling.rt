@@ -4,13 +4,13 @@ ghost use Rattle.cs_parallel_io.specs.Standing.{standing};
 ghost use Rattle.pinepolo_places.specs.Finding.{LooksUp};
 ghost use Rattle.pinepolo_drill.specs.Drills.{DrillsStore, IsReach};
 
-use crate::drilled::Drilled;
 use crate::meter::Stopwatch;
 use cs_design::greatest_k;
 use cs_drill::drill as drill_files;
 use cs_parallel_io::load_side_by_side;
 use cs_rebuild::Run;
 use cs_schema::{Catalog, Loss};
+use pinepolo_answers::Drilled;
 use pinepolo_args::DrillArgs;
 use pinepolo_places::{Listings, Meter, VerbError, find_store, require_unchanged, watch};
 use pinepolo_progress::{Progress, Stage};

@@ -1,16 +1,8 @@
 //! What a drill is measured by.
 use cs_drill::{Trial, Watch};
+use pinepolo_answers::Measure;
 use pinepolo_places::Meter;
 use std::alloc::{AllocError, Global};
-
-/// What a loss took.
-#[derive(Clone, Copy)]
-pub struct Measure {
-    /// The milliseconds of its rebuilding and comparing.
-    pub milliseconds: u64,
-    /// The greatest memory of the process by its end, in KiB.
-    pub peak: Option<u64>,
-}
 
 /// Measures each loss of a drill.
 #[derive(Drop)]

@@ -1,6 +1,6 @@
 //! Sites that are away, as JSON.
-use crate::answer::{Answer, AnswerText};
 use cs_reports::object::Object;
+use pinepolo_answers::Answer;
 use pinepolo_places::Sited;
 use serde_json::Value;
 use std::alloc::{AllocError, Global};
@@ -20,13 +20,14 @@ fn away_objects(alloc: Global, sites: Sited<'_>) -> Result<Value, AllocError> {
 /// The object of an answer, with the sites that are away if the answer is on a store whose sites have folders of their own.
 pub fn with_away(
     alloc: Global,
-    text: &AnswerText<'_>,
+    answer: &Answer,
+    sites: Option<Sited<'_>>,
     object: Result<Value, AllocError>,
 ) -> Result<Value, AllocError> {
-    let Some(sites) = text.sites else {
+    let Some(sites) = sites else {
         return object;
     };
-    match text.answer {
+    match answer {
         Answer::Checked(_) | Answer::Shown(_) | Answer::Diagnosed(_) => {}
         _ => return object,
     }

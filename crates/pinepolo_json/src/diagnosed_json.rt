@@ -3,8 +3,9 @@ use crate::disputed_json::dispute_objects;
 use cs_diagnosis::{Diagnosis, Explanation};
 use cs_reports::file_objects;
 use cs_reports::object::{Object, losses, number_or_null};
+use pinepolo_answers::{Diagnosed, files_of};
 use pinepolo_places::WorkKind;
-use pinepolo_text::{Diagnosed, files_of, number_of, rows_of, verdict_word, with_unfinished};
+use pinepolo_text::{number_of, rows_of, verdict_word, with_unfinished};
 use serde_json::Value;
 use std::alloc::{AllocError, Global};
 

@@ -2,7 +2,8 @@
 use cs_diagnosis::{Dispute, TableDisputes};
 use cs_reports::object::Object;
 use cs_schema::{Cells, Value as Cell};
-use pinepolo_text::{Diagnosed, is_disputed, number_of, table_at};
+use pinepolo_answers::Diagnosed;
+use pinepolo_text::{is_disputed, number_of, table_at};
 use serde_json::Value;
 use std::alloc::{AllocError, Global};
 

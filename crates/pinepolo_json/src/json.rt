@@ -1,23 +1,32 @@
 //! Answers as JSON.
-use crate::answer::Answer;
+use crate::away_json::with_away;
 use crate::diagnosed_json::diagnosed_object;
+use crate::drilled_json::drilled_object;
 use crate::new_store_json::new_store_object;
 use crate::restored_json::{found_object, restoration_object};
 use crate::undone_json::undone_object;
+use crate::verified_json::verified_object;
 use cs_reports::object::{Object, number_or_null};
 use cs_reports::{design_object, fault_site, file_object, file_objects, site_of, with_fault};
 use cs_schema::{Catalog, FileName};
-use cs_verifying::verified_object;
-use pinepolo_drill::drilled_object;
-use pinepolo_text::{
-    Checked, Recovered, Verdict, Wrong, file_object as shown_file_object, files_of, store_object,
-    with_unfinished,
-};
+use pinepolo_answers::{Answer, Checked, Recovered, Verdict, files_of};
+use pinepolo_places::Sited;
+use pinepolo_text::{Wrong, file_object as shown_file_object, store_object, with_unfinished};
 use serde_json::Value;
 use std::alloc::{AllocError, Global};
 
-/// An answer as one object; null if it is a text itself, whose verb has no JSON.
-pub fn answer_object(alloc: Global, answer: &Answer) -> Result<Value, AllocError> {
+/// An answer as one object, with the sites that are away if it is on a store whose sites have folders of their own; null if it
+/// is a text itself, whose verb has no JSON.
+pub fn answer_object(
+    alloc: Global,
+    answer: &Answer,
+    sites: Option<Sited<'_>>,
+) -> Result<Value, AllocError> {
+    with_away(alloc, answer, sites, object_of(alloc, answer))
+}
+
+/// An answer as one object.
+fn object_of(alloc: Global, answer: &Answer) -> Result<Value, AllocError> {
     match answer {
         Answer::Checked(checked) => checked_object(alloc, checked),
         Answer::Drilled(drilled) => drilled_object(alloc, drilled),

@@ -1,6 +1,6 @@
 //! New stores as JSON.
 use cs_reports::object::Object;
-use pinepolo_text::NewStore;
+use pinepolo_answers::NewStore;
 use serde_json::Value;
 use std::alloc::{AllocError, Global};
 

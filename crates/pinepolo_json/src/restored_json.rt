@@ -4,10 +4,9 @@ use crate::json::placed_object;
 use cs_diagnosis::Verdict as FoundVerdict;
 use cs_reports::object::{Object, count_or_null};
 use cs_schema::Loss;
+use pinepolo_answers::{Doubted, FoundRestore, Restoration, Restored, spare_sites};
 use pinepolo_places::WorkKind;
-use pinepolo_text::{
-    Doubted, FoundRestore, Restoration, Restored, spare_sites, verdict_word, what_word,
-};
+use pinepolo_text::{verdict_word, what_word};
 use serde_json::Value;
 use std::alloc::{AllocError, Global};
 

@@ -1,7 +1,8 @@
 //! What an undo came to, as JSON.
 use crate::json::placed_object;
 use cs_reports::object::{Object, count_or_null};
-use pinepolo_text::{Undone, undone_word};
+use pinepolo_answers::Undone;
+use pinepolo_text::undone_word;
 use serde_json::Value;
 use std::alloc::{AllocError, Global};
 

@@ -1,5 +1,1 @@
-mod AloneFile
-mod ChangedNames
 mod LowStatuses
-mod Mapped
-mod NoneFailed

@@ -3,18 +3,18 @@ use Rattle.std.proofs.Common.{◌≡◌, ◌⊎◌, ⊎_elim, subst, sym, ◌≤
 use Rattle.std.specs.List.{list_any}
 use Rattle.cs_schema.specs.declared.file_name.FileName.{FileName}
 use Rattle.cs_manifest.specs.declared.comparing.Difference.{Difference}
-use Rattle.cs_verifying.specs.Statuses.{agreement, differing_status, is_missing, is_unread, is_unreadable, listed_status}
+use Rattle.pinepolo_answers.specs.Statuses.{agreement, differing_status, is_missing, is_unread, is_unreadable, listed_status}
 use Rattle.cs_diagnosis.specs.declared.findings.Verdict.{Verdict as FoundVerdict}
 use Rattle.cs_diagnosis.specs.declared.findings.Verdict.TheVariants as Found
-use Rattle.pinepolo_drill.specs.Statuses.{drilled_status, is_failed}
-use Rattle.pinepolo_text.specs.declared.checked.Verdict.{Verdict}
-use Rattle.pinepolo_text.specs.declared.checked.Verdict.TheVariants.{Sound, Fatal, BadFiles, Unsound}
-use Rattle.pinepolo_text.specs.declared.restoration.Restoration.{Restoration}
-use Rattle.pinepolo_text.specs.declared.restoration.Restoration.TheVariants as restoration
-use Rattle.pinepolo_json.specs.declared.answer.Answer.{Answer}
-use Rattle.pinepolo_json.specs.declared.answer.Answer.TheVariants as answer
-use Rattle.pinepolo_json.specs.Statuses.{answer_status}
-use Rattle.pinepolo_text.specs.Statuses.{checked_status, diagnosed_status, found_status, restoration_status}
+use Rattle.pinepolo_answers.specs.Statuses.{drilled_status, is_failed}
+use Rattle.pinepolo_answers.specs.declared.checked.Verdict.{Verdict}
+use Rattle.pinepolo_answers.specs.declared.checked.Verdict.TheVariants.{Sound, Fatal, BadFiles, Unsound}
+use Rattle.pinepolo_answers.specs.declared.restoration.Restoration.{Restoration}
+use Rattle.pinepolo_answers.specs.declared.restoration.Restoration.TheVariants as restoration
+use Rattle.pinepolo_answers.specs.declared.answer.Answer.{Answer}
+use Rattle.pinepolo_answers.specs.declared.answer.Answer.TheVariants as answer
+use Rattle.pinepolo_answers.specs.Statuses.{answer_status}
+use Rattle.pinepolo_answers.specs.Statuses.{checked_status, diagnosed_status, found_status, restoration_status}
 
 if_low : (b : Bool) (m n : ℕ) → m ≤ 6 → n ≤ 6 → (if b then m else n) ≤ 6
 if_low true m n low other = low

@@ -1,21 +1,14 @@
-//! What a dump answers.
-use pinepolo_places::WorkKind;
+//! What a dump answers, in words.
+use pinepolo_answers::Dumped;
 use std::fmt;
 
-/// A table that was written as CSV.
-#[derive(Drop)]
-pub struct Dumped {
-    /// The text, where it goes to standard output.
-    pub text: Option<Vec<u8>>,
-    /// How many bytes the text has.
-    pub bytes: usize,
-    /// Which kind of work on the store was left unfinished.
-    pub unfinished: Option<WorkKind>,
-}
+/// A table that was written to a file as CSV, as a line.
+#[derive(Clone, Copy)]
+pub struct DumpedText<'a>(pub &'a Dumped);
 
-impl fmt::Display for Dumped {
+impl fmt::Display for DumpedText<'_> {
     fn fmt<W: fmt::Write>(&self, f: &mut fmt::Formatter<W>) -> fmt::Result {
-        let bytes = self.bytes;
+        let bytes = self.0.bytes;
         writeln!(f, "ok bytes={bytes}")
     }
 }

@@ -1,22 +1,6 @@
 //! What explains a store, and the verdict on it, in lines.
-ghost use Rattle.pinepolo_text.specs.OnlyLoss.{IsOnlyLoss};
-
 use cs_diagnosis::{Diagnosis, Reach, Verdict};
-use cs_schema::Loss;
 use std::fmt;
-
-/// The first explanation, if one table explains the store.
-pub fn only_loss(diagnosis: &Diagnosis) -> Option<Loss>
-    ensures { IsOnlyLoss diagnosis.now result }
-{
-    match diagnosis.verdict {
-        Verdict::OneTable => match diagnosis.explanations.first() {
-            Some(first) => Some(first.loss),
-            None => None,
-        },
-        _ => None,
-    }
-}
 
 /// A line for each explanation.
 #[derive(Clone, Copy)]

@@ -1,7 +1,6 @@
 //! What is said of one file, as JSON.
 ghost use Rattle.std.specs.Prelude.{◌≤◌, length};
 
-use crate::file_view::FileView;
 use crate::row_words::{BaseRow, Hex, ItemWords};
 use crate::samples::{first_end, last_begin};
 use cs_delta::{Delta, Layer};
@@ -10,6 +9,7 @@ use cs_jix::JoinIndex;
 use cs_reports::object::{Object, number_or_null};
 use cs_reports::site_of;
 use cs_segment::Segment;
+use pinepolo_answers::FileView;
 use serde_json::Value;
 use std::alloc::{AllocError, Global};
 use std::fmt;

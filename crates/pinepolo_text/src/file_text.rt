@@ -3,7 +3,6 @@ ghost use Rattle.std.specs.Prelude.{◌≤◌, length};
 
 use crate::catalog_words::{code_at, kind_word};
 use crate::counted::Counted;
-use crate::file_view::FileView;
 use crate::row_words::{BaseRow, Hex, ItemWords};
 use crate::samples::{first_end, has_gap, last_begin};
 use crate::sited::store_words;
@@ -13,6 +12,7 @@ use cs_jix::JoinIndex;
 use cs_reports::{ColumnNames, site_of};
 use cs_schema::{Catalog, FileName};
 use cs_segment::Segment;
+use pinepolo_answers::FileView;
 use pinepolo_places::Sited;
 use std::fmt;
 
@@ -191,11 +191,21 @@ fn write_columns<W: fmt::Write>(
     writeln!(f)
 }
 
-impl FileView {
+/// What is said of a file of the store at a path, as lines.
+#[derive(Clone, Copy)]
+pub struct FileText<'a> {
+    pub view: &'a FileView,
+    /// The folder of the store.
+    pub store: &'a str,
+    /// Where its sites stand, if not there.
+    pub sites: Option<Sited<'a>>,
+}
+
+impl FileText<'_> {
     /// What kind of file it is, of which segment, and how long.
     fn write_head<W: fmt::Write>(&self, f: &mut fmt::Formatter<W>) -> fmt::Result {
-        let name = self.name;
-        let catalog = &self.catalog;
+        let name = self.view.name;
+        let catalog = &self.view.catalog;
         let site = site_of(catalog, name.projection(), name.segment()).unwrap_or(0);
         let kind = match name {
             FileName::Seg { .. } => "segment",
@@ -209,25 +219,13 @@ impl FileView {
             write_projection(f, catalog, "into projection", q)?;
         }
         let bytes = Counted {
-            count: self.report.length as u64,
+            count: self.view.report.length as u64,
             one: "byte",
             several: "bytes",
         };
         writeln!(f, ", {bytes}")
     }
-}
 
-/// What is said of a file of the store at a path, as lines.
-#[derive(Clone, Copy)]
-pub struct FileText<'a> {
-    pub view: &'a FileView,
-    /// The folder of the store.
-    pub store: &'a str,
-    /// Where its sites stand, if not there.
-    pub sites: Option<Sited<'a>>,
-}
-
-impl FileText<'_> {
     /// Where the first invalid byte is, and what to do next.
     fn write_nonsense<W: fmt::Write>(
         &self,
@@ -247,7 +245,7 @@ impl FileText<'_> {
 impl fmt::Display for FileText<'_> {
     fn fmt<W: fmt::Write>(&self, f: &mut fmt::Formatter<W>) -> fmt::Result {
         let view = self.view;
-        view.write_head(f)?;
+        self.write_head(f)?;
         if let Some(digests) = &view.report.digests {
             write_digests(f, digests)?;
         }

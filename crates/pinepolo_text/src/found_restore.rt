@@ -1,33 +1,11 @@
-//! What a restore answers that finds by itself what was lost.
-ghost use Rattle.std.specs.Prelude.{◌≡◌};
-ghost use Rattle.pinepolo_text.specs.Statuses.{found_status};
-
-use crate::diagnosed::{Diagnosed, DiagnosedText};
+//! What a restore answers that finds by itself what was lost, in words.
+use crate::diagnosed::DiagnosedText;
 use crate::doubted::DoubtedText;
-use crate::restoration::Restoration;
+use crate::restored::RestoredText;
 use cs_diagnosis::Verdict;
+use pinepolo_answers::{FoundRestore, Restoration};
 use pinepolo_places::Sited;
 use std::fmt;
-
-/// A store that was diagnosed, and restored if one table explains it.
-#[derive(Drop)]
-pub struct FoundRestore {
-    pub diagnosed: Diagnosed,
-    /// What the restore of the first explanation came to; `None` if not one table explains the store.
-    pub restoration: Option<Restoration>,
-}
-
-impl FoundRestore {
-    /// The status that tells it: that of the restore, or else that of the diagnosis.
-    pub fn status(&self) -> u8
-        ensures { result ≡ found_status self.now.diagnosed.diagnosis.verdict self.now.restoration }
-    {
-        match &self.restoration {
-            Some(restoration) => restoration.status(),
-            None => self.diagnosed.status(),
-        }
-    }
-}
 
 /// A store at a path that was diagnosed, and what was done for it, as lines.
 #[derive(Clone, Copy)]
@@ -51,18 +29,16 @@ impl fmt::Display for FoundText<'_> {
         match &self.found.restoration {
             Some(Restoration::Done(restored)) => {
                 text.write_found(f)?;
+                let restored = RestoredText(restored);
                 write!(f, "{restored}")
             }
             Some(Restoration::Doubted(doubted)) => {
-                write!(
-                    f,
-                    "{}",
-                    DoubtedText {
-                        doubted,
-                        store,
-                        sites
-                    }
-                )
+                let text = DoubtedText {
+                    doubted,
+                    store,
+                    sites,
+                };
+                write!(f, "{text}")
             }
             None => {
                 write!(f, "{text}")?;

@@ -1,6 +1,6 @@
 //! How much memory a recovery takes.
-use crate::file_lines::FileLine;
 use cs_schema::{Catalog, FileName};
+use pinepolo_answers::FileLine;
 
 /// How many bytes a cell of an image takes, and the place of its row in an order.
 const CELL_BYTES: u64 = 12;

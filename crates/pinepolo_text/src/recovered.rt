@@ -1,22 +1,14 @@
-//! What a recovery answers.
-use cs_schema::{Catalog, Loss};
-use cs_store::FileSet;
+//! What a recovery answers, in words.
+use pinepolo_answers::Recovered;
 use std::fmt;
 
-/// What a recovery wrote.
-#[derive(Drop)]
-pub struct Recovered {
-    /// The catalog of the store.
-    pub catalog: Catalog,
-    /// The sites that were lost.
-    pub lost: Loss,
-    /// The files that were written.
-    pub files: FileSet,
-}
+/// The files that a recovery wrote, as lines.
+#[derive(Clone, Copy)]
+pub struct RecoveredText<'a>(pub &'a Recovered);
 
-impl fmt::Display for Recovered {
+impl fmt::Display for RecoveredText<'_> {
     fn fmt<W: fmt::Write>(&self, f: &mut fmt::Formatter<W>) -> fmt::Result {
-        let files = &self.files;
+        let files = &self.0.files;
         for i in 0..files.len() {
             let (name, bytes) = files.at(i);
             let length = bytes.len();

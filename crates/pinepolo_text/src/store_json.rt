@@ -1,12 +1,11 @@
 //! What is said of a store as a whole, as JSON.
-use crate::file_lines::FileLine;
 use crate::memory::recovery_memory;
 use crate::store_text::state_word;
-use crate::store_view::StoreView;
 use crate::unfinished::with_unfinished;
 use cs_reports::object::{Object, count_or_null, losses, number_or_null};
 use cs_reports::{file_object, site_of};
 use cs_schema::{Catalog, FileName};
+use pinepolo_answers::{FileLine, StoreView};
 use serde_json::Value;
 use std::alloc::{AllocError, Global};
 

@@ -1,14 +1,13 @@
 //! What is said of a store as a whole, as text.
-use crate::bad_files::{has, problem_of};
+use crate::bad_files::has;
 use crate::catalog_words::CatalogWords;
 use crate::counted::Counted;
-use crate::file_lines::FileLine;
 use crate::memory::recovery_memory;
 use crate::sited::{AwayLines, away_sites, store_words};
-use crate::store_view::StoreView;
 use crate::unfinished::Unfinished;
 use cs_reports::{DesignHead, site_of};
 use cs_schema::{FileName, Loss};
+use pinepolo_answers::{FileLine, StoreView, problem_of};
 use pinepolo_places::Sited;
 use std::fmt;
 
@@ -49,7 +48,17 @@ pub fn count_word(name: FileName, count: Option<u64>) -> &'static str {
     }
 }
 
-impl StoreView {
+/// What is said of the store at a path, as lines.
+#[derive(Clone, Copy)]
+pub struct StoreText<'a> {
+    pub view: &'a StoreView,
+    /// The folder of the store.
+    pub store: &'a str,
+    /// Where its sites stand, if not there.
+    pub sites: Option<Sited<'a>>,
+}
+
+impl StoreText<'_> {
     /// The line of a file, if it stands on this site.
     fn write_line<W: fmt::Write>(
         &self,
@@ -57,12 +66,13 @@ impl StoreView {
         site: u8,
         line: &FileLine,
     ) -> fmt::Result {
+        let catalog = &self.view.catalog;
         let name = line.name;
         let p = name.projection();
-        if site_of(&self.catalog, p, name.segment()) != Some(site) {
+        if site_of(catalog, p, name.segment()) != Some(site) {
             return Ok(());
         }
-        let projection = match self.catalog.projections.get(usize::from(p)) {
+        let projection = match catalog.projections.get(usize::from(p)) {
             Some(projection) => projection.name.as_str(),
             None => "",
         };
@@ -79,16 +89,17 @@ impl StoreView {
 
     /// The table of files, by sites. A site that is away has one line.
     fn write_table<W: fmt::Write>(&self, f: &mut fmt::Formatter<W>, away: Loss) -> fmt::Result {
+        let catalog = &self.view.catalog;
         writeln!(f, "site  file          projection")?;
         for site in 1..17u8 {
-            if site > self.catalog.sites {
+            if site > catalog.sites {
                 return Ok(());
             }
             if has(away, site) {
                 writeln!(f, "{site:>4}  away")?;
                 continue;
             }
-            for line in &self.lines {
+            for line in &self.view.lines {
                 self.write_line(f, site, line)?;
             }
         }
@@ -98,12 +109,13 @@ impl StoreView {
     /// How many files there are, and how much memory a recovery takes, in whole mebibytes, at least one.
     fn write_sums<W: fmt::Write>(&self, f: &mut fmt::Formatter<W>) -> fmt::Result {
         let files = Counted {
-            count: self.lines.len() as u64,
+            count: self.view.lines.len() as u64,
             one: "file",
             several: "files",
         };
-        let bad = self.bad.len();
-        let mebibytes = recovery_memory(&self.catalog, self.lines.as_slice()) / MEBIBYTE + 1;
+        let bad = self.view.bad.len();
+        let mebibytes = recovery_memory(&self.view.catalog, self.view.lines.as_slice()) / MEBIBYTE
+            + 1;
         writeln!(
             f,
             "{files}, {bad} bad; a recovery takes about {mebibytes} MiB of memory"
@@ -112,22 +124,12 @@ impl StoreView {
 
     /// What the catalog doesn't name.
     fn write_strays<W: fmt::Write>(&self, f: &mut fmt::Formatter<W>) -> fmt::Result {
-        for name in &self.strays {
+        for name in &self.view.strays {
             let name = name.as_str();
             writeln!(f, "not named by the catalog: {name:?}")?;
         }
         Ok(())
     }
-}
-
-/// What is said of the store at a path, as lines.
-#[derive(Clone, Copy)]
-pub struct StoreText<'a> {
-    pub view: &'a StoreView,
-    /// The folder of the store.
-    pub store: &'a str,
-    /// Where its sites stand, if not there.
-    pub sites: Option<Sited<'a>>,
 }
 
 impl fmt::Display for StoreText<'_> {
@@ -140,9 +142,9 @@ impl fmt::Display for StoreText<'_> {
         };
         let away = AwayLines(self.sites);
         write!(f, "{away}{catalog}{head}")?;
-        view.write_table(f, away_sites(self.sites))?;
-        view.write_sums(f)?;
-        view.write_strays(f)?;
+        self.write_table(f, away_sites(self.sites))?;
+        self.write_sums(f)?;
+        self.write_strays(f)?;
         let Some(kind) = view.unfinished else {
             return Ok(());
         };

@@ -1,21 +1,10 @@
-//! What an undo answers.
+//! What an undo answers, in words.
 use crate::grouped::{FileCount, Grouped};
 use crate::restored::{write_kept, write_outdated};
 use cs_reports::site_of;
-use cs_schema::{Catalog, FileName};
-use pinepolo_places::Undoable;
+use cs_schema::FileName;
+use pinepolo_answers::Undone;
 use std::fmt;
-
-/// A store that has again what stood there before a restore or an undo of it.
-#[derive(Drop)]
-pub struct Undone {
-    /// The catalog of the store.
-    pub catalog: Catalog,
-    /// What was put back.
-    pub undoable: Undoable,
-    /// The N of `replaced/N`, where what the undo replaced is kept there.
-    pub kept: Option<u32>,
-}
 
 /// What became of a name, in a word: its file is back, or what stood there is gone.
 pub fn undone_word(back: Option<&[u8]>) -> &'static str {
@@ -25,24 +14,17 @@ pub fn undone_word(back: Option<&[u8]>) -> &'static str {
     }
 }
 
-impl Undone {
-    /// The size of what is back under a name, in bytes; none if that was moved back without being read, or nothing is back.
-    pub fn size(&self, name: FileName) -> Option<u64> {
-        if self.undoable.moved.as_slice().contains(&name) {
-            return None;
-        }
-        match self.undoable.back.get(name) {
-            Some(bytes) => Some(bytes.len() as u64),
-            None => None,
-        }
-    }
+/// A store that has again what stood there before, as lines.
+#[derive(Clone, Copy)]
+pub struct UndoneText<'a>(pub &'a Undone);
 
+impl UndoneText<'_> {
     /// A line for a name.
     fn write_name<W: fmt::Write>(&self, f: &mut fmt::Formatter<W>, name: FileName) -> fmt::Result {
-        let site = site_of(&self.catalog, name.projection(), name.segment()).unwrap_or(0);
-        let back = self.undoable.back.get(name);
+        let site = site_of(&self.0.catalog, name.projection(), name.segment()).unwrap_or(0);
+        let back = self.0.undoable.back.get(name);
         let word = undone_word(back);
-        match self.size(name) {
+        match self.0.size(name) {
             Some(size) => {
                 let bytes = Grouped(size);
                 writeln!(f, "site {site}  {word}  {name}  {bytes} bytes")
@@ -52,15 +34,15 @@ impl Undone {
     }
 }
 
-impl fmt::Display for Undone {
+impl fmt::Display for UndoneText<'_> {
     fn fmt<W: fmt::Write>(&self, f: &mut fmt::Formatter<W>) -> fmt::Result {
-        for name in &self.undoable.names {
+        for name in &self.0.undoable.names {
             self.write_name(f, *name)?;
         }
-        let changed = self.undoable.names.len() as u64;
+        let changed = self.0.undoable.names.len() as u64;
         let files = FileCount(changed);
         write!(f, "ok {files}")?;
-        write_kept(f, self.kept)?;
+        write_kept(f, self.0.kept)?;
         write_outdated(f, changed)
     }
 }

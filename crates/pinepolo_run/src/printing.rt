@@ -1,0 +1,137 @@
+//! Answers on standard output, and what of them is for standard error.
+ghost use Rattle.std.specs.Prelude.{◌≡◌, ◌≤◌, ◌⊎◌};
+ghost use Rattle.pinepolo_answers.specs.Statuses.{answer_status};
+ghost use Rattle.pinepolo_answers.specs.Statuses.{listed_status};
+
+use pinepolo_answers::{Answer, Dumped, Listed};
+use pinepolo_json::answer_object;
+use pinepolo_places::{DEVICE, DONE, MEMORY, REFUSED, VerbError, WorkKind, error_object};
+use pinepolo_text::{AnswerText, ListedText, Unfinished, store_words};
+use serde_json::Value;
+use std::alloc::{AllocError, Global};
+use std::io;
+use std::io::{ErrorKind, Write};
+
+/// An object's text, ended by a line break.
+fn object_text(alloc: Global, object: Result<Value, AllocError>) -> Option<String> {
+    let object = object.ok()?;
+    let mut text = object.to_string(alloc).ok()?;
+    match text.push_str("\n") {
+        Ok(()) => Some(text),
+        Err(_) => None,
+    }
+}
+
+/// An answer's text, as JSON or as lines.
+fn text_of(alloc: Global, text: &AnswerText<'_>, json: bool) -> Option<String> {
+    if json {
+        object_text(alloc, answer_object(alloc, text.answer, text.sites))
+    } else {
+        format!(in alloc; "{text}").ok()
+    }
+}
+
+/// The status if standard output took what was written, or that of a device, which is said on `err`. Who closed a pipe that was
+/// written to is told nothing.
+fn written<E: Write>(done: io::Result<()>, status: u8, err: &mut E) -> u8
+    ensures { (result ≡ status) ⊎ (result ≡ DEVICE) }
+{
+    match done {
+        Ok(()) => status,
+        Err(e) if e.kind() == ErrorKind::BrokenPipe => DEVICE,
+        Err(e) => {
+            let _said = writeln!(err, "fault: could not write to standard output: {e}").is_ok();
+            DEVICE
+        }
+    }
+}
+
+/// Writes a text, and gives the status if that was possible.
+fn print<W: Write, E: Write>(text: Option<String>, status: u8, out: &mut W, err: &mut E) -> u8
+    requires { status ≤ 6 }
+    ensures { (result ≡ status) ⊎ ((result ≡ MEMORY) ⊎ (result ≡ DEVICE)) }
+{
+    let Some(text) = text else {
+        return MEMORY;
+    };
+    written(out.write_all(text.as_bytes()), status, err)
+}
+
+/// Prints an answer, and gives its status: that of a device where it can't be written. What is said beside the text of a table
+/// goes to `err`.
+pub fn say<W: Write, E: Write>(
+    alloc: Global,
+    text: &AnswerText<'_>,
+    json: bool,
+    out: &mut W,
+    err: &mut E,
+) -> u8
+    ensures { (result ≡ answer_status text.now.answer.now) ⊎ ((result ≡ MEMORY) ⊎ (result ≡ DEVICE)) }
+{
+    let answer = text.answer;
+    if let Some(kind) = unfinished(answer) {
+        let store = store_words(text.store, text.sites);
+        if warn(Unfinished { kind, store }, err) != DONE {
+            return DEVICE;
+        }
+    }
+    match answer {
+        Answer::Dumped(
+            Dumped {
+                text: Some(text),
+                ..
+            },
+        ) => print_bytes(text.as_slice(), DONE, out, err),
+        Answer::Listed(listed) => print_listed(listed, out, err),
+        _ => print(text_of(alloc, text, json), answer.status(), out, err),
+    }
+}
+
+/// Which kind of work was left unfinished on a store of which a table was written.
+fn unfinished(answer: &Answer) -> Option<WorkKind> {
+    match answer {
+        Answer::Dumped(dumped) => dumped.unfinished,
+        _ => None,
+    }
+}
+
+/// Says that work was left unfinished, and gives the status.
+fn warn<E: Write>(unfinished: Unfinished<'_>, err: &mut E) -> u8 {
+    match write!(err, "{unfinished}") {
+        Ok(()) => DONE,
+        Err(_) => DEVICE,
+    }
+}
+
+/// Writes a text, and gives this status: that of a device if it can't be written.
+pub fn print_bytes<W: Write, E: Write>(text: &[u8], status: u8, out: &mut W, err: &mut E) -> u8
+    ensures { (result ≡ status) ⊎ (result ≡ DEVICE) }
+{
+    written(out.write_all(text), status, err)
+}
+
+/// Writes a manifest, and on `err` the files that have no line in it, and gives the status where that was possible.
+fn print_listed<W: Write, E: Write>(listed: &Listed, out: &mut W, err: &mut E) -> u8
+    ensures { (result ≡ listed_status listed.now.files.items) ⊎ (result ≡ DEVICE) }
+{
+    let status = print_bytes(listed.text.as_slice(), listed.status(), out, err);
+    let text = ListedText(listed);
+    match write!(err, "{text}") {
+        Ok(()) => status,
+        Err(_) => DEVICE,
+    }
+}
+
+/// Prints as JSON why a verb was refused.
+pub fn say_refusal<W: Write, E: Write>(
+    alloc: Global,
+    verb: &str,
+    error: &VerbError,
+    out: &mut W,
+    err: &mut E,
+) -> u8
+    ensures { (result ≡ REFUSED) ⊎ ((result ≡ MEMORY) ⊎ (result ≡ DEVICE)) }
+{
+    let text = object_text(alloc, error_object(alloc, verb, error));
+    print(text, REFUSED, out, err)
+}

@@ -1,0 +1,4 @@
+mod AloneFile
+mod ChangedNames
+mod Mapped
+mod NoneFailed
