@@ -2,6 +2,7 @@
 use Rattle.std.specs.Prelude.{◌≡◌, ◌||◌, ℕ, Bool, List, Option, Some, None, IsUtf8, ⊤, if◌then◌else◌}
 use Rattle.cs_catalog.specs.declared.fault.CatalogFault.{CatalogFault}
 use Rattle.cs_catalog.specs.declared.fault.CatalogFault.TheVariants.{Memory, Toml, Rule}
+use Rattle.cs_catalog.specs.declared.fault.Refusal.{Refusal}
 use Rattle.toml.specs.Data.{Members}
 use Rattle.toml.specs.Parse.{parse_document}
 use Rattle.cs_schema.specs.Document.{Document}
@@ -35,10 +36,9 @@ pub record IsCatalogOfTree (tree : Members) (c : CatalogData) : Type 0 where
   pub is : c ≡ catalog_of document
 
 -- why a tree is refused, memory aside
-abbrev pub IsRefusalOfTree : Members → CatalogFault → Type 0
-IsRefusalOfTree tree Memory = ⊤
-IsRefusalOfTree tree Toml = ⊥
-IsRefusalOfTree tree (Rule n) = least_broken_rule tree ≡ Some n
+abbrev pub IsRefusalOfTree : Members → Refusal → Type 0
+IsRefusalOfTree tree Refusal.Memory = ⊤
+IsRefusalOfTree tree (Refusal.Rule n problem) = least_broken_rule tree ≡ Some n
 
 -- the bytes are UTF-8 and TOML, every rule holds, and the catalog is what the tree says
 pub record IsCatalogOf (bytes : List ℕ) (c : CatalogData) : Type 0 where

@@ -1,14 +1,14 @@
 //! Builds a catalog from a document that keeps the rules.
-ghost use Rattle.std.specs.Prelude.{◌≡◌, ◌≤◌, true, None, length, map, IfOk, IfErr};
+ghost use Rattle.std.specs.Prelude.{◌≡◌, ◌≤◌, true, None, length, map, IfOk};
 ghost use Rattle.std.specs.List.{list_all};
 ghost use Rattle.cs_catalog.specs.Tree.{texts};
 ghost use Rattle.cs_schema.specs.Rules.{is_name, is_among, has_cuts, least_broken, document_rules};
 ghost use Rattle.cs_schema.specs.Named.{byte_of, safety_of, kind_named, code_of, column_data, column_place, places, projection_data, catalog_of};
 
-use crate::CatalogFault;
 use crate::cuts::cut_cells;
 use crate::document::{ColumnEntry, Document, ProjectionEntry};
-use crate::keys::{is_from_to, push};
+use crate::fault::Refusal;
+use crate::keys::is_from_to;
 use crate::lookups::{is_among, is_int_column, leading};
 use arrayvec::ArrayString;
 use cs_schema::limits::NAME_BYTES;
@@ -146,13 +146,12 @@ fn projection_of(
     alloc: Global,
     document: &Document,
     entry: &ProjectionEntry,
-) -> Result<Projection, CatalogFault>
+) -> Result<Projection, AllocError>
     requires columns { length document.now.columns ≤ 32 }
     requires projections { length document.now.projections ≤ 8 }
     requires name { is_name entry.now.name ≡ true }
     requires cuts { has_cuts document.now.columns entry.now ≡ true }
-    ensures built { IfOk result (λ p. p ≡ projection_data document.now entry.now) }
-    ensures memory { IfErr result (λ e. e ≡ CatalogFault.Memory) }
+    ensures { IfOk result (λ p. p ≡ projection_data document.now entry.now) }
 {
     let table = document.columns.as_slice();
     let columns = column_places(alloc, table, &entry.columns)?;
@@ -170,32 +169,30 @@ fn projection_of(
             sites,
             joins,
         }),
-        Err(fault) => Err(fault),
+        Err(Refusal::Memory) => Err(AllocError),
+        Err(Refusal::Rule(..)) => unreachable!(),
     }
 }
 
-fn projections_of(alloc: Global, document: &Document) -> Result<Vec<Projection>, CatalogFault>
+fn projections_of(alloc: Global, document: &Document) -> Result<Vec<Projection>, AllocError>
     requires columns { length document.now.columns ≤ 32 }
     requires projections { length document.now.projections ≤ 8 }
     requires names { list_all (λ p. is_name p.name) document.now.projections ≡ true }
     requires cuts { list_all (has_cuts document.now.columns) document.now.projections ≡ true }
-    ensures built { IfOk result (λ v. v.items ≡ map (projection_data document.now) document.now.projections) }
-    ensures memory { IfErr result (λ e. e ≡ CatalogFault.Memory) }
+    ensures { IfOk result (λ v. v.items ≡ map (projection_data document.now) document.now.projections) }
 {
     let mut projections = Vec::new(alloc);
     let entries = document.projections.as_slice();
     for entry in entries {
-        let projection = projection_of(alloc, document, entry)?;
-        push(&mut projections, projection)?;
+        projections.push(projection_of(alloc, document, entry)?)?;
     }
     Ok(projections)
 }
 
 /// The catalog that a document describes.
-pub fn catalog_of(alloc: Global, document: &Document) -> Result<Catalog, CatalogFault>
+pub fn catalog_of(alloc: Global, document: &Document) -> Result<Catalog, AllocError>
     requires { least_broken 3 document_rules document.now ≡ None }
-    ensures built { IfOk result (λ c. c ≡ catalog_of document.now) }
-    ensures memory { IfErr result (λ e. e ≡ CatalogFault.Memory) }
+    ensures { IfOk result (λ c. c ≡ catalog_of document.now) }
 {
     let columns = columns_of(alloc, &document.columns)?;
     let projections = projections_of(alloc, document)?;

@@ -4,11 +4,12 @@ ghost use Rattle.toml.specs.Data.{as_table};
 ghost use Rattle.toml.specs.View.{view, table_view};
 ghost use Rattle.cs_schema.specs.Document.{read_all};
 ghost use Rattle.cs_catalog.specs.Tree.{tables_at, column_of, projection_of, document_of};
-ghost use Rattle.cs_catalog.specs.Refusals.{IsRefused, IsRefusedUnlessMemory};
+ghost use Rattle.cs_catalog.specs.Refusals.{rule_of, IsRefused, IsRefusedUnlessMemory};
 
-use crate::CatalogFault;
+use crate::fault::Refusal;
 use crate::head::head_of;
-use crate::keys::{array_at, integers_at, push, text_at, texts_at};
+use crate::keys::{array_at, integers_at, text_at, texts_at};
+use crate::problem::{Part, Place, Problem};
 use std::alloc::Global;
 use std::marker::Model;
 use toml::{Table, Value};
@@ -85,32 +86,42 @@ impl<'a> Model for Document<'a> {
     } };
 }
 
-fn column(value: &Value) -> Result<ColumnEntry<'_>, CatalogFault>
+/// The refusal of an item of a list that is not a table.
+fn no_table<'a>(list: &'static str, at: usize) -> Refusal<'a>
+    ensures { rule_of result ≡ Some 2 }
+{
+    let (list, at) = (Part::Text(list), Part::Count(at));
+    Refusal::Rule(2, Problem::of_two("{} {} is not a table", list, at))
+}
+
+fn column(at: usize, value: &Value) -> Result<ColumnEntry<'_>, Refusal<'_>>
     ensures read { IfOk result (λ c. option_and_then column_of (as_table (view value.now)) ≡ Some c) }
     ensures unread { IfErr result (IsRefused 2 (option_and_then column_of (as_table (view value.now)))) }
 {
     let Some(table) = value.as_table() else {
-        return Err(CatalogFault::Rule(2));
+        return Err(no_table("column", at));
     };
-    let name = text_at(table, "name")?;
-    let kind = text_at(table, "kind")?;
+    let place = Place::Item("column", at);
+    let name = text_at(place, table, "name")?;
+    let kind = text_at(place, table, "kind")?;
     Ok(ColumnEntry { name, kind })
 }
 
-fn projection(alloc: Global, value: &Value) -> Result<ProjectionEntry<'_>, CatalogFault>
+fn projection(alloc: Global, at: usize, value: &Value) -> Result<ProjectionEntry<'_>, Refusal<'_>>
     ensures read { IfOk result (λ p. option_and_then projection_of (as_table (view value.now)) ≡ Some p) }
     ensures unread { IfErr result (IsRefusedUnlessMemory 2 (option_and_then projection_of (as_table (view value.now)))) }
 {
     let Some(table) = value.as_table() else {
-        return Err(CatalogFault::Rule(2));
+        return Err(no_table("projection", at));
     };
-    let name = text_at(table, "name")?;
-    let cuts = array_at(table, "cuts")?;
-    let columns = texts_at(alloc, table, "columns")?;
-    let code_numbers = integers_at(alloc, table, "codes")?;
-    let sort = texts_at(alloc, table, "sort")?;
-    let site_numbers = integers_at(alloc, table, "sites")?;
-    let joins = texts_at(alloc, table, "joins")?;
+    let place = Place::Item("projection", at);
+    let name = text_at(place, table, "name")?;
+    let columns = texts_at(alloc, place, table, "columns")?;
+    let code_numbers = integers_at(alloc, place, table, "codes")?;
+    let sort = texts_at(alloc, place, table, "sort")?;
+    let cuts = array_at(place, table, "cuts", "is not an array")?;
+    let site_numbers = integers_at(alloc, place, table, "sites")?;
+    let joins = texts_at(alloc, place, table, "joins")?;
     Ok(ProjectionEntry {
         name,
         columns,
@@ -122,46 +133,52 @@ fn projection(alloc: Global, value: &Value) -> Result<ProjectionEntry<'_>, Catal
     })
 }
 
-fn columns(alloc: Global, values: &[Value]) -> Result<Vec<ColumnEntry<'_>>, CatalogFault>
+fn columns(alloc: Global, values: &[Value]) -> Result<Vec<ColumnEntry<'_>>, Refusal<'_>>
     ensures read { IfOk result (λ v. read_all (λ d. option_and_then column_of (as_table d)) (map view values.now) ≡ Some v.items) }
     ensures unread { IfErr result (IsRefusedUnlessMemory 2 (read_all (λ d. option_and_then column_of (as_table d)) (map view values.now))) }
 {
     let mut found = Vec::new(alloc);
-    for value in values {
-        let entry = column(value)?;
-        push(&mut found, entry)?;
+    for (at, value) in values.iter().enumerate() {
+        let entry = column(at, value)?;
+        found.push(entry)?;
     }
     Ok(found)
 }
 
-fn projections(alloc: Global, values: &[Value]) -> Result<Vec<ProjectionEntry<'_>>, CatalogFault>
+fn projections(alloc: Global, values: &[Value]) -> Result<Vec<ProjectionEntry<'_>>, Refusal<'_>>
     ensures read { IfOk result (λ v. read_all (λ d. option_and_then projection_of (as_table d)) (map view values.now) ≡ Some v.items) }
     ensures unread { IfErr result (IsRefusedUnlessMemory 2 (read_all (λ d. option_and_then projection_of (as_table d)) (map view values.now))) }
 {
     let mut found = Vec::new(alloc);
-    for value in values {
-        let entry = projection(alloc, value)?;
-        push(&mut found, entry)?;
+    for (at, value) in values.iter().enumerate() {
+        let entry = projection(alloc, at, value)?;
+        found.push(entry)?;
     }
     Ok(found)
 }
 
-fn columns_at(alloc: Global, table: &Table) -> Result<Vec<ColumnEntry<'_>>, CatalogFault>
+fn columns_at(alloc: Global, table: &Table) -> Result<Vec<ColumnEntry<'_>>, Refusal<'_>>
     ensures read { IfOk result (λ v. tables_at column_of (codes "column") (table_view table.now) ≡ Some v.items) }
     ensures unread { IfErr result (IsRefusedUnlessMemory 2 (tables_at column_of (codes "column") (table_view table.now))) }
 {
-    columns(alloc, array_at(table, "column")?)
+    columns(
+        alloc,
+        array_at(Place::Catalog, table, "column", "is not an array")?,
+    )
 }
 
-fn projections_at(alloc: Global, table: &Table) -> Result<Vec<ProjectionEntry<'_>>, CatalogFault>
+fn projections_at(alloc: Global, table: &Table) -> Result<Vec<ProjectionEntry<'_>>, Refusal<'_>>
     ensures read { IfOk result (λ v. tables_at projection_of (codes "projection") (table_view table.now) ≡ Some v.items) }
     ensures unread { IfErr result (IsRefusedUnlessMemory 2 (tables_at projection_of (codes "projection") (table_view table.now))) }
 {
-    projections(alloc, array_at(table, "projection")?)
+    projections(
+        alloc,
+        array_at(Place::Catalog, table, "projection", "is not an array")?,
+    )
 }
 
 /// Reads each key at its type.
-pub fn read_document(alloc: Global, table: &Table) -> Result<Document<'_>, CatalogFault>
+pub fn read_document(alloc: Global, table: &Table) -> Result<Document<'_>, Refusal<'_>>
     ensures read { IfOk result (λ d. document_of (table_view table.now) ≡ Some d) }
     ensures unread { IfErr result (IsRefusedUnlessMemory 2 (document_of (table_view table.now))) }
 {
@@ -176,6 +193,6 @@ pub fn read_document(alloc: Global, table: &Table) -> Result<Document<'_>, Catal
             columns,
             projections,
         }),
-        Err(fault) => Err(fault),
+        Err(refusal) => Err(refusal),
     }
 }

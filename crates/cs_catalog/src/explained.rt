@@ -3,9 +3,7 @@ ghost use Rattle.std.specs.Prelude.{◌≡◌, ℕ, Some, IfOk, IfSome, IfNone, 
 ghost use Rattle.toml.specs.View.{table_view};
 ghost use Rattle.cs_catalog.specs.Reading.{least_broken_rule, BreaksRule};
 
-use crate::CatalogFault;
-use crate::document_problems::rule_words;
-use crate::key_problems::{key_words, version_words};
+use crate::fault::Refusal;
 use crate::read::table_catalog;
 use std::alloc::{AllocError, Global};
 use toml::Table;
@@ -19,25 +17,17 @@ pub struct Explanation {
     pub words: String,
 }
 
-fn words_of(alloc: Global, rule: u8, table: &Table) -> Result<String, AllocError> {
-    match rule {
-        1 => version_words(alloc, table),
-        2 => key_words(alloc, table),
-        _ => rule_words(alloc, rule, table),
-    }
-}
-
 fn explain_table(alloc: Global, table: &Table) -> Result<Option<Explanation>, AllocError>
     ensures broken { IfOk result (λ found. IfSome found (λ e. least_broken_rule (table_view table.now) ≡ Some e.rule)) }
     ensures none { IfOk result (λ found. IfNone found (least_broken_rule (table_view table.now) ≡ None)) }
 {
     match table_catalog(alloc, table) {
         Ok(_) => Ok(None),
-        Err(CatalogFault::Rule(rule)) => {
-            let words = words_of(alloc, rule, table)?;
+        Err(Refusal::Rule(rule, problem)) => {
+            let words = format!(in alloc; "{problem}")?;
             Ok(Some(Explanation { rule, words }))
         }
-        Err(_) => Err(AllocError),
+        Err(Refusal::Memory) => Err(AllocError),
     }
 }
 

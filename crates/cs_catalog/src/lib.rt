@@ -7,16 +7,14 @@
 mod build;
 mod cuts;
 mod document;
-mod document_problems;
 mod explained;
 mod fault;
 mod head;
-mod key_problems;
 mod keys;
 mod lookups;
 mod names;
 mod problem;
-mod projection_problems;
+mod projection_rules;
 mod read;
 mod rules;
 

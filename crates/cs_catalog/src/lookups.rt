@@ -1,7 +1,7 @@
 //! Looking up names in a document.
 ghost use Rattle.std.specs.Prelude.{◌≡◌};
 ghost use Rattle.cs_catalog.specs.Tree.{texts};
-ghost use Rattle.cs_schema.specs.Rules.{is_among, are_distinct, is_column, is_int_column, is_projection, leading};
+ghost use Rattle.cs_schema.specs.Rules.{is_among, is_column, is_int_column, is_projection, leading};
 
 use crate::document::{ColumnEntry, ProjectionEntry};
 
@@ -10,18 +10,6 @@ pub fn is_among(name: &str, names: &[&str]) -> bool
     ensures { result ≡ is_among name.now (texts names.now) }
 {
     names.contains(&name)
-}
-
-/// Whether no name occurs twice, for short lists.
-pub fn are_distinct(names: &[&str]) -> bool
-    ensures { result ≡ are_distinct (texts names.now) }
-{
-    for (i, name) in names.iter().enumerate() {
-        if is_among(name, &names[i + 1..]) {
-            return false;
-        }
-    }
-    true
 }
 
 /// Whether some column has this name.

@@ -6,5 +6,5 @@ use Rattle.cs_catalog.specs.Tree.{cut_of}
 use Rattle.cs_schema.specs.Cuts.{cut_text}
 use Rattle.cs_catalog.proofs.cuts.text_cuts.Given as goal
 
-abbrev pub invariant-loop-value : goal.invariant-loop-value
-invariant-loop-value l = read_all cut_text (map cut_of (map view (take l.value-index l.values))) ≡ Some (map Cell.Text l.found)
+abbrev pub invariant-loop-at : goal.invariant-loop-at
+invariant-loop-at l = read_all cut_text (map cut_of (map view (take l.at l.values))) ≡ Some (map Cell.Text l.found)

@@ -9,10 +9,10 @@ use Rattle.cs_catalog.proofs.document.columns.Goals as goal
 pub returns-in_err-entry-clause-unread : goal.returns-in_err-entry-clause-unread
 returns-in_err-entry-clause-unread c =
     let p = err_from_is_err_and c.from_residual.result c.from_residual.ensures.1 in
-    let stops = read_stops view (λ d. option_and_then column_of (as_table d)) c.args.values.now c.loop-value.value-index c.value-item.result c.loop-value-test.true c.value-item.is in
+    let stops = read_stops view (λ d. option_and_then column_of (as_table d)) c.args.values.now c.loop-at.at c.loop-at-item.result c.loop-at-test.true c.loop-at-item.is in
     rw (p.1, p.2) (λ _. (c.in_err-entry.ensures.unread.0, stops c.in_err-entry.ensures.unread.1))
 
-pub loop-value-preserved : goal.loop-value-preserved
-loop-value-preserved c =
-    let more = read_more view (λ d. option_and_then column_of (as_table d)) c.args.values.now c.loop-value.value-index c.value-item.result _ c.in_ok-entry.entry c.loop-value-test.true c.value-item.is c.in_ok-entry.ensures.read c.loop-value.invariant in
-    rw c.in_ok-push.ensures.ok more
+pub loop-at-preserved : goal.loop-at-preserved
+loop-at-preserved c =
+    let more = read_more view (λ d. option_and_then column_of (as_table d)) c.args.values.now c.loop-at.at c.loop-at-item.result _ c.in_ok-entry.entry c.loop-at-test.true c.loop-at-item.is c.in_ok-entry.ensures.read c.loop-at.invariant in
+    rw c.in_ok-push.ensures.items more

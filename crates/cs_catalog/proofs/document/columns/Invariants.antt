@@ -6,5 +6,5 @@ use Rattle.cs_schema.specs.Document.{read_all}
 use Rattle.cs_catalog.specs.Tree.{column_of}
 use Rattle.cs_catalog.proofs.document.columns.Given as goal
 
-abbrev pub invariant-loop-value : goal.invariant-loop-value
-invariant-loop-value l = read_all (λ d. option_and_then column_of (as_table d)) (map view (take l.value-index l.values)) ≡ Some l.found.items
+abbrev pub invariant-loop-at : goal.invariant-loop-at
+invariant-loop-at l = read_all (λ d. option_and_then column_of (as_table d)) (map view (take l.at l.values)) ≡ Some l.found.items

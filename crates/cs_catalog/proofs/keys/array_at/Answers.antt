@@ -15,9 +15,9 @@ pub returns-in-None-as_array-clause-unread : goal.returns-in-None-as_array-claus
 returns-in-None-as_array-clause-unread c =
     let found = table_get c.get.result c.args.key.now c.args.table.now.entries c.get.ensures.value in
     let here : None ≡ as_array (view c.in-Some.value.now) = c.in-None-as_array.ensures in
-    (refl, rw (← rw c.in-Some.is at found, ← here))
+    (search rules, rw (← rw c.in-Some.is at found, ← here))
 
 pub returns-in-None-clause-unread : goal.returns-in-None-clause-unread
 returns-in-None-clause-unread c =
     let found = table_get c.get.result c.args.key.now c.args.table.now.entries c.get.ensures.value in
-    (refl, rw (← rw c.in-None.is at found))
+    (search rules, rw (← rw c.in-None.is at found))

@@ -13,9 +13,9 @@ returns-in-Some-as_integer-clause-read c =
 pub returns-in-None-as_integer-clause-unread : goal.returns-in-None-as_integer-clause-unread
 returns-in-None-as_integer-clause-unread c =
     let found = table_get c.get.result c.args.key.now c.args.table.now.entries c.get.ensures.value in
-    (refl, rw (← rw c.in-Some.is at found) (sym c.in-None-as_integer.ensures))
+    (search rules, rw (← rw c.in-Some.is at found) (sym c.in-None-as_integer.ensures))
 
 pub returns-in-None-clause-unread : goal.returns-in-None-clause-unread
 returns-in-None-clause-unread c =
     let found = table_get c.get.result c.args.key.now c.args.table.now.entries c.get.ensures.value in
-    (refl, rw (← rw c.in-None.is at found))
+    (search rules, rw (← rw c.in-None.is at found))

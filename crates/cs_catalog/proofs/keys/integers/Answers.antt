@@ -6,9 +6,9 @@ use Rattle.cs_catalog.proofs.keys.integers.Goals as goal
 
 pub returns-in-None-clause-unread : goal.returns-in-None-clause-unread
 returns-in-None-clause-unread c _ =
-    (refl, read_stops view as_integer c.args.values.now c.loop-value.value-index c.value-item.result c.loop-value-test.true c.value-item.is (sym c.in-None.ensures))
+    (c.requires, read_stops view as_integer c.args.values.now c.loop-value.value-index c.value-item.result c.loop-value-test.true c.value-item.is (sym c.in-None.ensures))
 
 pub loop-value-preserved : goal.loop-value-preserved
 loop-value-preserved c =
     let more = read_more view as_integer c.args.values.now c.loop-value.value-index c.value-item.result _ c.in-Some.number c.loop-value-test.true c.value-item.is (sym c.in-Some.ensures) c.loop-value.invariant in
-    rw c.in_ok-push-in-Some.ensures.ok (grind (arith, to_z-of_z, more))
+    rw c.in_ok-push-in-Some.ensures.items (grind (arith, to_z-of_z, more))

@@ -1,8 +1,0 @@
-use Rattle.std.proofs.Common.{◌≡◌, drop}
-use Rattle.std.specs.List.{list_all}
-use Rattle.cs_catalog.specs.Tree.{texts}
-use Rattle.cs_schema.specs.Rules.{is_column}
-use Rattle.cs_catalog.proofs.rules.are_columns.Given as goal
-
-abbrev pub invariant-loop-name : goal.invariant-loop-name
-invariant-loop-name l = list_all (is_column l.columns) (texts l.names) ≡ list_all (is_column l.columns) (texts (drop l.name-index l.names))
