@@ -19,5 +19,5 @@ projection_of-requires-clause-cuts c =
 
 pub loop-entry-preserved : goal.loop-entry-preserved
 loop-entry-preserved c =
-    rw (c.in_ok-push.ensures.ok, c.in_ok-projection.ensures.built)
+    rw (c.in_ok-push.ensures.items, c.in_ok-projection_of.ensures)
     (mapped_item (projection_data c.args.document.now) c.as_slice-entries.result.now c.loop-entry.entry-index c.entry-item.result c.loop-entry.projections.items c.loop-entry-test.true c.entry-item.is c.loop-entry.invariant)
