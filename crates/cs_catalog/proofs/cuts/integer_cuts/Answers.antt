@@ -1,4 +1,4 @@
-use Rattle.std.proofs.Common.{refl, to_z-of_z, arith}
+use Rattle.std.proofs.Common.{to_z-of_z, arith}
 use Rattle.toml.specs.View.{view}
 use Rattle.cs_schema.specs.declared.cells.Value.{Value}
 use Rattle.cs_catalog.specs.Tree.{cut_of}

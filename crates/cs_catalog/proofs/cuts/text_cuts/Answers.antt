@@ -1,4 +1,3 @@
-use Rattle.std.proofs.Common.{refl}
 use Rattle.toml.specs.View.{view}
 use Rattle.cs_schema.specs.declared.cells.Value.{Value}
 use Rattle.cs_catalog.specs.Tree.{cut_of}

@@ -1,4 +1,4 @@
-use Rattle.std.proofs.Common.{◌≡◌, Some, None, ap, refl, rules}
+use Rattle.std.proofs.Common.{◌≡◌, Some, None, ap, rules}
 use Rattle.toml.specs.Data.{as_array}
 use Rattle.toml.specs.View.{view, array_view}
 use Rattle.toml.proofs.Views.{table_get}

@@ -1,4 +1,4 @@
-use Rattle.std.proofs.Common.{sym, refl, arith, to_z-of_z}
+use Rattle.std.proofs.Common.{sym, arith, to_z-of_z}
 use Rattle.toml.specs.Data.{as_integer}
 use Rattle.toml.specs.View.{view}
 use Rattle.cs_catalog.proofs.Reading.{read_more, read_stops}

@@ -1,4 +1,4 @@
-use Rattle.std.proofs.Common.{◌≡◌, Some, sym, refl, arith, to_z-of_z, rules}
+use Rattle.std.proofs.Common.{◌≡◌, Some, sym, arith, to_z-of_z, rules}
 use Rattle.toml.specs.Data.{as_str}
 use Rattle.toml.specs.View.{view}
 use Rattle.toml.proofs.Views.{table_get}

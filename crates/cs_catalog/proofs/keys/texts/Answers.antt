@@ -1,4 +1,4 @@
-use Rattle.std.proofs.Common.{sym, refl}
+use Rattle.std.proofs.Common.{sym}
 use Rattle.toml.specs.Data.{as_str}
 use Rattle.toml.specs.View.{view}
 use Rattle.cs_catalog.proofs.Reading.{read_more, read_stops}
