@@ -3,10 +3,10 @@ use Rattle.std.proofs.Common.{◌≡◌, ◌⊎◌, ⊎_elim, subst, sym, ◌≤
 use Rattle.std.specs.List.{list_any}
 use Rattle.cs_schema.specs.declared.file_name.FileName.{FileName}
 use Rattle.cs_manifest.specs.declared.comparing.Difference.{Difference}
-use Rattle.pinepolo_answers.specs.Statuses.{agreement, differing_status, is_missing, is_unread, is_unreadable, listed_status}
+use Rattle.pinepolo_answers.specs.Statuses.{agreement, is_missing, is_unread, is_unreadable}
 use Rattle.cs_diagnosis.specs.declared.findings.Verdict.{Verdict as FoundVerdict}
 use Rattle.cs_diagnosis.specs.declared.findings.Verdict.TheVariants as Found
-use Rattle.pinepolo_answers.specs.Statuses.{drilled_status, is_failed}
+use Rattle.pinepolo_answers.specs.Statuses.{is_failed}
 use Rattle.pinepolo_answers.specs.declared.checked.Verdict.{Verdict}
 use Rattle.pinepolo_answers.specs.declared.checked.Verdict.TheVariants.{Sound, Fatal, BadFiles, Unsound}
 use Rattle.pinepolo_answers.specs.declared.restoration.Restoration.{Restoration}

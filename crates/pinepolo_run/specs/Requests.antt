@@ -24,11 +24,11 @@ exit_status exit.OutOfMemory = 3
 module _ {P S K I N B : Type 0} (w : WorldSays P S K I N B) where
   -- the verb was performed, and the status tells its answer
   abbrev pub AnswersRequest : P → Verb → ℕ → P → Type 0
-  AnswersRequest s asked status t = (given : Answer) × Performs s asked given t × IsSaid (answer_status given) status
+  AnswersRequest s asked status t = (given : Answer) × Performs w s asked given t × IsSaid (answer_status given) status
 
   -- the verb stopped early, and the status tells why
   abbrev pub RefusesRequest : P → Verb → ℕ → P → Type 0
-  RefusesRequest s asked status t = StopsEarly s asked t × ((stop : VerbError) × IsSaid (status_of stop) status)
+  RefusesRequest s asked status t = StopsEarly w s asked t × ((stop : VerbError) × IsSaid (status_of stop) status)
 
   -- A request is answered or refused. Without one the places stay as they were.
   abbrev pub Runs : Result Request ParseExit → P → ℕ → P → Type 0
