@@ -1,0 +1,70 @@
+"""The figures that were measured, a run for each number of rows, as docs/performance.json keeps them."""
+import datetime
+import json
+import os
+import subprocess
+
+from measuring.costs import Cost
+
+
+def machine():
+    """The processor, how many there are, the memory, the system, and the file system of the room."""
+    with open("/proc/cpuinfo", encoding="utf-8") as file:
+        model = next((line.partition(":")[2].strip() for line in file if line.startswith("model name")), os.uname().machine)
+    with open("/proc/meminfo", encoding="ascii") as file:
+        memory = int(file.readline().split()[1]) * 1024
+    kind = said(["stat", "-f", "-c", "%T", os.environ.get("TMPDIR", "/tmp")])
+    return f"{len(os.sched_getaffinity(0))} processors ({model}), {memory / 1e9:.0f} GB, Linux {os.uname().release.partition('-')[0]}, {kind}"
+
+
+def said(words, folder=None):
+    """What a command prints, or nothing."""
+    try:
+        return subprocess.run(words, cwd=folder, capture_output=True, text=True, check=True).stdout.strip()
+    except (OSError, subprocess.CalledProcessError):
+        return ""
+
+
+def versions(tools):
+    """The versions of the public tools."""
+    found = {"sha256sum": said(["sha256sum", "--version"]).partition("\n")[0].rpartition(" ")[2]}
+    if "sqlite3" in tools:
+        found["sqlite3"] = said(["sqlite3", "--version"]).partition(" ")[0]
+    if "par2" in tools:
+        found["par2"] = said(["par2", "--version"]).rpartition(" ")[2]
+    return found
+
+
+def run_record(top, rounds, costs, table, store, tools):
+    """What is kept of a run. The commit is the last one that changed the code of the programs."""
+    commit = said(["git", "log", "-1", "--format=%h", "--", "crates", "crates.txt"], top) or "unknown"
+    changed = said(["git", "status", "--porcelain", "--", "crates", "crates.txt"], top)
+    return {
+        "date": datetime.date.today().isoformat(),
+        "commit": commit + (", changed" if changed else ""),
+        "machine": machine(),
+        "versions": versions(tools),
+        "rounds": rounds,
+        "table": table,
+        "store": store,
+        "steps": {name: {"seconds": round(it.seconds, 3), "memory": it.memory} for name, it in costs.items()},
+    }
+
+
+def read_runs(path):
+    """The runs of a file, by their rows; none if there is no such file."""
+    if not os.path.exists(path):
+        return {}
+    with open(path, encoding="utf-8") as file:
+        return {int(rows): run for rows, run in json.load(file).items()}
+
+
+def write_runs(path, runs):
+    with open(path, "w", encoding="utf-8") as file:
+        json.dump({str(rows): runs[rows] for rows in sorted(runs)}, file, indent=1)
+        file.write("\n")
+
+
+def cost(run, name):
+    step = run["steps"].get(name)
+    return step and Cost(step["seconds"], step["memory"])
