@@ -3,6 +3,7 @@ import datetime
 import json
 import os
 import subprocess
+import tempfile
 
 from measuring.costs import Cost
 
@@ -13,7 +14,7 @@ def machine():
         model = next((line.partition(":")[2].strip() for line in file if line.startswith("model name")), os.uname().machine)
     with open("/proc/meminfo", encoding="ascii") as file:
         memory = int(file.readline().split()[1]) * 1024
-    kind = said(["stat", "-f", "-c", "%T", os.environ.get("TMPDIR", "/tmp")])
+    kind = said(["df", "--output=fstype", tempfile.gettempdir()]).rpartition("\n")[2]
     return f"{len(os.sched_getaffinity(0))} processors ({model}), {memory / 1e9:.0f} GB, Linux {os.uname().release.partition('-')[0]}, {kind}"
 
 
@@ -35,8 +36,9 @@ def versions(tools):
     return found
 
 
-def run_record(top, rounds, costs, table, store, tools):
-    """What is kept of a run. The commit is the last one that changed the code of the programs."""
+def run_record(top, rounds, measured, tools, load):
+    """What is kept of a run. The commit is the last one of this tree that changed the code of the programs."""
+    costs, table, store = measured
     commit = said(["git", "log", "-1", "--format=%h", "--", "crates", "crates.txt"], top) or "unknown"
     changed = said(["git", "status", "--porcelain", "--", "crates", "crates.txt"], top)
     return {
@@ -44,6 +46,7 @@ def run_record(top, rounds, costs, table, store, tools):
         "commit": commit + (", changed" if changed else ""),
         "machine": machine(),
         "versions": versions(tools),
+        "load": load,
         "rounds": rounds,
         "table": table,
         "store": store,

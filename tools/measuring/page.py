@@ -4,13 +4,15 @@ from measuring.figures import cost
 from measuring.steps import TOOLS, VERBS
 
 BEGIN, END = "<!-- measure: begin -->", "<!-- measure: end -->"
-PAIRS = [("load", "sqlite3 .import"), ("check", "sha256sum -c"), ("dump", "sqlite3 -csv"), ("recover",), ("restore", "par2 repair", "par2 create"), ("diagnose",)]
-# What the first page tells, of this many rows and more.
+PAIRS = [("load", "sqlite3 .import"), ("check", "sha256sum -c"), ("dump", "sqlite3 -csv"), ("recover",), ("restore", "par2 create", "par2 repair"), ("diagnose",)]
+# A machine with more work than this (load average) is not quiet.
+QUIET_LOAD = 0.5
+# What the first page tells: of this many rows and more, if there are any.
 README_ROWS = 1_000_000
 
 
 def size_text(size):
-    return f"{size / 1e6:.0f} MB" if size < 1e9 else f"{size / 1e9:.1f} GB"
+    return f"{size / 1e6:.1f} MB" if size < 1e7 else f"{size / 1e6:.0f} MB" if size < 1e9 else f"{size / 1e9:.1f} GB"
 
 
 def row(*cells):
@@ -34,7 +36,8 @@ def setting(runs):
     tools = alike({rows: ", ".join(f"{name} {version}" for name, version in run["versions"].items()) for rows, run in runs.items()})
     lines = [row(f"{rows:,}", size_text(run["table"]), size_text(run["store"]), str(run["rounds"]), f"`{run['commit']}`", run["date"])
              for rows, run in runs.items()]
-    return [f"On {machine}. Tools: {tools}.", "", *head("Rows", "CSV", "Store", "Rounds", "Commit", "Day"), *lines]
+    busy = [f"{rows:,} rows" for rows, run in runs.items() if run["load"] > QUIET_LOAD]
+    return [f"On {machine}. Tools: {tools}.", *([f"Other work was running: {', '.join(busy)}."] if busy else []), "", *head("Rows", "CSV", "Store", "Rounds", "Commit", "Day"), *lines]
 
 
 def step_row(name, runs):
@@ -59,7 +62,8 @@ def readme_line(rows, run):
 
 def readme_text(runs):
     """The marked part of README.md."""
-    return "\n".join(readme_line(*it) for it in runs.items() if it[0] >= README_ROWS or len(runs) == 1)
+    told = {rows: run for rows, run in runs.items() if rows >= README_ROWS} or runs
+    return "\n".join(readme_line(*it) for it in told.items())
 
 
 def with_part(page, text):
