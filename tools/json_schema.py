@@ -1,8 +1,8 @@
 """Answers in JSON against the schemas of docs/json/.
 
-Read is a part of JSON Schema, draft 2020-12: $ref, type, const, enum, anyOf, properties, required, items, minimum,
-maximum, minItems, maxItems and pattern. Beyond that standard, a member that no `properties` names is a fault, so that the
-schemas name all that the program answers.
+Read is a part of JSON Schema, draft 2020-12: $ref, type, const, enum, examples, anyOf, properties, required, items,
+minimum, maximum, minItems, maxItems and pattern. Beyond that standard, a member that no `properties` names and a value that
+`examples` lacks are faults here, so that the schemas name all that the program answers.
 """
 import json
 import os
@@ -63,7 +63,7 @@ class Schemas:
 
 
 TYPES = {"object": dict, "array": list, "string": str, "boolean": bool, "null": type(None), "integer": int}
-KNOWN = {"$schema", "$id", "$defs", "$ref", "title", "description", "type", "const", "enum", "anyOf", "properties", "required",
+KNOWN = {"$schema", "$id", "$defs", "$ref", "title", "description", "type", "const", "enum", "examples", "anyOf", "properties", "required",
          "items", "minimum", "maximum", "minItems", "maxItems", "pattern"}
 
 
@@ -78,8 +78,10 @@ def own_faults(value, schema):
     if types and not any(is_of(value, it) for it in ([types] if isinstance(types, str) else types)):
         yield f"{json.dumps(value)} is not of type {types}"
         return
-    if "const" in schema and value != schema["const"] or "enum" in schema and value not in schema["enum"]:
-        yield f"{json.dumps(value)} is not {json.dumps(schema.get('const', schema.get('enum')))}"
+    if "const" in schema and value != schema["const"]:
+        yield f"{json.dumps(value)} is not {json.dumps(schema['const'])}"
+    if value not in schema.get("enum", schema.get("examples", [value])):
+        yield f"{json.dumps(value)} is none of {json.dumps(schema.get('enum', schema.get('examples')))}"
     if isinstance(value, int) and not schema.get("minimum", value) <= value <= schema.get("maximum", value):
         yield f"{value} is out of range"
     if isinstance(value, list) and not schema.get("minItems", 0) <= len(value) <= schema.get("maxItems", len(value)):
