@@ -10,7 +10,7 @@ import sys
 import time
 
 
-def main(words):
+def main(words: list[str]) -> None:
     told, *command = words
     begun = time.monotonic()
     child = os.posix_spawnp(command[0], command, os.environ)

@@ -4,6 +4,7 @@ import statistics
 import subprocess
 import sys
 import tempfile
+from collections.abc import Sequence
 from dataclasses import dataclass
 
 ALONE = f"{os.path.dirname(os.path.abspath(__file__))}/alone.py"
@@ -22,26 +23,26 @@ class Cost:
     seconds: float
     memory: int
 
-    def __str__(self):
+    def __str__(self) -> str:
         return f"{seconds_text(self.seconds)}, {memory_text(self.memory)}"
 
 
-def seconds_text(seconds):
+def seconds_text(seconds: float) -> str:
     return f"{seconds:.2f} s" if seconds < 1 else f"{seconds:.1f} s" if seconds < 100 else f"{seconds:.0f} s"
 
 
-def memory_text(size):
+def memory_text(size: int) -> str:
     """A size in MB, or from a thousand of them on in GB."""
     if size < LEAST:
         return f"below {LEAST / 1e6:.0f} MB"
     return f"{size / 1e6:.0f} MB" if size < 1e9 else f"{size / 1e9:.2f} GB"
 
 
-def median(costs):
+def median(costs: Sequence[Cost]) -> Cost:
     return Cost(statistics.median(it.seconds for it in costs), round(statistics.median(it.memory for it in costs)))
 
 
-def measured(words, output=os.devnull, folder=None, status=0):
+def measured(words: Sequence[str], output: str = os.devnull, folder: str | None = None, status: int = 0) -> Cost:
     """Runs a command that has to end with a status, and answers its cost. What was written before is on the disk then."""
     os.sync()
     with tempfile.NamedTemporaryFile("r", encoding="ascii") as told, open(output, "wb") as file:

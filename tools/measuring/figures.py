@@ -4,11 +4,15 @@ import json
 import os
 import subprocess
 import tempfile
+from collections.abc import Iterable
 
 from measuring.costs import Cost
 
+# A run as it is kept: plain data, by the names of `run_record`.
+Run = dict
 
-def machine():
+
+def machine() -> str:
     """The processor, how many there are, the memory, the system, and the file system of the room."""
     with open("/proc/cpuinfo", encoding="utf-8") as file:
         model = next((line.partition(":")[2].strip() for line in file if line.startswith("model name")), os.uname().machine)
@@ -18,7 +22,7 @@ def machine():
     return f"{len(os.sched_getaffinity(0))} processors ({model}), {memory / 1e9:.0f} GB, Linux {os.uname().release.partition('-')[0]}, {kind}"
 
 
-def said(words, folder=None):
+def said(words: list[str], folder: str | None = None) -> str:
     """What a command prints, or nothing."""
     try:
         return subprocess.run(words, cwd=folder, capture_output=True, text=True, check=True).stdout.strip()
@@ -26,7 +30,7 @@ def said(words, folder=None):
         return ""
 
 
-def versions(tools):
+def versions(tools: Iterable[str]) -> dict[str, str]:
     """The versions of the public tools."""
     found = {"sha256sum": said(["sha256sum", "--version"]).partition("\n")[0].rpartition(" ")[2]}
     if "sqlite3" in tools:
@@ -36,7 +40,7 @@ def versions(tools):
     return found
 
 
-def run_record(top, rounds, measured, tools, load):
+def run_record(top: str, rounds: int, measured: tuple[dict[str, Cost], int, int], tools: Iterable[str], load: float) -> Run:
     """What is kept of a run. The commit is the last one of this tree that changed the code of the programs."""
     costs, table, store = measured
     commit = said(["git", "log", "-1", "--format=%h", "--", "crates", "crates.txt"], top) or "unknown"
@@ -54,7 +58,7 @@ def run_record(top, rounds, measured, tools, load):
     }
 
 
-def read_runs(path):
+def read_runs(path: str) -> dict[int, Run]:
     """The runs of a file, by their rows; none if there is no such file."""
     if not os.path.exists(path):
         return {}
@@ -62,12 +66,12 @@ def read_runs(path):
         return {int(rows): run for rows, run in json.load(file).items()}
 
 
-def write_runs(path, runs):
+def write_runs(path: str, runs: dict[int, Run]) -> None:
     with open(path, "w", encoding="utf-8") as file:
         json.dump({str(rows): runs[rows] for rows in sorted(runs)}, file, indent=1)
         file.write("\n")
 
 
-def cost(run, name):
+def cost(run: Run, name: str) -> Cost | None:
     step = run["steps"].get(name)
     return step and Cost(step["seconds"], step["memory"])

@@ -1,9 +1,11 @@
 """A picture in SVG of time and memory by rows: two panels with logarithmic axes, and a legend."""
 import math
+from collections.abc import Callable, Iterable, Iterator
 from dataclasses import dataclass
 from html import escape
 
-from measuring.figures import cost
+from measuring.costs import Cost
+from measuring.figures import Run, cost
 from measuring.steps import TOOLS, VERBS
 
 WIDTH, HEIGHT = 940, 480
@@ -35,17 +37,17 @@ class Axis:
     begin: float
     end: float
 
-    def at(self, value):
+    def at(self, value: float) -> float:
         part = math.log10(value / self.least) / math.log10(self.most / self.least)
         return self.begin + part * (self.end - self.begin)
 
-    def ticks(self):
+    def ticks(self) -> list[float]:
         """1, 2 and 5 times each power of ten."""
         powers = range(math.floor(math.log10(self.least)) - 1, math.ceil(math.log10(self.most)) + 1)
         return [it for power in powers for digit in (1, 2, 5) if self.least * 0.999 <= (it := digit * 10.0**power) <= self.most * 1.001]
 
 
-def axis(values, begin, end, whole_decades=False):
+def axis(values: list[float], begin: float, end: float, whole_decades: bool = False) -> Axis:
     """An axis with room for all values, from a tick to a tick."""
     low, high = min(values), max(values)
     powers = range(math.floor(math.log10(low)) - 1, math.ceil(math.log10(high)) + 2)
@@ -55,32 +57,32 @@ def axis(values, begin, end, whole_decades=False):
     return Axis(least, most, begin, end)
 
 
-def is_power(value):
+def is_power(value: float) -> bool:
     return abs(math.log10(value) - round(math.log10(value))) < 1e-9
 
 
-def rows_text(value):
+def rows_text(value: float) -> str:
     return f"{value:,.0f}"
 
 
-def time_text(value):
+def time_text(value: float) -> str:
     return f"{value:g} s"
 
 
-def bytes_text(value):
+def bytes_text(value: float) -> str:
     return f"{value / 1e6:g} MB" if value < 1e9 else f"{value / 1e9:g} GB"
 
 
-def text(x, y, words, anchor="middle", size=12, **more):
+def text(x: float, y: float, words: str, anchor: str = "middle", size: int = 12, **more: str) -> str:
     extra = "".join(f' {name.replace("_", "-")}="{value}"' for name, value in more.items())
     return f'<text x="{x:.1f}" y="{y:.1f}" text-anchor="{anchor}" font-size="{size}"{extra}>{escape(words)}</text>'
 
 
-def line(x1, y1, x2, y2, colour, width=1.0):
+def line(x1: float, y1: float, x2: float, y2: float, colour: str, width: float = 1.0) -> str:
     return f'<line x1="{x1:.1f}" y1="{y1:.1f}" x2="{x2:.1f}" y2="{y2:.1f}" stroke="{colour}" stroke-width="{width}"/>'
 
 
-def mark(kind, x, y, colour):
+def mark(kind: str, x: float, y: float, colour: str) -> str:
     """A mark of about eight points around a place."""
     if kind == "circle":
         return f'<circle cx="{x:.1f}" cy="{y:.1f}" r="4" fill="{colour}"/>'
@@ -92,14 +94,14 @@ def mark(kind, x, y, colour):
     return f'<polygon points="{" ".join(f"{x + a:.1f},{y + b:.1f}" for a, b in corners[kind])}" fill="{colour}"/>'
 
 
-def curve(points, style):
+def curve(points: list[tuple[float, float]], style: Style) -> Iterator[str]:
     dashes = f' stroke-dasharray="{style.dashes}"' if style.dashes else ""
     path = " ".join(f"{x:.1f},{y:.1f}" for x, y in points)
     yield f'<polyline points="{path}" fill="none" stroke="{style.colour}" stroke-width="2"{dashes}/>'
     yield from (mark(style.mark, x, y, style.colour) for x, y in points)
 
 
-def grid(across, up, tick_text):
+def grid(across: Axis, up: Axis, tick_text: Callable[[float], str]) -> Iterator[str]:
     """The lines of a panel with what they stand for."""
     for value in across.ticks():
         x = across.at(value)
@@ -114,7 +116,7 @@ def grid(across, up, tick_text):
     yield line(across.begin, up.begin, across.begin, up.end, "#000000")
 
 
-def panel(title, left, series, tick_text):
+def panel(title: str, left: float, series: dict[str, dict[int, float]], tick_text: Callable[[float], str]) -> Iterator[str]:
     """A panel: a curve for each step, of its values by rows."""
     across = axis([rows for it in series.values() for rows in it], left, left + PLOT_WIDTH, whole_decades=True)
     up = axis([value for it in series.values() for value in it.values()], TOP + PLOT_HEIGHT, TOP)
@@ -125,7 +127,7 @@ def panel(title, left, series, tick_text):
     yield text(left + PLOT_WIDTH / 2, TOP + PLOT_HEIGHT + 38, "rows")
 
 
-def legend(names):
+def legend(names: Iterable[str]) -> Iterator[str]:
     width = (WIDTH - 60) / LEGEND_COLUMNS
     for at, name in enumerate(names):
         x, y, style = 40 + at % LEGEND_COLUMNS * width, LEGEND_TOP + at // LEGEND_COLUMNS * 22, STYLES[name]
@@ -135,13 +137,13 @@ def legend(names):
         yield text(x + 26, y + 4, name if name in TOOLS else f"pinepolo {name}", "start", 13)
 
 
-def values(runs, of):
+def values(runs: dict[int, Run], of: Callable[[Cost], float]) -> dict[str, dict[int, float]]:
     """What each step took, by rows, if it was measured at all."""
     found = {name: {rows: of(it) for rows, run in runs.items() if (it := cost(run, name))} for name in STYLES}
     return {name: it for name, it in found.items() if it}
 
 
-def picture(runs):
+def picture(runs: dict[int, Run]) -> str:
     times, memory = values(runs, lambda it: it.seconds), values(runs, lambda it: it.memory)
     parts = [*panel("Time by the clock", LEFTS[0], times, time_text), *panel("Largest memory", LEFTS[1], memory, bytes_text), *legend(times)]
     body = "\n".join(parts)

@@ -3,10 +3,11 @@ import filecmp
 import os
 import shutil
 import subprocess
+from collections.abc import Callable, Iterator
 from dataclasses import dataclass
 
 from fault_injection.stores import LOST, lost_names, names_of
-from measuring.costs import Failed, measured, median
+from measuring.costs import Cost, Failed, measured, median
 from measuring.store import redundancy, write_inputs
 
 # The site that lies.
@@ -40,7 +41,7 @@ class Step:
     """A command that is measured."""
 
     name: str
-    words: list
+    words: list[str]
     output: str = os.devnull
     folder: str | None = None
     status: int = 0
@@ -53,37 +54,37 @@ class Room:
     folder: str
     rows: int
     program: str
-    tools: frozenset
+    tools: frozenset[str]
 
-    def path(self, name):
+    def path(self, name: str) -> str:
         return f"{self.folder}/{name}"
 
-    def verb(self, name, *words, output=os.devnull, status=0):
+    def verb(self, name: str, *words: str, output: str = os.devnull, status: int = 0) -> Step:
         return Step(name, [self.program, name, "--quiet", *words], output, status=status)
 
 
-def emptied(path):
+def emptied(path: str) -> str:
     shutil.rmtree(path, ignore_errors=True)
     if os.path.isfile(path):
         os.remove(path)
     return path
 
 
-def loads(room):
+def loads(room: Room) -> Iterator[Step]:
     store, database = emptied(room.path("store")), emptied(room.path("table.db"))
     yield room.verb("load", room.path("catalog.toml"), room.path("table.csv"), store)
     if "sqlite3" in room.tools:
         yield Step("sqlite3 .import", ["sqlite3", database, SCHEMA, ".import --csv --skip 1 table.csv sales", INDEXES], folder=room.folder)
 
 
-def checks(room):
+def checks(room: Room) -> Iterator[Step]:
     yield room.verb("check", room.path("store"))
     with open(room.path("manifest"), "wb") as file:
         subprocess.run([room.program, "manifest", room.path("store")], stdout=file, check=True)
     yield Step("sha256sum -c", ["sha256sum", "-c", "--quiet", room.path("manifest")], folder=room.path("store"))
 
 
-def dumps(room):
+def dumps(room: Room) -> Iterator[Step]:
     dumped = room.path("dumped.csv")
     yield room.verb("dump", room.path("store"), output=dumped)
     if not filecmp.cmp(dumped, room.path("table.csv"), shallow=False):
@@ -93,7 +94,7 @@ def dumps(room):
     emptied(dumped)
 
 
-def repairs(room):
+def repairs(room: Room) -> Iterator[Step]:
     store, out = room.path("store"), emptied(room.path("out"))
     yield room.verb("recover", store, out, *LOST)
     lost = lost_names(store)
@@ -108,7 +109,7 @@ def repairs(room):
     subprocess.run(["sha256sum", "-c", "--quiet", room.path("manifest")], cwd=store, check=True)
 
 
-def par2(room, lost):
+def par2(room: Room, lost: list[str]) -> Iterator[Step]:
     """The same files, as links to them."""
     store, folder = room.path("store"), emptied(room.path("par2"))
     os.mkdir(folder)
@@ -124,7 +125,7 @@ def par2(room, lost):
     emptied(folder)
 
 
-def diagnoses(room):
+def diagnoses(room: Room) -> Iterator[Step]:
     """One site's files are those of the other table."""
     store, other = room.path("store"), room.path("other")
     if not os.path.isdir(other):
@@ -139,16 +140,16 @@ def diagnoses(room):
             raise Failed("diagnose: another site than the one that lies")
 
 
-def steps(room):
+def steps(room: Room) -> Iterator[Step]:
     """The steps of a round, in turns. Each is measured before the next one is asked for."""
     for part in (loads, checks, dumps, repairs, diagnoses):
         yield from part(room)
 
 
-def measure(room, rounds, tell):
+def measure(room: Room, rounds: int, tell: Callable[[str], None]) -> tuple[dict[str, Cost], int, int]:
     """The medians of some rounds, by step, and the bytes of the table and of the store."""
     write_inputs(room.folder, room.rows)
-    found = {}
+    found: dict[str, list[Cost]] = {}
     for number in range(1, rounds + 1):
         for step in steps(room):
             cost = measured(step.words, step.output, step.folder, step.status)

@@ -17,14 +17,14 @@ CODES = {"colour": 2}
 PLAIN = 4
 
 
-def cut(column, part, rows):
+def cut(column: str, part: float, rows: int) -> str:
     """The value at which this part of the rows ends, by a column."""
     if column == "id":
         return str(int(rows * part) + 1)
     return f'"{DAYS[int(len(DAYS) * part)] if column == "day" else customer(int(CUSTOMERS * part))}"'
 
 
-def projection(first, code, sites, rows):
+def projection(first: str, code: int, sites: tuple[int, int], rows: int) -> str:
     columns = [first, *(it for it in HEADER.strip().split(",") if it != first)]
     count = max(2, -(-rows // SEGMENT))
     places = [sites[0] if at < count // 2 else sites[1] for at in range(count)]
@@ -42,14 +42,14 @@ joins = []
 """
 
 
-def catalog(rows):
+def catalog(rows: int) -> str:
     """The text of a catalog for so many drawn rows."""
     head = 'version = 1\ntable = "sales"\nkey = "id"\nsites = %d\n' % SITES
     columns = "".join(f'\n[[column]]\nname = "{it}"\nkind = "{"int" if it in INTS else "text"}"\n' for it in HEADER.strip().split(","))
     return head + columns + "".join(projection(*it, rows) for it in COPIES)
 
 
-def write_inputs(room, rows):
+def write_inputs(room: str, rows: int) -> None:
     """Writes a catalog, a table, and another table of which the last row differs."""
     with open(f"{room}/catalog.toml", "w", encoding="utf-8") as file:
         file.write(catalog(rows))
@@ -60,7 +60,7 @@ def write_inputs(room, rows):
         file.write(b"x")
 
 
-def redundancy(store, blocks):
+def redundancy(store: str, blocks: int) -> tuple[int, int]:
     """The size of a block, if all files have about so many, and how many blocks any two sites have at most."""
     sizes = {name: os.path.getsize(f"{store}/{name}") for name in names_of(store)}
     block = -(-sum(sizes.values()) // (4 * blocks)) * 4
