@@ -4,6 +4,7 @@ import json
 import os
 import subprocess
 import tempfile
+import time
 from collections.abc import Iterable
 
 from measuring.costs import Cost
@@ -20,6 +21,21 @@ def machine() -> str:
         memory = int(file.readline().split()[1]) * 1024
     kind = said(["df", "--output=fstype", tempfile.gettempdir()]).rpartition("\n")[2]
     return f"{len(os.sched_getaffinity(0))} processors ({model}), {memory / 1e9:.0f} GB, Linux {os.uname().release.partition('-')[0]}, {kind}"
+
+
+def busy_processors(seconds: float = 3.0) -> float:
+    """How many processors work on something else, looked at for some seconds."""
+    before = processor_ticks()
+    time.sleep(seconds)
+    idle, everything = (now - then for now, then in zip(processor_ticks(), before))
+    return round(len(os.sched_getaffinity(0)) * (1 - idle / everything), 1)
+
+
+def processor_ticks() -> tuple[int, int]:
+    """Idle ticks and all ticks of all processors so far."""
+    with open("/proc/stat", encoding="ascii") as file:
+        ticks = [int(it) for it in file.readline().split()[1:9]]
+    return ticks[3] + ticks[4], sum(ticks)
 
 
 def said(words: list[str], folder: str | None = None) -> str:
@@ -40,7 +56,7 @@ def versions(tools: Iterable[str]) -> dict[str, str]:
     return found
 
 
-def run_record(top: str, rounds: int, measured: tuple[dict[str, Cost], int, int], tools: Iterable[str], load: float) -> Run:
+def run_record(top: str, rounds: int, measured: tuple[dict[str, Cost], int, int], tools: Iterable[str], busy: float) -> Run:
     """What is kept of a run. The commit is the last one of this tree that changed the code of the programs."""
     costs, table, store = measured
     commit = said(["git", "log", "-1", "--format=%h", "--", "crates", "crates.txt"], top) or "unknown"
@@ -50,7 +66,7 @@ def run_record(top: str, rounds: int, measured: tuple[dict[str, Cost], int, int]
         "commit": commit + (", changed" if changed else ""),
         "machine": machine(),
         "versions": versions(tools),
-        "load": load,
+        "busy": busy,
         "rounds": rounds,
         "table": table,
         "store": store,

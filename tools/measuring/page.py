@@ -8,8 +8,8 @@ PAIRS = [
     ("load", "sqlite3 .import"), ("check", "sha256sum -c"), ("dump", "sqlite3 -csv"), ("recover",),
     ("restore", "par2 create", "par2 repair"), ("diagnose",),
 ]
-# A machine with more work than this (load average) is not quiet.
-QUIET_LOAD = 0.5
+# A machine is not quiet if more processors than this work on something else.
+QUIET = 0.2
 # What the first page tells: of this many rows and more, if there are any.
 README_ROWS = 1_000_000
 
@@ -39,7 +39,7 @@ def setting(runs: dict[int, Run]) -> list[str]:
     tools = alike({rows: ", ".join(f"{name} {version}" for name, version in run["versions"].items()) for rows, run in runs.items()})
     lines = [row(f"{rows:,}", size_text(run["table"]), size_text(run["store"]), str(run["rounds"]), f"`{run['commit']}`", run["date"])
              for rows, run in runs.items()]
-    busy = [f"{rows:,} rows" for rows, run in runs.items() if run["load"] > QUIET_LOAD]
+    busy = [f"{rows:,} rows" for rows, run in runs.items() if run["busy"] > QUIET]
     said = [f"On {machine}. Tools: {tools}.", *([f"Other work was running: {', '.join(busy)}."] if busy else [])]
     return [*said, "", *head("Rows", "CSV", "Store", "Rounds", "Commit", "Day"), *lines]
 
