@@ -1,5 +1,6 @@
 """The figures that were measured, a run for each number of rows, as docs/performance.json keeps them."""
 import datetime
+import hashlib
 import json
 import os
 import subprocess
@@ -8,6 +9,7 @@ import time
 from collections.abc import Iterable
 
 from measuring.costs import Cost
+from measuring.steps import Room
 
 # A run as it is kept: plain data, by the names of `run_record`.
 Run = dict
@@ -56,7 +58,12 @@ def versions(tools: Iterable[str]) -> dict[str, str]:
     return found
 
 
-def run_record(top: str, rounds: int, measured: tuple[dict[str, Cost], int, int], tools: Iterable[str], busy: float) -> Run:
+def digest(path: str) -> str:
+    with open(path, "rb") as file:
+        return hashlib.file_digest(file, "sha256").hexdigest()
+
+
+def run_record(top: str, room: Room, rounds: int, measured: tuple[dict[str, Cost], int, int], busy: float) -> Run:
     """What is kept of a run. The commit is the last one of this tree that changed the code of the programs."""
     costs, table, store = measured
     commit = said(["git", "log", "-1", "--format=%h", "--", "crates", "crates.txt"], top) or "unknown"
@@ -64,8 +71,9 @@ def run_record(top: str, rounds: int, measured: tuple[dict[str, Cost], int, int]
     return {
         "date": datetime.date.today().isoformat(),
         "commit": commit + (", changed" if changed else ""),
+        "program": digest(room.program),
         "machine": machine(),
-        "versions": versions(tools),
+        "versions": versions(room.tools),
         "busy": busy,
         "rounds": rounds,
         "table": table,
