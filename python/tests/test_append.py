@@ -1,4 +1,4 @@
-"""Append: the table is the old one or the new one; what is refused; what readers and killed runs leave."""
+"""Append: the table is the old one or the new one; what is refused, and what stays as long as it is read."""
 import csv
 import fcntl
 import io
@@ -6,13 +6,10 @@ import os
 import re
 import shutil
 import subprocess
-import sys
 import unittest
 
-from tables import TOP, csv_text
+from tables import csv_text
 from test_partitions import HEAD, ROWS, TABLE, Partitions
-
-KILLS = os.environ.get("PINEPOLO_KILLS", "3")
 
 
 class TestAppend(Partitions):
@@ -25,7 +22,7 @@ class TestAppend(Partitions):
 
     def test_all_over_the_table(self):
         """Partitions without new rows stay; one that would pass its rows is cut in two; the last one is followed by a new one."""
-        self.make()
+        self.have()
         other = "15,2026-03-01,1.00\n"
         told = self.append("21,2026-02-02,1.00\n", other, "5,2026-02-01,1.00\n", "20,2026-02-02,1.00\n")
         self.assertEqual(told, f"ok rows=13 stores=6\ncompared with {self.at}/new.csv: 4 rows, 1 of which replaced others\nmade: 000.2, 003.2, 001.2, 004.2, 005.2\n")
@@ -59,7 +56,7 @@ class TestAppend(Partitions):
             shutil.rmtree(table)
 
     def test_refused(self):
-        self.make()
+        self.have()
         words = ["append", self.table]
         bad = self.write("bad.csv", HEAD + "30,2026-02-01,1.00\n15,2026-02-01,1.00\n")
         self.refused(1, "bad.csv: record 2: id 15 is in the table already", *words, bad)
@@ -76,7 +73,7 @@ class TestAppend(Partitions):
 
     def test_foreign_stores(self):
         """A store that is gone, an older one, and one of another table: said with the folder, before anything is read of it."""
-        self.make()
+        self.have()
         other, new = self.at / "other", self.write("new.csv", HEAD + "9,2026-02-01,1.00\n")
         self.good("import", "--rows-per-store", 4, self.drafted, self.csv, other)
         shutil.copytree(self.table / "000.1", self.at / "kept")
@@ -97,7 +94,7 @@ class TestAppend(Partitions):
 
     def test_an_older_table_file(self):
         """The stores that it does not name are not removed."""
-        self.make()
+        self.have()
         older = (self.table / "table.toml").read_text()
         self.append("9,2026-02-01,1.00\n")
         newer = (self.table / "table.toml").read_text()
@@ -140,36 +137,6 @@ class TestAppend(Partitions):
             self.good("append", self.table, self.write("new.csv", HEAD + "20,2026-02-01,1.00\n"))
         finally:
             subprocess.run(["umount", self.table], check=True)
-
-
-class TestKills(Partitions):
-    def test_killed_at_any_moment(self):
-        done = subprocess.run([sys.executable, TOP / "tools/kill-append", os.environ["PINEPOLO"], KILLS, "--sites"], capture_output=True, check=False)
-        self.assertEqual((done.returncode, done.stderr), (0, b""), done.stdout)
-
-    def test_a_killed_import(self):
-        """There is no table after it, and the next import ends well. It also removes what is on the disks."""
-        sites, real = self.sites(), os.environ["PINEPOLO"]
-        script = self.write("around", f'#!/bin/sh\nif [ "$1" = check ]; then kill -9 $PPID; fi\nexec {real} "$@"\n')
-        script.chmod(0o755)
-        words = ["import", "--rows-per-store", "4", "--sites", sites, self.drafted, self.csv, self.table]
-        os.environ["PINEPOLO"] = str(script)
-        self.assertEqual(self.run_data(*words)[2].splitlines()[0], "fault: a process was ended by signal 9")
-        # (what a killed job's `load` still wrote after the clean-up goes with the next run)
-        if self.table.exists():
-            self.assertIn("has no stores: its import did not end", self.run_data("export", self.table)[2])
-        script.write_text(script.read_text().replace("$PPID", "$(ps -o ppid= $PPID)"))
-        process = subprocess.Popen([sys.executable, "-m", "pinepolo", *map(str, words)], env=os.environ | {"PYTHONPATH": str(TOP / "python")}, start_new_session=True)
-        self.assertEqual(process.wait(), -9)
-        os.environ["PINEPOLO"] = real
-        self.assertTrue(list(self.at.glob("disks/1/*/catalog.toml")))
-        status, _, faults = self.run_data("export", self.table)
-        self.assertEqual((status, faults.splitlines()[0]), (1, f"fault: {self.table} has no stores: its import did not end"))
-        # (a killed run's `load` may live for a moment)
-        while "is at work" in self.run_data(*words)[2]:
-            pass
-        self.assertEqual(self.good("export", self.table), TABLE)
-        self.assertEqual(sorted(it[:3] for it in os.listdir(self.at / "disks/1")), ["000", "001", "002"])
 
 
 if __name__ == "__main__":

@@ -11,7 +11,7 @@ from test_partitions import TABLE, Partitions
 class TestReading(Partitions):
     def test_all_forms(self):
         """The same as of one store."""
-        self.make()
+        self.have()
         self.good("import", self.drafted, self.csv, self.at / "one")
         for words in (["--csv"], ["--json-lines"], ["--memory", "1M"]):
             self.assertEqual(self.good("export", *words, self.table), self.good("export", *words, self.at / "one"))
@@ -26,7 +26,7 @@ class TestReading(Partitions):
         return f"{sum(it for it in range(11, 20) if 1 + it % 3 == day) + 1.5:.2f}"
 
     def test_check(self):
-        self.make()
+        self.have()
         self.assertEqual(self.good("check", self.table), "000.1: ok rows=4 k=1\n001.1: ok rows=4 k=1\n002.1: ok rows=2 k=1\nok rows=10 stores=3\n")
         for before, after, fault in (("last = 17", "last = 16", "001.1: 4 rows with keys from 14 to 17"), ("rows = 2", "rows = 3", "002.1: 2 rows with keys from 18 to 19"),
                                      ("from = 14", "from = 15", "001.1: 4 rows with keys from 14 to 17")):
@@ -40,7 +40,7 @@ class TestReading(Partitions):
                                                   f"fault: {self.table}/001.1: bad files: 1\nnext: pinepolo restore {self.table}/001.1 1\n"))
 
     def test_each(self):
-        self.make()
+        self.have()
         lines = [it.split("\t") for it in self.good("each", self.table, "--", "check", "--json").splitlines()]
         self.assertEqual([(store, json.loads(answer)["rows"]) for store, answer in lines], [("000.1", 4), ("001.1", 4), ("002.1", 2)])
         self.good("each", self.table, "--", "recover", "{}", self.at / "out-{store}", 1)

@@ -1,9 +1,11 @@
 """Tables of many stores: table.toml, and what import makes."""
+import atexit
 import os
 import re
 import shutil
 import subprocess
 import sys
+import tempfile
 import unittest
 from unittest import mock
 
@@ -20,6 +22,9 @@ TABLE = HEAD + "".join(ROWS)
 class Partitions(CommandLine):
     """A table of ten rows, four a store."""
 
+    # Where a table lies that was made, for those who copy it.
+    kept = []
+
     def setUp(self):
         super().setUp()
         self.csv = self.write("t.csv", TABLE)
@@ -28,6 +33,16 @@ class Partitions(CommandLine):
 
     def make(self, *words):
         return self.good("import", "--rows-per-store", 4, *words, self.drafted, self.csv, self.table)
+
+    def have(self):
+        """The table, for tests that don't ask how it is made: a copy of one that was made once."""
+        if not self.kept:
+            self.make()
+            room = tempfile.TemporaryDirectory(prefix="pinepolo-data-")
+            atexit.register(room.cleanup)
+            self.kept.append(shutil.copytree(self.table, f"{room.name}/t"))
+        else:
+            shutil.copytree(self.kept[0], self.table)
 
     def sites(self, folder="disks/{number}/{{store}}"):
         """A SITES file with a folder in each of two disks."""
