@@ -16,17 +16,21 @@ import hashlib
 import os
 import re
 import shutil
-from collections.abc import Iterator, Sequence
+from collections.abc import Iterable, Iterator, Sequence
 from contextlib import contextmanager
 from dataclasses import replace
 from types import TracebackType
 
+from .catalog import read_catalog
 from .errors import DataError, device
 from .partitioned import FILE, STORE, Partition, PartitionedTable, read_table
 from .places import CATALOG, read, read_sites
+from .types import FILE as FILE_OF_TYPES
 from .workshop import LOCK, PARTIAL, locked, remove, sync, write
 
 READERS, NEW, ROWS, SITES = "READERS", ".new", "rows.new", "sites.toml"
+# What a restore of a site leaves in its folder: what it replaced, and a file that it was writing when it was killed.
+REPLACED, RESTORING = "replaced", ".restoring"
 MADE = re.compile(rf"({STORE.pattern})(?:{re.escape(NEW)}|{re.escape(PARTIAL)})?")
 
 
@@ -205,12 +209,33 @@ class Writing:
 
 
 def remove_site(folder: str, catalog: bytes) -> None:
-    """Removes the folder of a site, if it is empty, or if its catalog is this one, whole or half written, which goes last."""
+    """Removes a store from the folder of a site, if the catalog there is this one, whole or half written. It goes last, and then
+    the folder, if nothing is in it that is not the store's."""
     names = os.listdir(folder)
     own = [it for it in (CATALOG, CATALOG + PARTIAL) if it in names and catalog.startswith(read(os.path.join(folder, it)))]
-    if own or not names:
-        for name in [*(it for it in names if it not in own), *own]:
-            rmtree(os.path.join(folder, name))
+    if own:
+        files = [*(it for it, _ in read_catalog(catalog, folder).file_names()), FILE_OF_TYPES]
+        kept = os.path.join(folder, REPLACED)
+        for number in os.listdir(kept) if os.path.isdir(kept) else ():
+            remove_files(os.path.join(kept, number), files)
+        remove_empty(kept)
+        remove_files(folder, [it + end for it in files for end in ("", PARTIAL, RESTORING)])
+        remove_files(folder, own)
+    remove_empty(folder)
+
+
+def remove_files(folder: str, names: Iterable[str]) -> None:
+    """Removes the files of these names, and then the folder, if nothing else is in it."""
+    if os.path.isdir(folder):
+        for name in names:
+            path = os.path.join(folder, name)
+            if os.path.islink(path) or not os.path.isdir(path):
+                remove(path)
+        remove_empty(folder)
+
+
+def remove_empty(folder: str) -> None:
+    if os.path.isdir(folder) and not os.path.islink(folder) and not os.listdir(folder):
         os.rmdir(folder)
 
 

@@ -117,6 +117,22 @@ class TestAppend(Partitions):
         self.assertEqual(sorted(os.listdir(self.at / "disks/1")), ["000.2", "001.1", "002.1", "003.2", "004.3"])
         self.assertEqual(sorted(os.listdir(self.table)), sorted([*os.listdir(self.at / "disks/1"), "LOCK", "READERS", "table.toml"]))
 
+    def test_strangers_in_the_folders_of_sites(self):
+        """Old stores go from the disks with what a restore left of them, and what is somebody else's stays."""
+        self.make("--sites", self.sites())
+        disks = [self.at / f"disks/{it}/000.1" for it in (1, 2)]
+        for name in ("notes.txt", "mine/p0.s0.seg", "replaced/mine", "replaced/1/p0.s0.seg", "replaced/1/notes.txt", "replaced/2/p0.s0.del", "p0.s0.seg.restoring"):
+            (disks[0] / name).parent.mkdir(exist_ok=True)
+            (disks[0] / name).write_text("")
+        (disks[0] / "replaced/3/p0.s0.del").mkdir(parents=True)
+        self.append("9,2026-02-01,1.00\n")
+        self.assertEqual([it.exists() for it in disks], [True, False])
+        self.assertEqual(sorted(str(it.relative_to(disks[0])) for it in disks[0].rglob("*")),
+                         ["mine", "mine/p0.s0.seg", "notes.txt", "replaced", "replaced/1", "replaced/1/notes.txt", "replaced/3", "replaced/3/p0.s0.del", "replaced/mine"])
+        self.append("8,2026-02-01,1.00\n")
+        self.assertEqual(self.good("export", self.table), self.rows("9,2026-02-01,1.00\n", "8,2026-02-01,1.00\n", *ROWS))
+        self.assertTrue((disks[0] / "notes.txt").exists())
+
     def test_a_full_disk(self):
         """The table stays, and what was made goes. It can be appended to once there is room."""
         self.table.mkdir()
