@@ -31,7 +31,8 @@ from .workshop import LOCK, PARTIAL, locked, remove, sync, write
 READERS, NEW, ROWS, SITES = "READERS", ".new", "rows.new", "sites.toml"
 # What a restore of a site leaves in its folder: what it replaced, and a file that it was writing when it was killed.
 REPLACED, RESTORING = "replaced", ".restoring"
-MADE = re.compile(rf"({STORE.pattern})(?:{re.escape(NEW)}|{re.escape(PARTIAL)})?")
+# (a `load` that begins has a number behind its partial folder for a moment)
+MADE = re.compile(rf"({STORE.pattern})(?:{re.escape(NEW)}|{re.escape(PARTIAL)}(?:\.\d+)?)?")
 
 
 def is_table(path: str) -> bool:
@@ -186,7 +187,8 @@ class Writing:
             for folder in read_sites(os.path.join(at, SITES)).values():
                 if os.path.isdir(folder):
                     remove_site(folder, catalog)
-        for name in (store, store + PARTIAL, store + NEW):
+        begun = [it for it in os.listdir(self.folder) if it.startswith(store + PARTIAL) and MADE.fullmatch(it)]
+        for name in (store, *begun, store + NEW):
             rmtree(self.path(name))
 
     def __exit__(self, kind: type[BaseException] | None, error: BaseException | None, trace: TracebackType | None) -> None:

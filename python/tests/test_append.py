@@ -117,6 +117,15 @@ class TestAppend(Partitions):
         self.assertEqual(sorted(os.listdir(self.at / "disks/1")), ["000.2", "001.1", "002.1", "003.2", "004.3"])
         self.assertEqual(sorted(os.listdir(self.table)), sorted([*os.listdir(self.at / "disks/1"), "LOCK", "READERS", "table.toml"]))
 
+    def test_begun_stores(self):
+        """What a killed `load` left that had just begun goes with the next run."""
+        self.have()
+        for name in ("001.2.partial", "001.2.partial.1", "007.9.partial.12"):
+            (self.table / name).mkdir()
+        (self.table / "001.2.partial.mine").mkdir()
+        self.append("15,2026-03-01,1.00\n")
+        self.assertEqual(sorted(os.listdir(self.table)), ["000.1", "001.2", "001.2.partial.mine", "002.1", "003.2", "LOCK", "READERS", "table.toml"])
+
     def test_strangers_in_the_folders_of_sites(self):
         """Old stores go from the disks with what a restore left of them, and what is somebody else's stays."""
         self.make("--sites", self.sites())
