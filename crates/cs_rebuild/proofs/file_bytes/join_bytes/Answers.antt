@@ -6,7 +6,7 @@ use Rattle.cs_recovery.specs.Places.{entries_for}
 use Rattle.cs_rebuild.proofs.StoreFacts.{same_entries}
 use Rattle.cs_rebuild.proofs.SoundFacts.{entries_are}
 use Rattle.cs_rebuild.proofs.WrittenFiles.{text_of}
-use Rattle.cs_rebuild.proofs.affected_joins.join_bytes.Goals as goal
+use Rattle.cs_rebuild.proofs.file_bytes.join_bytes.Goals as goal
 
 pub write_jix-requires-clause-count : goal.write_jix-requires-clause-count
 write_jix-requires-clause-count g c =

@@ -6,7 +6,7 @@ use Rattle.cs_rows.specs.Survivors.{contents_of}
 use Rattle.cs_order.specs.Tables.{table_of}
 use Rattle.cs_recovery.specs.Places.{entry_for, image_after}
 use Rattle.cs_rebuild.proofs.WrittenFiles.{made_of_each}
-use Rattle.cs_rebuild.proofs.affected_joins.entries_of.Goals as goal
+use Rattle.cs_rebuild.proofs.file_bytes.entries_of.Goals as goal
 
 pub collect-requires-clause-ready : goal.collect-requires-clause-ready
 collect-requires-clause-ready g c κs within =

@@ -2,7 +2,7 @@ use Rattle.std.proofs.Common.{◌≡◌, ℕ, subst}
 use Rattle.std.specs.Prelude.{IfOk}
 use Rattle.cs_rebuild.specs.OnStore.{segment_file_on}
 use Rattle.cs_rebuild.specs.declared.ordered_store.OrderedStore.{OrderedStore}
-use Rattle.cs_rebuild.proofs.lost_files.segment_bytes.Goals as goal
+use Rattle.cs_rebuild.proofs.file_bytes.segment_bytes.Goals as goal
 
 -- what holds of the encoder's segment holds of the one that it was made of
 moved : (P : OrderedStore → ℕ → ℕ → Type 0) {g h : OrderedStore} {p q s t : ℕ} → h ≡ g → q ≡ p → t ≡ s → P h q t → P g p s
