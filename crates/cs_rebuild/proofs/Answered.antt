@@ -1,6 +1,7 @@
 -- What is found of a store whose digests are taken for right, once they were compared.
-use Rattle.std.proofs.Common.{◌≡◌, ℕ, List, refl, sym, ap, subst, ◌⊎◌, inl, inr, Bool, true, false, Result, Ok, Err, Option, Some, None}
-use Rattle.std.specs.Prelude.{IfOk, IfErr}
+use Rattle.std.proofs.Common.{◌≡◌, ℕ, List, length, refl, sym, ap, subst, ◌⊎◌, inl, inr, Bool, true, false, Result, Ok, Err, Option, Some, None}
+use Rattle.std.specs.Prelude.{nat_lt, IfOk, IfErr}
+use Rattle.std.specs.List.{find}
 use Rattle.std.specs.Option.{option_map, option_or}
 use Rattle.std.specs.declared.alloc.AllocError.{AllocError}
 use Rattle.std.proofs.lemmas.Option.{none-some, same_Some}
@@ -10,14 +11,16 @@ use Rattle.cs_schema.specs.CatalogData.{CatalogData}
 use Rattle.cs_schema.specs.CatalogRules.{IsCatalog}
 use Rattle.cs_schema.specs.FileNames.{FileContents, Survives}
 use Rattle.cs_schema.specs.Losses.{Sites}
+use Rattle.cs_schema.specs.Order.{row_limit, rows_of}
 use Rattle.cs_schema.specs.Rows.{Row}
 use Rattle.cs_store.specs.declared.fault.Fault.{Fault}
 use Rattle.cs_store.specs.Fault.{MemoryOr}
 use Rattle.cs_rows.specs.Survivors.{SurvivorsData, contents_of as held_by}
 use Rattle.cs_rows.specs.Walk.{Contents, Stray}
+use Rattle.cs_order.specs.Tables.{all_segments, is_twice, table_of}
 use Rattle.cs_recovery.specs.Claims.{SameSurvivors}
 use Rattle.cs_recovery.specs.Tables.{when}
-use Rattle.cs_recovery.specs.Verdicts.{IsFirstBadFile, IsSound, IsVerdict, judged, unless_refused}
+use Rattle.cs_recovery.specs.Verdicts.{IsFirstBadFile, IsSound, IsVerdict, full, judged, misled, misplaced, surviving_joins, surviving_segments, twice, unless_refused}
 use Rattle.cs_recovery.proofs.Exact.{sound}
 use Rattle.cs_recovery.proofs.FewerSurvive.{reads_under}
 use Rattle.cs_recovery.proofs.Read.{layers}
@@ -29,6 +32,7 @@ use Rattle.cs_recovery.specs.TableAnswers.{Columns}
 use Rattle.cs_store.specs.FileSet.{Files}
 use Rattle.cs_rebuild.specs.Reading.{AreDigests, resealed}
 use Rattle.cs_rebuild.specs.Steps.{AreBodiesSound, AreRead, IsBadFile}
+use Rattle.cs_rebuild.specs.Verifying.{is_misled, is_misplaced}
 use Rattle.cs_rebuild.proofs.LeastBad.{read_as_sealed}
 use Rattle.cs_rebuild.proofs.Verdicts.{bad_file, memory_or}
 
@@ -73,9 +77,28 @@ refused : (o : Option Fault) (T : List Row) (f : Fault) → unless_refused o T �
 refused None T f e rows = absurd (IfErr-at_err (λ _. ⊥) e tt)
 refused (Some g) T f e rows = rows f (ap Some (sym (IfErr-at_err (λ y. y ≡ g) e refl)))
 
+module _ (C : CatalogData) (L : Sites) (S : Contents) (T : List Row) where
+  if_full : IsOfRows (full C T)
+  if_full = first (λ (a : ℕ × ℕ). Fault.Full a.0 a.1) (find (λ (a : ℕ × ℕ). nat_lt row_limit (length (rows_of C T a.0 a.1))) (all_segments C)) (λ a i. i)
+
+  if_misplaced : IsOfRows (misplaced C L S T)
+  if_misplaced = first (λ (a : ℕ × ℕ). Fault.Misplaced a.0 a.1) (find (is_misplaced C S T) (surviving_segments C L)) (λ a i. i)
+
+  if_misled : IsOfRows (misled C L S T)
+  if_misled = first (λ (a : ℕ × ℕ × ℕ). Fault.Misled a.0 a.1 a.2) (find (is_misled C L S T) (surviving_joins C L)) (λ a i. i)
+
+  abbrev then_misled : Option Fault
+  then_misled = option_or (misplaced C L S T) (misled C L S T)
+
+  either_full : IsOfRows (option_or (full C T) then_misled)
+  either_full = either (full C T) then_misled if_full (either (misplaced C L S T) (misled C L S T) if_misplaced if_misled)
+
 judged_rows_fault : (C : CatalogData) (L : Sites) (S : Contents) (w : Result (List Row) Stray) (f : Fault) → judged C L S w ≡ Err f → IsOfFiles f → ⊥
 judged_rows_fault C L S (Err at) f e = subst (λ y. IsOfFiles y → ⊥) (sym (IfErr-at_err (λ y. y ≡ Fault.Astray at.0 at.1 at.2) e refl)) (λ i. i)
-judged_rows_fault C L S (Ok rows) f e = refused _ _ f e (either _ _ (if_so _ Fault.Twice (λ i. i)) (either _ _ (first _ _ (λ a i. i)) (either _ _ (first _ _ (λ a i. i)) (first _ _ (λ a i. i)))))
+judged_rows_fault C L S (Ok rows) f e =
+    let T = table_of C rows in
+    let later = option_or (full C T) (then_misled C L S T) in
+    refused (option_or (twice C rows) later) T f e (either (twice C rows) later (if_so (is_twice C rows) Fault.Twice (λ i. i)) (either_full C L S T))
 
 -- ---- verdicts on a store whose digests are taken for right
 

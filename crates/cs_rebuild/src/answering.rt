@@ -56,8 +56,8 @@ fn answer_bodies<R: Threads + Sync, G: Gate + Sync>(
     }
 }
 
-/// The first file with a wrong digest and, in parallel, the answer from the bodies. Hashing a file is sequential and takes longer than
-/// reading it.
+/// The first file with a wrong digest and, in parallel, the answer from the bodies. Hashing a file is sequential and
+/// takes longer than reading it.
 fn answer_beside<R: Threads + Sync, G: Gate + Sync>(
     run: &Run<'_, R, G>,
     catalog: &Catalog,
@@ -65,10 +65,7 @@ fn answer_beside<R: Threads + Sync, G: Gate + Sync>(
     files: &mut SharedFiles<'_>,
     shared: &mut SharedFiles<'_>,
     wanted: Wanted,
-) -> (
-    Result<Option<FileName>, AllocError>,
-    Result<Answer, Fault>,
-)
+) -> (Result<Option<FileName>, AllocError>, Result<Answer, Fault>)
     requires safe { IsSafe catalog.now loss }
     requires held { (F : Files) × (shared_files files.old ≡ Some F) × (shared_files shared.old ≡ Some F) }
     ensures digests { IfOk result.0 (λ unsealed. (F : Files) → shared_files files.old ≡ Some F

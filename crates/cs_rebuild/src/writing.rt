@@ -78,7 +78,8 @@ fn make_all<R: Threads + Sync, G: Gate + Sync>(
         { make_files(run, store, false) },
     );
     let mut made = others?;
-    made.append(&mut joins?)?;
+    let mut joins = joins?;
+    made.append(&mut joins)?;
     Ok(made)
 }
 

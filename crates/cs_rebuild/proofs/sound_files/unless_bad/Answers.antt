@@ -31,7 +31,7 @@ returns-in-Ok-found-clause-err g c = inr (λ C L F cat digests sound bad.
     let is : c.args.unsealed ≡ Ok (Some c.in-Some.name) = c.in-Ok.is ∙ ap Ok c.in-Some.is in
     inr (digest_bad C cat F L c.in-Some.name (subst (λ x. IfOk x (AreDigests C L F)) is digests) (subst (λ r. IfOk r (λ _. AreBodiesSound C L F)) c.in-Ok-found.is sound)))
 
-pub returns-clause-err : goal.returns-clause-err
-returns-clause-err g c = inr (λ C L F cat digests sound bad.
+pub returns-in-Err-found-clause-err : goal.returns-in-Err-found-clause-err
+returns-in-Err-found-clause-err g c = inr (λ C L F cat digests sound bad.
     let is : c.args.unsealed ≡ Ok (Some c.in-Some.name) = c.in-Ok.is ∙ ap Ok c.in-Some.is in
     c.lesser.ensures C L F cat (subst (λ x. IfOk x (AreDigests C L F)) is digests) (subst (λ r. IfErr r (λ f. MemoryOr f (IsVerdict C (resealed F) L (Err f)))) c.in-Err-found.is bad))

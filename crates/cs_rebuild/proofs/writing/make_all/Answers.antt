@@ -1,9 +1,15 @@
-use Rattle.cs_rebuild.specs.FilesToWrite.{files_to_write}
+use Rattle.std.proofs.Common.{Bool, true, false, subst, rules}
+use Rattle.std.specs.Prelude.{IfOk}
+use Rattle.cs_rebuild.specs.FilesToWrite.{AreMade, files_to_write}
 use Rattle.cs_rebuild.proofs.FilesToWrite.{append_made}
 use Rattle.cs_rebuild.proofs.writing.make_all.Goals as goal
 
 pub returns : goal.returns
 returns g c =
     let x = c.args.store.now in
-    let to_write = files_to_write x.catalog.now x.loss in
-    append_made x (to_write false) (to_write true) c.in_ok-made.made.items _ c.append.new.self.items ? ? ?
+    let names = λ (joins : Bool). files_to_write x.catalog.now x.loss joins in
+    let both = c.join_mut-joins.result in
+    let joins : IfOk both.0 (λ made. AreMade x (names true) made.items) = search rules in
+    let others : IfOk both.1 (λ made. AreMade x (names false) made.items) = search rules in
+    append_made x (names false) (names true) c.in_ok-made.made.items c.in_ok-joins.joins.items c.append.new.self.items c.in_ok-append.ensures.items
+    (subst (λ r. IfOk r (λ made. AreMade x (names false) made.items)) c.in_ok-made.is others) (subst (λ r. IfOk r (λ made. AreMade x (names true) made.items)) c.in_ok-joins.is joins)

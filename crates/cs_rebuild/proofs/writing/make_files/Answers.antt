@@ -23,6 +23,6 @@ returns g c =
     let shown = rw c.map.ensures.base at h.1.1 ∙ (λ i. vec_items (c.with_min_len.ensures.base i)) ∙ c.into_par_iter.ensures in
     let zipped = zipped_as (λ a r. IfOk r (IsFile a)) h.1.0 h.0 h.1.2 (λ a r made. rw c.map.ensures.f at made) in
     let made =
-        each_there IsFile (λ made. made.items) names h.0 c.in_ok-collect.field-0
-        (subst (λ froms. AllZip (λ a r. IfOk r (IsFile a)) froms h.0) shown zipped) h.2 in
+    each_there IsFile (λ made. made.items) names h.0 c.in_ok-collect.field-0
+    (subst (λ froms. AllZip (λ a r. IfOk r (IsFile a)) froms h.0) shown zipped) h.2 in
     IfOk-then c.in_ok-collect.field-0 _ _ made (λ files zipped. record { named = files_named c.args.store.now names files.items zipped ∙ c.in_ok-names.ensures; texts = texts_made c.args.store.now names files.items zipped })
