@@ -40,7 +40,7 @@ fn delta_bytes(
     p: u16,
     s: u16,
 ) -> Result<Vec<u8>, AllocError>
-    requires segment { HasSegment store.now.catalog.now p s }
+    requires { HasSegment store.now.catalog.now p s }
     ensures { IfOk result (λ bytes. bytes.items ≡ delta_text (no_changes p s (length (rows_of store.now.catalog.now (table_on store.now) p s)))) }
 {
     let rows = store.orders.segment(p, s).len() as u32;

@@ -1,8 +1,10 @@
 use Rattle.std.proofs.Common.{◌≡◌, ◌∙◌, sym, subst}
 use Rattle.std.proofs.lemmas.Option.{same_Some}
 use Rattle.cs_store.specs.FileSet.{Files, contents_of}
+use Rattle.cs_store.specs.Fault.{MemoryOr}
 use Rattle.cs_rebuild.specs.Answers.{IsAnswer}
 use Rattle.cs_rebuild.specs.Reading.{resealed}
+use Rattle.cs_rebuild.specs.Steps.{IsBadFile}
 use Rattle.cs_rebuild.proofs.Verdicts.{bad_file, memory_or}
 use Rattle.cs_rebuild.proofs.answering.answer_bodies.Goals as goal
 
@@ -18,4 +20,5 @@ returns-in-Ok g c F held =
 pub returns-in-Err : goal.returns-in-Err
 returns-in-Err g c F held =
     let same : c.files.result.now ≡ F = same_Some c.files.result.now F (sym c.files.ensures ∙ held) in
-    memory_or c.in-Err.fault (rw (c.in-Err.is, same) at c.read_bodies-read.ensures.bad) (bad_file c.args.catalog.now (resealed (contents_of F)) c.args.loss c.in-Err.fault)
+    let bad = subst (λ (G : Files). MemoryOr c.in-Err.fault (IsBadFile c.args.catalog.now (resealed (contents_of G)) c.args.loss c.in-Err.fault)) same (rw c.in-Err.is at c.read_bodies-read.ensures.bad) in
+    memory_or c.in-Err.fault bad (bad_file c.args.catalog.now (resealed (contents_of F)) c.args.loss c.in-Err.fault)

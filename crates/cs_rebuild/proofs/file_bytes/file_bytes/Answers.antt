@@ -11,8 +11,8 @@ use Rattle.cs_rebuild.specs.OnStore.{entries_on, segment_file_on, table_on, writ
 use Rattle.cs_rebuild.proofs.FilesToWrite.{as_written, named}
 use Rattle.cs_rebuild.proofs.file_bytes.file_bytes.Goals as goal
 
-pub segment_bytes-requires : goal.segment_bytes-requires
-segment_bytes-requires g c =
+pub segment_bytes-requires-clause-segment : goal.segment_bytes-requires-clause-segment
+segment_bytes-requires-clause-segment g c κs within =
     let x = c.args.store.now in
     named x.catalog.now x.loss (FileName.Seg c.in-Seg.p c.in-Seg.s) (subst (λ n. is_written x.catalog.now x.loss n ≡ true) c.in-Seg.is c.requires.written)
 
@@ -38,12 +38,12 @@ returns-in-Del g c =
     (as_written (λ b. b.items) (written_on x (FileName.Del c.in-Del.p c.in-Del.s)) text c.delta_bytes.result (ap (λ b. when b text) e) c.delta_bytes.ensures)
 
 pub join_bytes-requires-clause-segment : goal.join_bytes-requires-clause-segment
-join_bytes-requires-clause-segment g c =
+join_bytes-requires-clause-segment g c κs within =
     let x = c.args.store.now in
     (named x.catalog.now x.loss (FileName.Jix c.in-Jix.p c.in-Jix.s c.in-Jix.q) (subst (λ n. is_written x.catalog.now x.loss n ≡ true) c.in-Jix.is c.requires.written)).0
 
 pub join_bytes-requires-clause-target : goal.join_bytes-requires-clause-target
-join_bytes-requires-clause-target g c =
+join_bytes-requires-clause-target g c κs within =
     let x = c.args.store.now in
     let there = named x.catalog.now x.loss (FileName.Jix c.in-Jix.p c.in-Jix.s c.in-Jix.q) (subst (λ n. is_written x.catalog.now x.loss n ≡ true) c.in-Jix.is c.requires.written) in
     ((c.projection_count-rules.ensures.rules.projections c.in-Jix.p there.0.0).joins c.in-Jix.q there.1).0
