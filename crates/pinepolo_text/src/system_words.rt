@@ -1,5 +1,5 @@
 //! What the system said of the call by which a verb failed.
-use cs_file_system::{FailedCall, FailedCalls};
+use cs_file_system::{FailedCall, FailedCalls, Operation};
 use cs_store::Fault;
 use pinepolo_places::{Failure, StoreError, Subject, VerbError};
 use std::io::ErrorKind;
@@ -58,6 +58,9 @@ pub fn mend_text(call: &FailedCall) -> &'static str {
         }
         ErrorKind::PermissionDenied => "see who may do that: ls -ld {0}",
         ErrorKind::ReadOnlyFilesystem => "mount the file system of {0} for writing",
+        ErrorKind::NotFound if call.operation == Operation::Make => {
+            "make the folder in which {0} is to be"
+        }
         ErrorKind::NotFound | ErrorKind::NotADirectory => "see that {0} is there",
         ErrorKind::StaleNetworkFileHandle
         | ErrorKind::TimedOut
