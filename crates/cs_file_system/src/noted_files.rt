@@ -1,4 +1,6 @@
 //! A file system that notes what the system said of each call that fails.
+ghost use Rattle.std.specs.Prelude.{◌≡◌};
+
 use crate::failed_calls::{FailedCalls, Operation};
 use std::alloc::{AllocError, Allocator, Global};
 use std::fs::{File, Metadata, OpenFile, OpenOptions, Permissions};
@@ -36,7 +38,9 @@ fn no_memory(_error: AllocError) -> io::Error {
 
 impl<R> NotedFiles<'_, R> {
     /// Notes a call that failed, and hands on what it answered.
-    fn noted<T>(&self, operation: Operation, path: &str, answer: io::Result<T>) -> io::Result<T> {
+    fn noted<T>(&self, operation: Operation, path: &str, answer: io::Result<T>) -> io::Result<T>
+        ensures { result ≡ answer }
+    {
         if let Err(error) = &answer {
             self.calls.note(operation, path, *error);
         }
@@ -134,7 +138,9 @@ impl<R: Files<File = File>> Files for NotedFiles<'_, R> {
 
 impl NotedFile {
     /// Notes a call that failed, and hands on what it answered.
-    pub(crate) fn noted<T>(&self, operation: Operation, answer: io::Result<T>) -> io::Result<T> {
+    pub(crate) fn noted<T>(&self, operation: Operation, answer: io::Result<T>) -> io::Result<T>
+        ensures { result ≡ answer }
+    {
         if let Err(error) = &answer {
             self.calls.note(operation, self.path.as_str(), *error);
         }
