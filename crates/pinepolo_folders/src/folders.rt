@@ -164,7 +164,12 @@ impl<R: StoreFiles + Alloc + Copy + Drop + Sync> Listings for Folders<R> {
     }
 
     fn unfinished(&self, path: &str) -> Result<Option<WorkKind>, AllocError> {
-        Ok(match self.pending(path)? {
+        // that could be told when the store was first looked at, so a look that fails now is made again
+        let pending = match self.pending(path)? {
+            Some(Pending::Unknown(_)) => self.pending(path)?,
+            found => found,
+        };
+        Ok(match pending {
             Some(Pending::Stopped(kind) | Pending::Unknown(kind)) => Some(kind),
             Some(Pending::AtWork(_)) | None => None,
         })

@@ -163,10 +163,11 @@ impl ErrorText<'_> {
             failed,
         } = *self;
         if let Some(call) = failed {
-            let path = ShellWord(call.path.as_str());
-            fill(f, mend_text(call), &[path])?;
-            f.write_str(", then ")?;
-            return write_text(f, error, again_of(error), sites);
+            if let Some(mend) = mend_text(call) {
+                fill(f, mend, &[ShellWord(call.path.as_str())])?;
+                f.write_str(", then ")?;
+                return write_text(f, error, again_of(error), sites);
+            }
         }
         write_text(f, error, texts_of(error).1, sites)?;
         match error {

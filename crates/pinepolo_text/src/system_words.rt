@@ -50,23 +50,24 @@ pub fn failed_call<'a>(error: &VerbError, calls: &'a FailedCalls) -> Option<&'a 
     }
 }
 
-/// What is to be mended first after a failed call, with its path in place of `{0}`.
-pub fn mend_text(call: &FailedCall) -> &'static str {
-    match call.error.kind() {
+/// What is to be mended first after a failed call, with its path in place of `{0}`; none if nothing is there that was to be read:
+/// what was asked for says more of that.
+pub fn mend_text(call: &FailedCall) -> Option<&'static str> {
+    Some(match call.error.kind() {
         ErrorKind::StorageFull | ErrorKind::QuotaExceeded | ErrorKind::FileTooLarge => {
             "make room on the disk of {0}"
         }
         ErrorKind::PermissionDenied => "see who may do that: ls -ld {0}",
         ErrorKind::ReadOnlyFilesystem => "mount the file system of {0} for writing",
-        ErrorKind::NotFound if call.operation == Operation::Make => {
-            "make the folder in which {0} is to be"
-        }
-        ErrorKind::NotFound | ErrorKind::NotADirectory => "see that {0} is there",
+        ErrorKind::NotFound | ErrorKind::NotADirectory => match call.operation {
+            Operation::Make => "make the folder in which {0} is to be",
+            _ => return None,
+        },
         ErrorKind::StaleNetworkFileHandle
         | ErrorKind::TimedOut
         | ErrorKind::HostUnreachable
         | ErrorKind::NotConnected => "mount the file system of {0} again",
         ErrorKind::Unsupported => "use a file system that can do that for {0}",
         _ => "check the disk of {0}",
-    }
+    })
 }
