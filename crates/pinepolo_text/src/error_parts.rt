@@ -93,11 +93,11 @@ fn details_of(error: &VerbError) -> (Detail, Detail) {
 }
 
 /// Writes a text of an error, with what it names, on a store with this SITES file.
-pub fn write_text<W: fmt::Write>(
+pub fn write_text<'a, W: fmt::Write>(
     f: &mut fmt::Formatter<W>,
-    error: &VerbError,
+    error: &'a VerbError,
     text: &str,
-    sites: Option<&str>,
+    sites: Option<&'a str>,
 ) -> fmt::Result {
     let (store, words) = error.subject();
     let (third, fourth) = details_of(error);
