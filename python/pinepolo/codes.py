@@ -24,6 +24,10 @@ ReadCell = Callable[[bytes, int], tuple[Any, int]]
 BATCH = 65_536
 # Positions of a block of differences, of which the first has its value in full.
 BLOCK = 128
+# Bytes of a body in which texts are looked for at once; all bytes but control characters; and line breaks for these.
+PIECE = 2**18
+OTHERS = bytes(range(32, 256))
+LINES = bytes.maketrans(bytes(range(32)), b"\n" * 32)
 RUN = struct.Struct(">II")
 ANCHOR = struct.Struct(">Iq")
 INT = struct.Struct(">q")
@@ -60,6 +64,19 @@ def plain_ints(body: bytes, rows: int) -> Iterator[Cells]:
         yield cells
 
 
+def short_texts(body: bytes, at: int, count: int) -> list[str]:
+    """Of a body in ASCII at most so many texts from an offset on, if all control characters there are lengths: the texts stand
+    between them. None if that is not so."""
+    piece = body[at:at + PIECE]
+    lengths = piece.translate(None, OTHERS)
+    cells = piece.translate(LINES).decode("ascii").split("\n")
+    if at + PIECE < len(body):
+        # (the last one may be cut)
+        cells.pop()
+    found = cells[1:count + 1]
+    return found if cells[:1] == [""] and list(map(len, found)) == list(lengths[:len(found)]) else []
+
+
 def plain_texts(body: bytes, rows: int) -> Iterator[Cells]:
     """Bodies in ASCII, whose lengths are ASCII too, are decoded as a whole: a slice of them is a cell."""
     is_ascii, at = body.isascii(), 0
@@ -74,8 +91,11 @@ def plain_texts(body: bytes, rows: int) -> Iterator[Cells]:
             at = end
         else:
             cells = []
+            while is_ascii and len(cells) < count and (some := short_texts(body, at, count - len(cells))):
+                cells += some
+                at += len(some) + sum(map(len, some))
             add = cells.append
-            for _ in range(count):
+            for _ in range(count - len(cells)):
                 begin = at + 1
                 at = begin + body[at]
                 add(text[begin:at])
