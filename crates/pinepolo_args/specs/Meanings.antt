@@ -7,6 +7,7 @@ use Rattle.std.specs.Ordering.{nat_cmp}
 use Rattle.cs_schema.specs.Order.{placed}
 use Rattle.std.specs.Borrow.{Bor}
 use Rattle.clap.specs.Words.{Row, Text, first_of, many_of, one_of}
+use Rattle.pinepolo_args.specs.NewFolders.{AreNewFolders, texts}
 use Rattle.pinepolo_args.specs.declared.request.CheckArgs.{CheckArgs}
 use Rattle.pinepolo_args.specs.declared.request.DrillArgs.{DrillArgs}
 use Rattle.pinepolo_args.specs.declared.request.ShowArgs.{ShowArgs}
@@ -156,6 +157,7 @@ pub record MeansRequest (processors : ℕ) (name : Text) (rows : List Row) (requ
   pub quiet : request.quiet ≡ flag rows (codes "quiet")
   pub sites : path request.sites ≡ (if is_load request.verb then None else text rows (codes "sites"))
   pub new_sites : path request.new_sites ≡ text rows (if is_load request.verb then codes "sites" else codes "new-sites")
+  pub to : AreNewFolders (texts rows) request.to.folders
 
 -- the request is that of the verb that clap entered
 abbrev pub Asks : ℕ → Option (Text × List Row) → Request → Type 0
@@ -187,4 +189,5 @@ pub record AreOptionsOf (rows : List Row) (processors : ℕ) (o : Options) : Typ
   pub store : path o.store ≡ text rows (codes "store")
   pub svg : path o.svg ≡ text rows (codes "svg")
   pub table : path o.table ≡ text rows (codes "table")
+  pub to : AreNewFolders (texts rows) o.to.folders
   pub workers : o.workers ≡ workers_in rows processors
