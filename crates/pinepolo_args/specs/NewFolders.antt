@@ -1,5 +1,5 @@
 -- Folders that take the places of those of sites, as texts SITE=FOLDER name them.
-use Rattle.std.specs.Prelude.{◌≡◌, ◌==◌, ◌<◌, ℕ, suc, List, [], find, Option, option_map, option_and_then, unwrap_or, slice_get, codes}
+use Rattle.std.specs.Prelude.{◌≡◌, ◌==◌, ◌<◌, ℕ, zero, suc, List, [], find, Option, None, option_map, option_and_then, unwrap_or, slice_get, codes}
 use Rattle.std.specs.List.{before_first, after_first}
 use Rattle.std.specs.Str.Parse.{digits_value, without_leading_plus}
 use Rattle.std.specs.Borrow.{Bor}
@@ -24,6 +24,11 @@ folder_in texts site = option_map folder_named (find (λ text. site_named text =
 -- the folder in this place
 abbrev pub folder_at : List (Option (Bor Text)) → ℕ → Option Text
 folder_at folders place = option_and_then (option_map (λ f. f.now)) (slice_get folders place)
+
+-- the folder of a site
+abbrev pub folder_of : List (Option (Bor Text)) → ℕ → Option Text
+folder_of folders zero = None
+folder_of folders (suc place) = folder_at folders place
 
 -- each site from 1 to 16 has the folder that the texts give it
 abbrev pub AreNewFolders : List Text → List (Option (Bor Text)) → Type 0

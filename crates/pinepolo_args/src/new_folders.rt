@@ -1,8 +1,8 @@
 //! Folders that take the places of those of sites.
-ghost use Rattle.std.specs.Prelude.{◌≡◌, ◌==◌, ℕ, suc, [], map, unwrap_or, Some, None, IfSome, if◌then◌else◌};
+ghost use Rattle.std.specs.Prelude.{◌≡◌, ◌==◌, ℕ, suc, [], map, Some, None, IfSome, option_map, if◌then◌else◌};
 ghost use Rattle.std.specs.Option.{option_or};
 ghost use Rattle.clap.specs.Words.{found_of, rows_of};
-ghost use Rattle.pinepolo_args.specs.NewFolders.{AreNewFolders, folder_at, folder_in, folder_named, site_named, texts};
+ghost use Rattle.pinepolo_args.specs.NewFolders.{AreNewFolders, folder_at, folder_in, folder_named, folder_of, site_named, texts};
 
 use clap::ArgMatches;
 use cs_schema::limits;
@@ -24,7 +24,9 @@ impl<'a> NewFolders<'a> {
     }
 
     /// The new folder of a site, if it has one.
-    pub fn folder(&self, site: u8) -> Option<&'a str> {
+    pub fn folder(&self, site: u8) -> Option<&'a str>
+        ensures { option_map (λ f. f.now) result ≡ folder_of self.now.folders site }
+    {
         match self.folders.get(usize::from(site).checked_sub(1)?) {
             Some(folder) => *folder,
             None => None,
