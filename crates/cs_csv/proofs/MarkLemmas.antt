@@ -90,8 +90,11 @@ ahead-from s fields field [] h = ahead-at-end s fields field h
 ahead-from s fields field (c ∷ rest) h =
     let fit = stays-fit s fields field c h in
     elim (cases_Bool (is_end (step default_config s c).1)) [
-      | inl e ↦ rw e ((fields_after (step default_config s c).1 fields field, (step default_config s c).0, rest ++ mark), refl,
-          inl (closed_from (step default_config s c).0 [] [] rest, refl, inl (rest, refl, fit.0 e, refl)))
+      | inl e ↦ rw e (
+        (fields_after (step default_config s c).1 fields field, (step default_config s c).0, rest ++ mark),
+        refl,
+        inl (closed_from (step default_config s c).0 [] [] rest, refl, inl (rest, refl, fit.0 e, refl)),
+      )
       | inr e ↦ rw e (ahead-from (step default_config s c).0 (fields_after (step default_config s c).1 fields field) (field_after (step default_config s c).1 c field) rest (fit.1 e))
     ]
 

@@ -84,7 +84,7 @@ impl fmt::Display for CsvWords<'_> {
             ),
             CsvFault::Unclosed { before } => write!(
                 f,
-                "record {before}: a quoted cell is not closed: the text may have broken off"
+                "record {before}: a quoted cell is not closed: close it, or get the rest of the text"
             ),
             CsvFault::Width { record, cells } => self.write_width(f, *record, *cells),
             CsvFault::NotInt { record, column, .. }
