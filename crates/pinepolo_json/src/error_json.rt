@@ -109,11 +109,11 @@ fn with_call(alloc: Global, object: Object, call: &FailedCall) -> Result<Object,
 }
 
 /// Why a verb ended early, as one object.
-pub fn error_object(
+pub fn error_object<'a>(
     alloc: Global,
     verb: &str,
-    error: &VerbError,
-    failed: Option<&FailedCall>,
+    error: &'a VerbError,
+    failed: Option<&'a FailedCall>,
 ) -> Result<Value, AllocError> {
     let words = ErrorWords(ErrorText {
         error,

@@ -96,11 +96,11 @@ fn say_exit<W: Write, E: Write>(exit: &ParseExit, out: &mut W, err: &mut E) -> u
 
 /// Prints why a verb stopped early, with what the system said of the call that failed, and gives the status: as JSON if that is
 /// wanted, and else as text.
-pub fn say_error<W: Write, E: Write>(
+pub fn say_error<'a, W: Write, E: Write>(
     alloc: Global,
-    calls: &FailedCalls,
-    error: &VerbError,
-    request: &Request<'_>,
+    calls: &'a FailedCalls,
+    error: &'a VerbError,
+    request: &'a Request<'a>,
     out: &mut W,
     err: &mut E,
 ) -> u8
