@@ -120,6 +120,16 @@ impl CallList {
         }
     }
 
+    /// The last call.
+    fn last(&self) -> Option<&FailedCall> {
+        for place in self.calls.iter().rev() {
+            if let Some(call) = place.get() {
+                return Some(call);
+            }
+        }
+        None
+    }
+
     /// The last call on a file of this name.
     fn last_of_file(&self, name: &str) -> Option<&FailedCall> {
         for place in self.calls.iter().rev() {
@@ -198,10 +208,12 @@ impl FailedCalls {
 
     /// The last failed call on a file of this name, also with another ending, in any folder.
     pub fn last_of_file(&self, name: &str) -> Option<&FailedCall> {
-        match self.failed.last_of_file(name) {
-            Some(call) => Some(call),
-            None => self.missing.last_of_file(name),
-        }
+        self.failed.last_of_file(name)
+    }
+
+    /// The last failed call.
+    pub fn last(&self) -> Option<&FailedCall> {
+        self.failed.last()
     }
 
     /// The last failed call at this path, in the folder that it is, or at this path with `.partial` behind it.

@@ -35,17 +35,17 @@ pub fn failed_call<'a>(error: &VerbError, calls: &'a FailedCalls) -> Option<&'a 
         VerbError::Device(failure, subject) => failed_at(failure, subject, calls),
         VerbError::Store(
             StoreError {
-                fault: Fault::Read(name) | Fault::Write(Some(name)),
+                fault: Fault::Read(name),
                 ..
             },
         ) => { calls.last_of_file(name.path().as_str()) }
+        // the call may be on a folder, on the record or on what is kept: work ends at the first that fails
         VerbError::Store(
             StoreError {
-                fault: Fault::Write(None),
-                subject,
+                fault: Fault::Write(_),
                 ..
             },
-        ) => { calls.last_below(subject.path.as_str()) }
+        ) => { calls.last() }
         _ => None,
     }
 }
