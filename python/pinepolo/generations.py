@@ -156,14 +156,17 @@ class Writing:
     def clear(self) -> list[str]:
         """Removes what table.toml does not name. What can't be removed now is left for the next run, and answered."""
         named = {it.store for it in self.table.partitions}
-        names = os.listdir(self.folder)
+        made: dict[str, set[str]] = {}
+        for name in sorted(os.listdir(self.folder)):
+            if found := MADE.fullmatch(name):
+                made.setdefault(found[1], set()).add(name)
         left = []
-        for store in sorted({found[1] for found in map(MADE.fullmatch, names) if found}):
+        for store, names in made.items():
             try:
                 if store in named:
                     rmtree(self.path(store + NEW))
                 elif store + NEW in names or self.nobody_reads():
-                    self.remove(store)
+                    self.remove(store, names)
                 else:
                     left.append(store)
             except (OSError, DataError):
@@ -179,16 +182,16 @@ class Writing:
             os.close(readers)
         return readers >= 0
 
-    def remove(self, store: str) -> None:
-        """Removes a store, and the folder of each of its sites that has its catalog; then what says where all this was."""
-        at = self.path(store + NEW if os.path.lexists(self.path(store + NEW)) else store)
+    def remove(self, store: str, names: set[str]) -> None:
+        """Removes a store with all these names, and the folder of each of its sites that has its catalog; last what says where all
+        this was."""
+        at = self.path(store + NEW if store + NEW in names else store)
         if os.path.isfile(os.path.join(at, SITES)) and os.path.isfile(os.path.join(at, CATALOG)):
             catalog = read(os.path.join(at, CATALOG))
             for folder in read_sites(os.path.join(at, SITES)).values():
                 if os.path.isdir(folder):
                     remove_site(folder, catalog)
-        begun = [it for it in os.listdir(self.folder) if it.startswith(store + PARTIAL) and MADE.fullmatch(it)]
-        for name in (store, *begun, store + NEW):
+        for name in (*(names - {store + NEW}), store + NEW):
             rmtree(self.path(name))
 
     def __exit__(self, kind: type[BaseException] | None, error: BaseException | None, trace: TracebackType | None) -> None:

@@ -34,12 +34,14 @@ class Stores(Folder):
         self.assertEqual(list(store.batches(order="c")), [[[2, 4, 3], [10, 10, 20]], [[1], [30]]])
 
     def test_batches(self) -> None:
-        """Columns of more than one batch, by each code; texts of one length, of several, empty, of 255 bytes, not ASCII."""
+        """Columns of more than one batch, by each code; texts of one length, of several, empty, of 255 bytes, not ASCII, with control
+        characters."""
         draw, rows = random.Random(1), 70_000
         numbers = sorted(draw.randrange(-2**63, 2**63) for _ in range(rows))
         few = [draw.randrange(3) for _ in range(rows)]
         texts = [[""] * rows, ["ab"] * rows, ["é"] * rows, draw.choices(["", "a", "ab", "x" * 255], k=rows),
-                 draw.choices(["", "é"], k=rows)]
+                 draw.choices(["", "é"], k=rows), draw.choices(["", "a", "ab", "x" * 31], k=rows),
+                 [*draw.choices(["a", "ab"], k=rows - 2_000), *draw.choices(["a", "b\n", "x" * 32, "\0"], k=2_000)]]
         cases = [(3, numbers), (3, list(range(rows))), (4, numbers), (1, sorted(few)), (2, few), (2, texts[4]),
                  *((4, it) for it in texts)]
         for number, (code, cells) in enumerate(cases):
