@@ -1,12 +1,14 @@
 //! Verbs, with what they print.
 use anyhow::Result;
-use pinepolo_folders::{SitedRequest, SitesError, report_sites};
+use cs_file_system::FailedCalls;
+use pinepolo_folders::{SitedRequest, SitesRefusal};
 use pinepolo_progress::OpenGate;
-use pinepolo_run::{Host, World, run};
+use pinepolo_run::{Host, World, run, say_error};
 use std::alloc::Global;
 use std::io;
 use std::io::Write;
 use std::marker::Sync;
+use std::rt::Files;
 use std::thread::Threads;
 
 /// The words of a verb.
@@ -46,30 +48,57 @@ impl Write for Full {
     }
 }
 
+/// Prints a text, in which the paths of what stands here are relative ones.
+fn print_text<R: AllocGlobal + Files + Print>(rt: &R, text: &[u8]) -> Result<()> {
+    let alloc = rt.alloc();
+    let text = String::from_utf8_lossy(alloc, text)?;
+    let here = rt.canonicalize(alloc, ".")?;
+    let here = format!(in alloc; "{}/", here.as_str())?;
+    for part in text.as_str().split(here.as_str()) {
+        print!(rt; "{part}")?;
+    }
+    Ok(())
+}
+
 /// Prints what a verb printed, and its status.
-fn print_answer<R: AllocGlobal + Print>(rt: &R, out: &[u8], err: &[u8], status: u8) -> Result<()> {
-    let out = String::from_utf8_lossy(rt.alloc(), out)?;
-    let err = String::from_utf8_lossy(rt.alloc(), err)?;
-    let (out, err) = (out.as_str(), err.as_str());
-    print!(rt; "{out}{err}")?;
+fn print_answer<R: AllocGlobal + Files + Print>(
+    rt: &R,
+    out: &[u8],
+    err: &[u8],
+    status: u8,
+) -> Result<()> {
+    print_text(rt, out)?;
+    print_text(rt, err)?;
     println!(rt; "status {status}")?;
     Ok(())
 }
 
-/// Runs a verb over the places, and prints its lines and its status.
-pub fn answer<R: Threads + Sync + AllocGlobal + Print, P: World>(
-    rt: &R,
-    places: &mut P,
-    sited: &SitedRequest<'_>,
-    is_full: bool,
-) -> Result<()> {
-    let alloc = rt.alloc();
-    let host = Host {
+/// What a verb runs on.
+fn host_of<'a, R>(
+    rt: &'a R,
+    alloc: Global,
+    sited: &'a SitedRequest<'_>,
+    calls: &'a FailedCalls,
+) -> Host<'a, R, OpenGate> {
+    Host {
         rt,
         alloc,
         gate: &OpenGate,
         sites: sited.sites(),
-    };
+        calls,
+    }
+}
+
+/// Runs a verb over the places, and prints its lines and its status.
+pub fn answer<R: Threads + Sync + AllocGlobal + Files + Print, P: World>(
+    rt: &R,
+    places: &mut P,
+    sited: &SitedRequest<'_>,
+    calls: &FailedCalls,
+    is_full: bool,
+) -> Result<()> {
+    let alloc = rt.alloc();
+    let host = host_of(rt, alloc, sited, calls);
     let mut out = Vec::new(alloc);
     let mut err = Vec::new(alloc);
     let status = if is_full {
@@ -81,8 +110,14 @@ pub fn answer<R: Threads + Sync + AllocGlobal + Print, P: World>(
 }
 
 /// Prints why the folders of a store's sites are refused, and the status.
-pub fn refuse<R: AllocGlobal + Print>(rt: &R, error: &SitesError) -> Result<()> {
-    let mut err = Vec::new(rt.alloc());
-    let status = report_sites(error, &mut err);
-    print_answer(rt, &[], err.as_slice(), status)
+pub fn refuse<R: AllocGlobal + Files + Print>(
+    rt: &R,
+    refusal: &SitesRefusal<'_>,
+    calls: &FailedCalls,
+) -> Result<()> {
+    let alloc = rt.alloc();
+    let (mut out, mut err) = (Vec::new(alloc), Vec::new(alloc));
+    let (error, request) = (&refusal.error, &refusal.request);
+    let status = say_error(alloc, calls, error, request, &mut out, &mut err);
+    print_answer(rt, out.as_slice(), err.as_slice(), status)
 }

@@ -1,4 +1,4 @@
--- No status of an answer is above 6.
+-- No status of an answer or an error is above 6.
 use Rattle.std.proofs.Common.{◌≡◌, ◌⊎◌, ⊎_elim, subst, sym, ◌≤◌, ℕ, Bool, true, false, List, [], ◌∷◌, Option, None, Some, if◌then◌else◌, arith}
 use Rattle.std.specs.List.{list_any}
 use Rattle.cs_schema.specs.declared.file_name.FileName.{FileName}
@@ -15,6 +15,13 @@ use Rattle.pinepolo_answers.specs.declared.answer.Answer.{Answer}
 use Rattle.pinepolo_answers.specs.declared.answer.Answer.TheVariants as answer
 use Rattle.pinepolo_answers.specs.Statuses.{answer_status}
 use Rattle.pinepolo_answers.specs.Statuses.{checked_status, diagnosed_status, found_status, restoration_status}
+use Rattle.cs_store.specs.declared.fault.Fault.{Fault}
+use Rattle.cs_store.specs.declared.fault.Fault.TheVariants as fault
+use Rattle.pinepolo_places.specs.declared.error.VerbError.{VerbError}
+use Rattle.pinepolo_places.specs.declared.error.VerbError.TheVariants as error
+use Rattle.pinepolo_places.specs.declared.sites_error.SitesError.{SitesError}
+use Rattle.pinepolo_places.specs.declared.sites_error.SitesError.TheVariants as sites
+use Rattle.pinepolo_places.specs.Status.{fault_status, sites_status, status_of}
 
 if_low : (b : Bool) (m n : ℕ) → m ≤ 6 → n ≤ 6 → (if b then m else n) ≤ 6
 if_low true m n low other = low
@@ -58,6 +65,35 @@ answer_low (answer.Listed l) = if_low (list_any (λ file. is_unread file.1) l.fi
 answer_low (answer.Verified v) = if_low (list_any (λ file. is_unreadable file.1) v.comparison.files.items) 4 _ (omega arith) (agreement_low v.comparison.catalog v.comparison.files.items)
 answer_low _ = omega arith
 
--- nor is a status that is printed for one
+-- nor is a status that is printed for one of this status
+low_or_printed : (told n : ℕ) → told ≤ 6 → (n ≡ told) ⊎ ((n ≡ 3) ⊎ (n ≡ 4)) → n ≤ 6
+low_or_printed told n low said = ⊎_elim (λ e. subst (λ m. m ≤ 6) (sym e) low) (λ rest. ⊎_elim (λ e. omega (arith, e)) (λ e. omega (arith, e)) rest) said
+
 pub said_low : (a : Answer) (n : ℕ) → (n ≡ answer_status a) ⊎ ((n ≡ 3) ⊎ (n ≡ 4)) → n ≤ 6
-said_low a n said = ⊎_elim (λ e. subst (λ m. m ≤ 6) (sym e) (answer_low a)) (λ rest. ⊎_elim (λ e. omega (arith, e)) (λ e. omega (arith, e)) rest) said
+said_low a n said = low_or_printed (answer_status a) n (answer_low a) said
+
+fault_low : (f : Fault) → fault_status f ≤ 6
+fault_low fault.Memory = omega arith
+fault_low (fault.Read name) = omega arith
+fault_low (fault.Write name) = omega arith
+fault_low _ = omega arith
+
+sites_low : (e : SitesError) → sites_status e ≤ 6
+sites_low (sites.Refused file why) = omega arith
+sites_low (sites.OneFolder file numbers folder) = omega arith
+sites_low (sites.StoreFolder file site folder) = omega arith
+sites_low (sites.NoSite site) = omega arith
+sites_low (sites.NotRewritable file) = omega arith
+sites_low _ = omega arith
+
+error_low : (e : VerbError) → status_of e ≤ 6
+error_low error.NotUtf8 = omega arith
+error_low error.OutOfMemory = omega arith
+error_low (error.Catalog fault subject) = omega arith
+error_low (error.Device failure subject) = omega arith
+error_low (error.Refused refusal subject) = omega arith
+error_low (error.Sites e) = sites_low e
+error_low (error.Store e) = fault_low e.fault
+
+pub stopped_low : (e : VerbError) (n : ℕ) → (n ≡ status_of e) ⊎ ((n ≡ 3) ⊎ (n ≡ 4)) → n ≤ 6
+stopped_low e n said = low_or_printed (status_of e) n (error_low e) said

@@ -3,7 +3,8 @@ use crate::places::MemoryPlaces;
 use anyhow::Result;
 use pinepolo_args::parse;
 use pinepolo_progress::OpenGate;
-use pinepolo_run::{Host, Meter, World, run};
+use pinepolo_run::{FailedCalls, Host, Meter, World, run};
+use std::alloc::Global;
 use std::marker::Sync;
 use std::thread::Threads;
 
@@ -23,6 +24,17 @@ impl World for MemoryPlaces {}
 /// How many processors there are.
 const PROCESSORS: u32 = 2;
 
+/// What verbs run on.
+fn host_of<'a, R>(rt: &'a R, alloc: Global, calls: &'a FailedCalls) -> Host<'a, R, OpenGate> {
+    Host {
+        rt,
+        alloc,
+        gate: &OpenGate,
+        sites: None,
+        calls,
+    }
+}
+
 /// Runs a verb over the places, and prints its lines and its status.
 pub fn answered<R: Threads + Sync + AllocGlobal + Print>(
     rt: &R,
@@ -34,12 +46,8 @@ pub fn answered<R: Threads + Sync + AllocGlobal + Print>(
     for word in words {
         owned.push(String::from_str(alloc, word)?)?;
     }
-    let host = Host {
-        rt,
-        alloc,
-        gate: &OpenGate,
-        sites: None,
-    };
+    let calls = FailedCalls::new(alloc)?;
+    let host = host_of(rt, alloc, &calls);
     let mut out = Vec::new(alloc);
     let mut err = Vec::new(alloc);
     let parsed = parse(alloc, owned.as_slice(), PROCESSORS);
