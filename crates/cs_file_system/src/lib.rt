@@ -21,6 +21,7 @@ mod recording;
 mod replacing;
 mod standing;
 mod system;
+mod watching;
 
 pub use beside::{new_folder_beside, or_remove};
 pub use calls::FileSystem;
@@ -38,3 +39,4 @@ pub use recording::{begin_mark, begin_record, lock_at, rewrite_record, sweep};
 pub use replacing::{Replacement, replace_kept, take_away};
 pub use standing::Standing;
 pub use system::SystemFiles;
+pub use watching::{FileStep, Watch};

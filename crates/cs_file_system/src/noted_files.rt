@@ -1,7 +1,8 @@
-//! A file system that notes what the system said of each call that fails.
+//! A file system that notes what the system said of each call that fails, and tells how far work has come.
 ghost use Rattle.std.specs.Prelude.{◌≡◌};
 
 use crate::failed_calls::{FailedCalls, Operation};
+use crate::watching::{FileStep, Watch};
 use std::alloc::{AllocError, Allocator, Global};
 use std::fs::{File, Metadata, OpenFile, OpenOptions, Permissions};
 use std::io;
@@ -13,15 +14,17 @@ use std::time::{Clock, Duration};
 
 /// A file system whose calls that fail are noted; it does what the system's does.
 #[derive(Clone, Copy, Drop)]
-pub struct NotedFiles<'a, R> {
+pub struct NotedFiles<'a, R, W> {
     pub rt: R,
     pub calls: &'a Arc<FailedCalls>,
+    /// Who is told how far work on files has come.
+    pub watch: &'a W,
 }
 
-/// Files of which each call that fails is noted.
-pub trait StoreFiles: Files<File = NotedFile> {}
+/// Files of which each call that fails is noted, and whoever watches is told.
+pub trait StoreFiles: Files<File = NotedFile> + Watch {}
 
-impl<R: Files<File = NotedFile>> StoreFiles for R {}
+impl<R: Files<File = NotedFile> + Watch> StoreFiles for R {}
 
 /// An open file whose calls that fail are noted.
 #[derive(Drop)]
@@ -36,7 +39,7 @@ fn no_memory(_error: AllocError) -> io::Error {
     io::Error::from(ErrorKind::OutOfMemory)
 }
 
-impl<R> NotedFiles<'_, R> {
+impl<R, W> NotedFiles<'_, R, W> {
     /// Notes a call that failed, and hands on what it answered.
     fn noted<T>(&self, operation: Operation, path: &str, answer: io::Result<T>) -> io::Result<T>
         ensures { result ≡ answer }
@@ -48,7 +51,7 @@ impl<R> NotedFiles<'_, R> {
     }
 }
 
-impl<R: Alloc> Alloc for NotedFiles<'_, R> {
+impl<R: Alloc, W> Alloc for NotedFiles<'_, R, W> {
     type A = R::A;
 
     fn alloc(&self) -> R::A {
@@ -56,7 +59,7 @@ impl<R: Alloc> Alloc for NotedFiles<'_, R> {
     }
 }
 
-impl<R: Clock> Clock for NotedFiles<'_, R> {
+impl<R: Clock, W> Clock for NotedFiles<'_, R, W> {
     fn monotonic(&self) -> io::Result<Duration> {
         self.rt.monotonic()
     }
@@ -66,7 +69,21 @@ impl<R: Clock> Clock for NotedFiles<'_, R> {
     }
 }
 
-impl<R: Files<File = File>> Files for NotedFiles<'_, R> {
+impl<R, W: Watch> Watch for NotedFiles<'_, R, W> {
+    fn expects(&self, bytes: u64) {
+        self.watch.expects(bytes);
+    }
+
+    fn begins(&self, step: FileStep, site: Option<u8>) {
+        self.watch.begins(step, site);
+    }
+
+    fn moves(&self, bytes: u64) {
+        self.watch.moves(bytes);
+    }
+}
+
+impl<R: Files<File = File>, W> Files for NotedFiles<'_, R, W> {
     type File = NotedFile;
 
     type Dir = R::Dir;

@@ -5,7 +5,7 @@ use crate::keeping::{keep_names, make_kept_folder};
 use crate::record::Change;
 use crate::shelf::{FolderShelf, only_looked_at};
 use crate::store_folders::Part;
-use cs_file_system::{StoreFiles, SystemFiles};
+use cs_file_system::{FileStep, StoreFiles, SystemFiles};
 use cs_schema::FileName;
 use std::alloc::{AllocError, Global};
 use std::collections::BTreeMap;
@@ -39,10 +39,13 @@ fn add_all(
     Ok(())
 }
 
-impl<R: Files + Copy + Drop> FolderShelf<R> {
+impl<R: StoreFiles + Copy + Drop> FolderShelf<R> {
     /// Keeps what stands under these names in a folder, in `replaced/N` there, which is new unless this work may have kept
     /// something before: what becomes of each.
     fn keep_part(&self, part: &Part<'_>, is_first: bool) -> io::Result<Vec<Change>> {
+        if let Some(name) = part.names.first() {
+            self.begins(FileStep::Keep, *name);
+        }
         let all = format!(in self.alloc; "{}/replaced", part.folder)?;
         let kept = format!(in self.alloc; "{all}/{}", self.number())?;
         let files = &mut SystemFiles(&self.rt);

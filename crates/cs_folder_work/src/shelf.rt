@@ -8,7 +8,7 @@ use crate::sealing::is_long_and_damaged;
 use crate::store_folders::StoreFolders;
 use crate::syncing::sync_folders_of;
 use crate::taking::Taken;
-use cs_file_system::{FileSystem, StoreFiles, SystemFiles};
+use cs_file_system::{FileStep, FileSystem, StoreFiles, SystemFiles};
 use cs_folders::{FileLimits, StoreFolder, file_in};
 use cs_schema::FileName;
 use cs_shelf::Shelf;
@@ -179,7 +179,14 @@ impl<R: Files + Copy + Drop> FolderShelf<R> {
     }
 }
 
-impl<R: Files + Copy + Drop> Source for FolderShelf<R> {
+impl<R: StoreFiles + Copy + Drop> FolderShelf<R> {
+    /// Tells that a step with the file of a name is begun.
+    pub(crate) fn begins(&self, step: FileStep, name: FileName) {
+        self.rt.begins(step, self.source.routes.site_of(name));
+    }
+}
+
+impl<R: StoreFiles + Copy + Drop> Source for FolderShelf<R> {
     ghost gives = { λ s name file t. ⊤ };
 
     ghost refuses = { λ s name fault t. ⊤ };
@@ -187,9 +194,11 @@ impl<R: Files + Copy + Drop> Source for FolderShelf<R> {
     ghost fault_count = { λ s. s.faults };
 
     fn read(&mut self, name: FileName) -> Result<Option<Vec<u8>>, StoreFault> {
+        self.begins(FileStep::Read, name);
         let read = self.read_worthy(name);
         match &read {
             Ok(Some(bytes)) => {
+                self.rt.moves(bytes.len() as u64);
                 if self.digests.note(name, bytes.as_slice()).is_err() {
                     return Err(StoreFault::Memory);
                 }
@@ -256,11 +265,13 @@ impl<R: StoreFiles + Copy + Drop> Shelf for FolderShelf<R> {
     }
 
     fn replace(&mut self, name: FileName, bytes: &[u8]) -> Result<(), StoreFault> {
+        self.begins(FileStep::Write, name);
         let replaced = if self.is_moved(name) {
             self.move_back(name)
         } else {
             self.replace_file(name, bytes)
         };
+        self.rt.moves(bytes.len() as u64);
         self.count(&replaced);
         self.told(replaced)
     }

@@ -1,11 +1,12 @@
 //! Taking a store for an undo.
 use crate::finishing::remove_record;
+use crate::pending::require_idle;
 use crate::replaced::{last_finished, read_replaced};
 use crate::store_folders::StoreFolders;
 use crate::taking::{Taken, failed, resume, take};
 use cs_file_system::StoreFiles;
 use cs_folders::FileLimits;
-use cs_shelf::{UndoOf, Undoable, Untaken, Work, WorkKind};
+use cs_shelf::{RESTORING, UndoOf, Undoable, Untaken, Work, WorkKind};
 use std::alloc::Global;
 use std::rt::Files;
 
@@ -20,6 +21,22 @@ fn last<R: Files + Alloc + Clone + Drop>(
         Ok(None) => Err(Untaken::NoneKept(None)),
         Err(e) => Err(failed(e)),
     }
+}
+
+/// The number of the last work that was finished. If there is none, work that is not finished is what is told.
+fn last_or_pending<R: StoreFiles + Alloc + Clone + Drop>(
+    alloc: Global,
+    rt: &R,
+    store: &str,
+) -> Result<u32, Untaken> {
+    let found = last(alloc, rt, store);
+    if let Err(Untaken::NoneKept(_)) = found {
+        match format!(in alloc; "{store}/{RESTORING}") {
+            Ok(path) => require_idle(alloc, rt, path.as_str())?,
+            Err(_) => return Err(Untaken::Memory),
+        }
+    }
+    found
 }
 
 /// A store that is taken for an undo, with what that puts back.
@@ -79,7 +96,7 @@ pub fn take_undo<R: StoreFiles + Alloc + Clone + Drop>(
     let number = match of {
         UndoOf::Unfinished => return go_on(alloc, rt, folders, limits),
         UndoOf::Number(number) => number,
-        UndoOf::Last => last(alloc, rt, folders.store())?,
+        UndoOf::Last => last_or_pending(alloc, rt, folders.store())?,
     };
     let taken = take(alloc, rt, folders, Work::Undo(number), false)?;
     match kept_by(alloc, rt, folders, of, number, limits) {

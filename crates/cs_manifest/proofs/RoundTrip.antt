@@ -1,5 +1,5 @@
 -- What was written is read back.
-use Rattle.std.proofs.Common.{◌≡◌, ◌==◌, ◌||◌, ◌+◌, ◌-◌, ◌<◌, cond, ℕ, Bool, true, false, List, [], ◌∷◌, ◌++◌, length, take, drop, codes, Option, Some, None, IsSome, Ok, IsOk, refl, subst, sym, ap, ◌∙◌, arith, get_or}
+use Rattle.std.proofs.Common.{◌≡◌, ◌==◌, ◌||◌, ◌+◌, ◌-◌, ◌<◌, cond, ℕ, Bool, true, false, List, [], ◌∷◌, ◌++◌, length, take, drop, codes, Some, IsSome, Ok, IsOk, refl, subst, sym, ap, ◌∙◌, arith, get_or}
 use Rattle.std.specs.List.{All, AllByRecursion, AllPass, cons_option, position_or_len, slice_split}
 use Rattle.std.specs.Map.{lookup}
 use Rattle.std.specs.Str.{bytes_eq}
@@ -12,7 +12,7 @@ use Rattle.std.proofs.lemmas.List.Sums.{position_or_len_is}
 use Rattle.std.proofs.Math.Seq.{take-append_seam, drop-append-add, get_or-append_seam}
 use Rattle.hex.specs.Hex.{decode_sized, encode_lower, is_hex_digit}
 use Rattle.hex.proofs.HexLemmas.{decode_sized-encode_lower, IsOk-decode_sized}
-use Rattle.cs_manifest.specs.Lines.{entry_in, is_space, line_of, path_after, path_with_digest}
+use Rattle.cs_manifest.specs.Lines.{entry_in, is_space, path_after, path_with_digest}
 use Rattle.cs_manifest.specs.Reading.{said}
 use Rattle.cs_manifest.specs.RoundTrip.{Entry, IsDigest, IsEntry, LinesReadBack, ManifestsReadBack, written}
 

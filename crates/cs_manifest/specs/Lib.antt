@@ -1,3 +1,4 @@
+pub mod Ahead
 pub mod Comparisons
 pub mod Digests
 pub mod Lines

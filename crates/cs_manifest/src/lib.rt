@@ -6,6 +6,7 @@
 
 mod comparing;
 mod digesting;
+mod digesting_ahead;
 mod fault;
 pub mod laws;
 mod line;

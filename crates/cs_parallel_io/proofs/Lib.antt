@@ -1,3 +1,3 @@
-mod AllSaid
+pub mod AllSaid
 pub mod Stands
 pub mod Behind

@@ -11,6 +11,7 @@ mod shared;
 mod writing_ahead;
 
 pub use batch_sink::{BatchSink, FileWriter, NoWriter};
+pub use dealing::dealt;
 pub use loading::{load_readable_side_by_side, load_side_by_side};
 pub use reading_ahead::{ReadAhead, read_ahead};
 pub use shared::SharedSource;

@@ -9,6 +9,8 @@ use cs_manifest::{Digested, digest_files, digest_of};
 use cs_schema::{Catalog, FileName};
 use pinepolo_places::{Listings, VerbError, find_store_text, require_unchanged, watch};
 use std::alloc::Global;
+use std::marker::Sync;
+use std::thread::Threads;
 
 /// The digests of a store.
 #[derive(Drop)]
@@ -21,9 +23,10 @@ pub struct StoreDigests {
     pub files: Vec<(FileName, Digested)>,
 }
 
-/// Reads the files of the store at this path, or those of one of its sites alone, one after the other. None is kept. A
-/// site that the catalog lacks is refused.
-pub fn digest_store<P: Listings>(
+/// Reads the files of the store at this path, or those of one of its sites alone, in parallel. None is kept. A site that
+/// the catalog lacks is refused.
+pub fn digest_store<R: Threads + Sync, P: Listings>(
+    rt: &R,
     alloc: Global,
     places: &mut P,
     path: &str,
@@ -41,7 +44,7 @@ pub fn digest_store<P: Listings>(
         Err(error) => return Err(error),
     }
     let before = watch(alloc, places, path)?;
-    let digested = digest_files(alloc, &catalog, others(site), &source);
+    let digested = digest_files(rt, alloc, &catalog, others(site), &source);
     require_unchanged(alloc, places, path, &before)?;
     match digested {
         Ok(files) => Ok(StoreDigests {

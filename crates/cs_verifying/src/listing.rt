@@ -8,10 +8,13 @@ use cs_manifest::write_manifest;
 use pinepolo_answers::Listed;
 use pinepolo_places::{Listings, VerbError};
 use std::alloc::Global;
+use std::marker::Sync;
+use std::thread::Threads;
 
 /// The manifest of a store: its files that are there, with their digests; and those that are not. With a site, that site's
 /// files alone.
-pub fn list<P: Listings>(
+pub fn list<R: Threads + Sync, P: Listings>(
+    rt: &R,
     alloc: Global,
     places: &mut P,
     path: &str,
@@ -20,7 +23,7 @@ pub fn list<P: Listings>(
     ensures { IfOk result (λ listed. ListsStore P.reads P.opens (standing P.Store.answers) (standing P.Store.fails)
         places.old path.now site listed places.new) }
 {
-    let found = match digest_store(alloc, places, path, site) {
+    let found = match digest_store(rt, alloc, places, path, site) {
         Ok(found) => found,
         Err(error) => return Err(error),
     };

@@ -9,9 +9,12 @@ use cs_manifest::compare;
 use pinepolo_answers::Verified;
 use pinepolo_places::{Listings, Tables, VerbError};
 use std::alloc::Global;
+use std::marker::Sync;
+use std::thread::Threads;
 
 /// Which files of a store are not those of a manifest. With a site, that site's files alone are compared.
-pub fn verify<P: Listings + Tables>(
+pub fn verify<R: Threads + Sync, P: Listings + Tables>(
+    rt: &R,
     alloc: Global,
     places: &mut P,
     path: &str,
@@ -25,7 +28,7 @@ pub fn verify<P: Listings + Tables>(
         Ok(manifest) => manifest,
         Err(error) => return Err(error),
     };
-    let found = match digest_store(alloc, places, path, site) {
+    let found = match digest_store(rt, alloc, places, path, site) {
         Ok(found) => found,
         Err(error) => return Err(error),
     };

@@ -12,6 +12,7 @@ use changes::changed;
 use cs_file_system::{FailedCalls, NotedFiles};
 use pinepolo_args::parse;
 use pinepolo_folders::Folders;
+use pinepolo_progress::ProgressLine;
 use std::sync::Arc;
 use verbs::{Asked, answer, refuse};
 
@@ -22,7 +23,12 @@ fn main(rt: HostRuntime) -> Result<()> {
     let alloc = rt.alloc();
     for line in rt.lines(alloc) {
         let calls = Arc::new(alloc, FailedCalls::new(alloc)?)?;
-        let files = NotedFiles { rt, calls: &calls };
+        let watch = ProgressLine::new(rt, rt.stderr(), false, 1);
+        let files = NotedFiles {
+            rt,
+            calls: &calls,
+            watch: &watch,
+        };
         let mut places = Folders::new(alloc, files);
         let line = line?;
         let words: Vec<&str> = line.split_whitespace().collect(alloc)?;

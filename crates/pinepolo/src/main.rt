@@ -54,7 +54,11 @@ fn main(rt: HostRuntime) -> ExitCode {
     let Ok(calls) = no_failed_calls(alloc) else {
         return ExitCode::from(say_early(&VerbError::OutOfMemory, &mut err));
     };
-    let files = NotedFiles { rt, calls: &calls };
+    let files = NotedFiles {
+        rt,
+        calls: &calls,
+        watch: &gate,
+    };
     let mut places = Folders::new(alloc, files);
     let status = match env::args(&rt) {
         Ok(args) => match args.skip(1).collect::<Vec<String>>(alloc) {

@@ -5,6 +5,7 @@ ghost use Rattle.cs_store.specs.Fault.{CountsFault};
 use crate::listing::names_in_all;
 use crate::sites::SiteFolders;
 use crate::stamps::{StoreStamp, stamp_of};
+use crate::watched::{WatchedOutput, WatchedStore};
 use cs_file_system::StoreFiles;
 use cs_folder_work::pending_work;
 use cs_folders::{FileLimits, OutputFolder, StoreFolder, read_catalog_file, write_new};
@@ -88,10 +89,10 @@ impl<R: Files + Copy> Folders<R> {
     }
 }
 
-impl<R: Files + Copy + Sync> Places for Folders<R> {
-    type Store = SitedSource<StoreFolder<R>>;
+impl<R: StoreFiles + Copy + Sync> Places for Folders<R> {
+    type Store = WatchedStore<R>;
 
-    type Output = OutputFolder<R>;
+    type Output = WatchedOutput<R, OutputFolder<R>>;
 
     ghost reads = { λ s path bytes t. ⊤ };
 
@@ -128,17 +129,20 @@ impl<R: Files + Copy + Sync> Places for Folders<R> {
         self.found(read)
     }
 
-    fn files(
-        &self,
-        path: &str,
-        catalog: &Catalog,
-    ) -> Result<SitedSource<StoreFolder<R>>, AllocError> {
-        self.source(path, catalog)
+    fn files(&self, path: &str, catalog: &Catalog) -> Result<WatchedStore<R>, AllocError> {
+        Ok(WatchedStore {
+            rt: self.rt,
+            source: self.source(path, catalog)?,
+        })
     }
 
-    fn output(&mut self, path: &str) -> Result<OutputFolder<R>, StoreFault> {
+    fn output(&mut self, path: &str) -> Result<WatchedOutput<R, OutputFolder<R>>, StoreFault> {
         let made = OutputFolder::make(self.alloc, self.rt, path);
-        self.told(made)
+        let output = self.told(made)?;
+        Ok(WatchedOutput {
+            rt: self.rt,
+            output,
+        })
     }
 
     fn picture(&mut self, path: &str, bytes: &[u8]) -> Result<(), StoreFault> {
@@ -180,11 +184,13 @@ impl<R: StoreFiles + Alloc + Copy + Drop + Sync> Listings for Folders<R> {
     }
 
     fn stamp(&self, path: &str) -> Result<StoreStamp, AllocError> {
-        stamp_of(self.alloc, &self.rt, path, &self.sites)
+        let stamp = stamp_of(self.alloc, &self.rt, path, &self.sites)?;
+        self.rt.expects(stamp.bytes());
+        Ok(stamp)
     }
 
     fn is_unchanged(&self, path: &str, before: &StoreStamp) -> Result<bool, AllocError> {
-        Ok(self.stamp(path)?.is_same(before))
+        Ok(stamp_of(self.alloc, &self.rt, path, &self.sites)?.is_same(before))
     }
 }
 

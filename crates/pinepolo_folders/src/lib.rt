@@ -17,6 +17,7 @@ mod siting;
 mod stamps;
 mod store_folders;
 mod tables;
+mod watched;
 
 pub use folders::Folders;
 pub use siting::{SitedRequest, SitesRefusal};

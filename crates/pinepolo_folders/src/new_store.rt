@@ -4,7 +4,7 @@ ghost use Rattle.cs_store.specs.Fault.{CountsFault};
 
 use crate::new_sites::clear_folder;
 use cs_catalog::{CatalogFault, read_catalog};
-use cs_file_system::StoreFiles;
+use cs_file_system::{FileStep, StoreFiles};
 use cs_folders::{NewSite, NewStoreFolder, file_in, partial_path};
 use cs_schema::FileName;
 use cs_sites::Routes;
@@ -28,6 +28,7 @@ struct NewSites<R> {
 /// A new store, with the number of faults that were met up to its last write. Its own folder gets its name last.
 #[derive(Drop)]
 pub struct SystemStore<R> {
+    rt: R,
     path: String,
     /// The folder of the store, which has its files unless the sites have them.
     store: NewStoreFolder<R>,
@@ -141,6 +142,7 @@ impl<R: StoreFiles + Alloc + Copy + Drop> SystemStore<R> {
             None => None,
         };
         Ok(Self {
+            rt,
             path: String::from_str(alloc, path.trim_end_matches('/')).map_err(no_memory)?,
             store,
             sites,
@@ -175,7 +177,7 @@ impl<R: Files> SystemStore<R> {
     }
 }
 
-impl<R: Files> Sink for SystemStore<R> {
+impl<R: StoreFiles> Sink for SystemStore<R> {
     ghost takes = { λ s name bytes t. ⊤ };
 
     ghost marks = { λ s files t. ⊤ };
@@ -185,10 +187,16 @@ impl<R: Files> Sink for SystemStore<R> {
     ghost fault_count = { λ s. s.faults };
 
     fn put(&mut self, name: FileName, bytes: &[u8]) -> Result<(), StoreFault> {
+        let site = match &self.sites {
+            Some(sites) => sites.routes.site_of(name),
+            None => None,
+        };
+        self.rt.begins(FileStep::Write, site);
         let written = match &mut self.sites {
             Some(sites) => sites.put(name, bytes),
             None => self.store.put(name, bytes),
         };
+        self.rt.moves(bytes.len() as u64);
         self.told(written)
     }
 
@@ -202,7 +210,7 @@ impl<R: Files> Sink for SystemStore<R> {
     }
 }
 
-impl<R: Files> NewFiles for SystemStore<R> {
+impl<R: StoreFiles> NewFiles for SystemStore<R> {
     fn unwritten(&self, alloc: Global, at: Option<FileName>) -> Result<String, AllocError> {
         let path = self.path.as_str();
         match (&self.sites, at) {

@@ -3,6 +3,7 @@ ghost use Rattle.std.specs.Prelude.{⊤};
 
 use crate::folders::Folders;
 use crate::rebuilt::rebuilt_names;
+use crate::stamps::stamp_of;
 use cs_file_system::StoreFiles;
 use cs_folder_work::{FolderShelf, Taken, resume, take, take_undo};
 use cs_folders::FileLimits;
@@ -13,7 +14,7 @@ use std::marker::Sync;
 use std::rt::Files;
 use std::time::Clock;
 
-impl<R: Files + Copy + Drop> Folders<R> {
+impl<R: StoreFiles + Alloc + Copy + Drop> Folders<R> {
     /// The store at this path, to be looked at alone, of which files of these sites may change.
     fn shelf(
         &self,
@@ -22,6 +23,10 @@ impl<R: Files + Copy + Drop> Folders<R> {
         lost: Loss,
     ) -> Result<FolderShelf<R>, StoreFault> {
         let folders = self.store_folders(path, catalog)?;
+        match stamp_of(self.alloc, &self.rt, path, &self.sites) {
+            Ok(stamp) => self.rt.expects(stamp.bytes()),
+            Err(_) => return Err(StoreFault::Memory),
+        }
         let (source, names) = match (
             self.source(path, catalog),
             rebuilt_names(self.alloc, catalog, lost),

@@ -50,6 +50,15 @@ pub struct StoreStamp {
 }
 
 impl FolderStamp {
+    /// How many bytes its files have.
+    fn bytes(&self) -> u64 {
+        let mut bytes = 0u64;
+        for file in self.files.iter().flatten() {
+            bytes = bytes.saturating_add(file.length);
+        }
+        bytes
+    }
+
     /// Whether nothing is known to have changed.
     fn is_same(&self, other: &Self) -> bool {
         self.files.len() == other.files.len()
@@ -61,6 +70,15 @@ impl FolderStamp {
 }
 
 impl StoreStamp {
+    /// How many bytes its files have.
+    pub fn bytes(&self) -> u64 {
+        let mut bytes = 0u64;
+        for folder in self.folders.iter().flatten() {
+            bytes = bytes.saturating_add(folder.bytes());
+        }
+        bytes
+    }
+
     /// Whether nothing is known to have changed: what can't be looked at is told by whoever reads it.
     pub fn is_same(&self, other: &Self) -> bool {
         self.folders.len() == other.folders.len()

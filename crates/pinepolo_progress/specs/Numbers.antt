@@ -2,7 +2,7 @@
 use Rattle.std.specs.Prelude.{ℕ}
 use Rattle.cs_board.specs.declared.round.Round.TheVariants.{Files, Walk, Images, Joins, Columns}
 use Rattle.pinepolo_progress.specs.declared.stage.Stage.{Stage}
-use Rattle.pinepolo_progress.specs.declared.stage.Stage.TheVariants.{Reading, Table, Inspecting, Writing, Round}
+use Rattle.pinepolo_progress.specs.declared.stage.Stage.TheVariants.{Reading, Table, Inspecting, Writing, Keeping, Round}
 
 -- each stage has one
 abbrev pub number_of : Stage → ℕ
@@ -15,3 +15,4 @@ number_of (Round Images) = 5
 number_of (Round Joins) = 6
 number_of (Round Columns) = 7
 number_of Table = 8
+number_of Keeping = 9

@@ -4,6 +4,7 @@ use crate::shown::Shown;
 use crate::stage::Stage;
 use crate::tried::{loss_of, word_of};
 use cs_board::{Gate, Round};
+use cs_file_system::{FileStep, Watch};
 use cs_schema::Loss;
 use std::fmt;
 use std::io::Print;
@@ -42,6 +43,12 @@ pub struct ProgressLine<C, E> {
     begun: AtomicU64,
     /// The number of rows of a table that were read.
     read: AtomicU64,
+    /// The number of bytes of files that are to be read, if it is known.
+    expected: AtomicU64,
+    /// The number of bytes of files that were read or written.
+    moved: AtomicU64,
+    /// The site of the file that was begun last, or 0.
+    site: AtomicU64,
     /// The time at which the next line is due, in milliseconds of the clock.
     due: AtomicU64,
     /// 1 while somebody writes.
@@ -86,6 +93,9 @@ impl<C: Clock, E> ProgressLine<C, E> {
             pieces: AtomicU64::new(0),
             begun: AtomicU64::new(0),
             read: AtomicU64::new(0),
+            expected: AtomicU64::new(0),
+            moved: AtomicU64::new(0),
+            site: AtomicU64::new(0),
             due: AtomicU64::new(due),
             writing: AtomicU64::new(0),
             stands: AtomicU64::new(0),
@@ -109,6 +119,9 @@ impl<C, E> ProgressLine<C, E> {
             pieces: self.pieces.load(Ordering::SeqCst),
             begun: self.begun.load(Ordering::SeqCst),
             read: self.read.load(Ordering::SeqCst),
+            expected: self.expected.load(Ordering::SeqCst),
+            moved: self.moved.load(Ordering::SeqCst),
+            site: self.site.load(Ordering::SeqCst),
             piece_rows: self.piece_rows,
         }
     }
@@ -159,6 +172,37 @@ impl<C: Clock, E: Print> Gate for ProgressLine<C, E> {
             self.forget();
         }
         self.pieces.fetch_add(u64::from(pieces), Ordering::SeqCst);
+        self.show();
+    }
+}
+
+/// The stage of a step with a file.
+fn stage_of(step: FileStep) -> Stage {
+    match step {
+        FileStep::Read => Stage::Reading,
+        FileStep::Keep => Stage::Keeping,
+        FileStep::Write => Stage::Writing,
+    }
+}
+
+impl<C: Clock, E: Print> Watch for ProgressLine<C, E> {
+    fn expects(&self, bytes: u64) {
+        self.expected.fetch_add(bytes, Ordering::SeqCst);
+    }
+
+    fn begins(&self, step: FileStep, site: Option<u8>) {
+        let stage = stage_of(step).number();
+        if self.stage.swap(stage, Ordering::SeqCst) != stage && step != FileStep::Read {
+            self.moved.store(0, Ordering::SeqCst);
+            self.expected.store(0, Ordering::SeqCst);
+        }
+        self.site
+            .store(u64::from(site.unwrap_or(0)), Ordering::SeqCst);
+        self.show();
+    }
+
+    fn moves(&self, bytes: u64) {
+        self.moved.fetch_add(bytes, Ordering::SeqCst);
         self.show();
     }
 }

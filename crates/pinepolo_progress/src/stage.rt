@@ -18,6 +18,8 @@ pub enum Stage {
     Round(Round),
     /// Files are written.
     Writing,
+    /// What stands under names that are to change is kept.
+    Keeping,
 }
 
 impl Stage {
@@ -35,12 +37,13 @@ impl Stage {
             Stage::Round(Round::Joins) => 6,
             Stage::Round(Round::Columns) => 7,
             Stage::Table => 8,
+            Stage::Keeping => 9,
         }
     }
 
-    /// The stage with a number below 9.
+    /// The stage with a number below 10.
     pub fn of_number(number: u64) -> Stage
-        ensures { number < 9 → number_of result ≡ number }
+        ensures { number < 10 → number_of result ≡ number }
     {
         match number {
             0 => Stage::Reading,
@@ -51,6 +54,7 @@ impl Stage {
             6 => Stage::Round(Round::Joins),
             7 => Stage::Round(Round::Columns),
             8 => Stage::Table,
+            9 => Stage::Keeping,
             _ => Stage::Writing,
         }
     }
@@ -64,6 +68,7 @@ impl fmt::Display for Stage {
             Stage::Inspecting => f.write_str("looking at each file"),
             Stage::Round(round) => write!(f, "{round}"),
             Stage::Writing => f.write_str("writing files"),
+            Stage::Keeping => f.write_str("keeping old files"),
         }
     }
 }

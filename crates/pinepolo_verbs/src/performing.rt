@@ -69,10 +69,10 @@ pub fn perform<R: Threads + Sync, G: Progress + Sync, P: World>(
         Verb::Restore(args) => restore_found(run, places, args).map(Answer::RestoredFound),
         Verb::Undo(args) => undo(run.alloc, places, args).map(Answer::Undone),
         Verb::Manifest(args) => {
-            list(run.alloc, places, args.store, args.site).map(Answer::Listed)
+            list(run.rt, run.alloc, places, args.store, args.site).map(Answer::Listed)
         },
         Verb::Verify(args) => {
-            verify(run.alloc, places, args.store, args.manifest, args.site).map(Answer::Verified)
+            verify(run.rt, run.alloc, places, args.store, args.manifest, args.site).map(Answer::Verified)
         }
         Verb::Design(args) => design(run.alloc, places, args).map(Answer::Designed),
         Verb::Load(args) => load(run, places, args).map(Answer::Loaded),

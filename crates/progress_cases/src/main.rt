@@ -3,6 +3,7 @@
 
 use anyhow::Result;
 use cs_board::{Gate, Round};
+use cs_file_system::{FileStep, Watch};
 use pinepolo_progress::{Progress, ProgressLine, Stage};
 use std::io;
 use std::sync::atomic::{AtomicU64, Ordering};
@@ -35,14 +36,19 @@ fn gate<P: Print>(stream: P, is_terminal: bool) -> ProgressLine<Ticks, P> {
     ProgressLine::new(clock, stream, is_terminal, 65_536)
 }
 
-/// Reports to a gate: a table that is read, a walk in four pieces, two rounds of columns that are open beside one of
-/// images, and files that are written.
-fn tell<G: Progress>(gate: &G) {
+/// Reports to a gate: a table that is read, two files that are read, a walk in four pieces, two rounds of columns that are open
+/// beside one of images, and files that are kept and written.
+fn tell<G: Progress + Watch>(gate: &G) {
     gate.reached(Stage::Table);
     for _ in 0..4 {
         gate.read_rows(1000);
     }
     gate.reached(Stage::Reading);
+    gate.expects(5_000_000);
+    for site in 1..3u8 {
+        gate.begins(FileStep::Read, Some(site));
+        gate.moves(2_500_000);
+    }
     gate.opened(Round::Walk, 4);
     for piece in 0..4 {
         gate.entered(piece);
@@ -52,7 +58,11 @@ fn tell<G: Progress>(gate: &G) {
         gate.opened(Round::Columns, 2);
         gate.entered(0);
     }
-    gate.reached(Stage::Writing);
+    for step in [FileStep::Keep, FileStep::Write] {
+        gate.begins(step, Some(3));
+        gate.moves(1_500_000);
+    }
+    gate.begins(FileStep::Write, None);
     gate.reached(Stage::Inspecting);
     gate.erase();
     gate.erase();
