@@ -98,7 +98,15 @@ pub fn answer<R: Threads + Sync + AllocGlobal + Files + Print, P: World>(
     is_full: bool,
 ) -> Result<()> {
     let alloc = rt.alloc();
-    let host = host_of(rt, alloc, sited, calls);
+    let sites = sited.sites();
+    let host = Host {
+        rt,
+        alloc,
+        gate: &OpenGate,
+        sites,
+        calls,
+        prefix: "",
+    };
     let mut out = Vec::new(alloc);
     let mut err = Vec::new(alloc);
     let status = if is_full {
@@ -116,8 +124,16 @@ pub fn refuse<R: AllocGlobal + Files + Print>(
     calls: &FailedCalls,
 ) -> Result<()> {
     let alloc = rt.alloc();
+    let host = Host {
+        rt,
+        alloc,
+        gate: &OpenGate,
+        sites: None,
+        calls,
+        prefix: "",
+    };
     let (mut out, mut err) = (Vec::new(alloc), Vec::new(alloc));
     let (error, request) = (&refusal.error, &refusal.request);
-    let status = say_error(alloc, calls, error, request, &mut out, &mut err);
+    let status = say_error(&host, error, request, &mut out, &mut err);
     print_answer(rt, out.as_slice(), err.as_slice(), status)
 }

@@ -51,8 +51,13 @@ fn main(rt: HostRuntime) -> ExitCode {
     let mut out = rt.stdout();
     let mut err = rt.stderr();
     let gate = ProgressLine::new(rt, err, err.is_terminal(), u64::from(CUT));
+    let prefix = if out.is_terminal() && err.is_terminal() {
+        ""
+    } else {
+        "pinepolo: "
+    };
     let Ok(calls) = no_failed_calls(alloc) else {
-        return ExitCode::from(say_early(&VerbError::OutOfMemory, &mut err));
+        return ExitCode::from(say_early(&VerbError::OutOfMemory, prefix, &mut err));
     };
     let files = NotedFiles { rt, calls: &calls };
     let mut places = Folders::new(alloc, files);
@@ -61,25 +66,37 @@ fn main(rt: HostRuntime) -> ExitCode {
             Ok(words) => {
                 match places.find_sites_of(parse(alloc, words.as_slice(), processors)) {
                     Ok(sited) => {
-                        let host = host_of(&rt, alloc, &gate, &sited, &calls);
+                        let sites = sited.sites();
+                        let host = Host {
+                            rt: &rt,
+                            alloc,
+                            gate: &gate,
+                            sites,
+                            calls: &calls,
+                            prefix,
+                        };
                         run(&host, &sited.parsed, &mut places, &mut out, &mut err)
                     }
-                    Err(refusal) => say_error(
-                        alloc,
-                        &calls,
-                        &refusal.error,
-                        &refusal.request,
-                        &mut out,
-                        &mut err,
-                    ),
+                    Err(refusal) => {
+                        let host = Host {
+                            rt: &rt,
+                            alloc,
+                            gate: &gate,
+                            sites: None,
+                            calls: &calls,
+                            prefix,
+                        };
+                        let (error, request) = (&refusal.error, &refusal.request);
+                        say_error(&host, error, request, &mut out, &mut err)
+                    }
                 }
             }
-            Err(_) => say_early(&VerbError::OutOfMemory, &mut err),
+            Err(_) => say_early(&VerbError::OutOfMemory, prefix, &mut err),
         },
         Err(e) if e.kind() == io::ErrorKind::OutOfMemory => {
-            say_early(&VerbError::OutOfMemory, &mut err)
+            say_early(&VerbError::OutOfMemory, prefix, &mut err)
         }
-        Err(_) => say_early(&VerbError::NotUtf8, &mut err),
+        Err(_) => say_early(&VerbError::NotUtf8, prefix, &mut err),
     };
     ExitCode::from(status)
 }

@@ -8,7 +8,8 @@ use cs_rebuild::{check, rebuild};
 use cs_schema::{Catalog, Loss};
 use cs_store::FileSet;
 use pinepolo_answers::Diagnosed;
-use pinepolo_text::DiagnosedText;
+use pinepolo_run::FailedCalls;
+use pinepolo_text::{At, DiagnosedText};
 use std::alloc::Global;
 use std::marker::Sync;
 use std::thread::Threads;
@@ -77,10 +78,16 @@ pub fn tell<R: Threads + Sync + AllocGlobal + Print>(rt: &R, case: &Case<'_>) ->
         changed: Vec::new(alloc),
         unfinished: None,
     };
-    let text = DiagnosedText {
-        diagnosed: &diagnosed,
+    let calls = FailedCalls::new(alloc)?;
+    let at = At {
         store: "store",
         sites: None,
+        calls: &calls,
+        prefix: "",
+    };
+    let text = DiagnosedText {
+        diagnosed: &diagnosed,
+        at,
     };
     print!(rt; "{text}")?;
     Ok(())

@@ -47,7 +47,15 @@ pub fn answered<R: Threads + Sync + AllocGlobal + Print>(
         owned.push(String::from_str(alloc, word)?)?;
     }
     let calls = FailedCalls::new(alloc)?;
-    let host = host_of(rt, alloc, &calls);
+    let sites = None;
+    let host = Host {
+        rt,
+        alloc,
+        gate: &OpenGate,
+        sites,
+        calls: &calls,
+        prefix: "",
+    };
     let mut out = Vec::new(alloc);
     let mut err = Vec::new(alloc);
     let parsed = parse(alloc, owned.as_slice(), PROCESSORS);
