@@ -51,6 +51,17 @@ fn recovered<R: Threads + Sync>(
         .ok_or(anyhow!("not sound"))
 }
 
+/// The text of a diagnosis.
+fn text_of<'a>(diagnosed: &'a Diagnosed, calls: &'a FailedCalls) -> DiagnosedText<'a> {
+    let at = At {
+        store: "store",
+        sites: None,
+        calls,
+        prefix: "",
+    };
+    DiagnosedText { diagnosed, at }
+}
+
 /// Prints what a diagnosis says of a case, and that each loss which explains it recovers it.
 pub fn tell<R: Threads + Sync + AllocGlobal + Print>(rt: &R, case: &Case<'_>) -> Result<()> {
     let alloc = rt.alloc();
@@ -79,16 +90,7 @@ pub fn tell<R: Threads + Sync + AllocGlobal + Print>(rt: &R, case: &Case<'_>) ->
         unfinished: None,
     };
     let calls = FailedCalls::new(alloc)?;
-    let at = At {
-        store: "store",
-        sites: None,
-        calls: &calls,
-        prefix: "",
-    };
-    let text = DiagnosedText {
-        diagnosed: &diagnosed,
-        at,
-    };
+    let text = text_of(&diagnosed, &calls);
     print!(rt; "{text}")?;
     Ok(())
 }
