@@ -5,7 +5,7 @@
 
 use cs_file_system::{FailedCalls, NotedFiles};
 use pinepolo_args::parse;
-use pinepolo_folders::{Folders, SitedRequest};
+use pinepolo_folders::{Folders, SitedRequest, now};
 use pinepolo_progress::ProgressLine;
 use pinepolo_run::{CUT, Host, VerbError, run, say_early, say_error};
 use std::alloc::{AllocError, Global};
@@ -13,6 +13,9 @@ use std::io::IsTerminal;
 use std::process::ExitCode;
 use std::sync::Arc;
 use std::{env, io, thread};
+
+/// The program, with the version that it prints.
+const PROGRAM: &str = "pinepolo 1.0.0";
 
 /// The number of processors if the system does not say.
 const ONE_PROCESSOR: u32 = 1;
@@ -25,20 +28,28 @@ fn no_failed_calls(alloc: Global) -> Result<Arc<FailedCalls>, AllocError> {
     }
 }
 
-/// What a verb runs on.
-fn host_of<'a, R, G>(
+/// What a verb runs on, over the folders of sites that were found.
+fn host_of<'a, R: AllocGlobal, G>(
     rt: &'a R,
-    alloc: Global,
     gate: &'a G,
-    sited: &'a SitedRequest<'_>,
+    sited: Option<&'a SitedRequest<'_>>,
     calls: &'a FailedCalls,
+    prefix: &'a str,
+    time: Option<&'a str>,
 ) -> Host<'a, R, G> {
+    let sites = match sited {
+        Some(sited) => sited.sites(),
+        None => None,
+    };
     Host {
         rt,
-        alloc,
+        alloc: rt.alloc(),
         gate,
-        sites: sited.sites(),
+        sites,
         calls,
+        prefix,
+        program: PROGRAM,
+        time,
     }
 }
 
@@ -51,8 +62,13 @@ fn main(rt: HostRuntime) -> ExitCode {
     let mut out = rt.stdout();
     let mut err = rt.stderr();
     let gate = ProgressLine::new(rt, err, err.is_terminal(), u64::from(CUT));
+    let prefix = if out.is_terminal() && err.is_terminal() {
+        ""
+    } else {
+        "pinepolo: "
+    };
     let Ok(calls) = no_failed_calls(alloc) else {
-        return ExitCode::from(say_early(&VerbError::OutOfMemory, &mut err));
+        return ExitCode::from(say_early(&VerbError::OutOfMemory, prefix, &mut err));
     };
     let files = NotedFiles {
         rt,
@@ -60,30 +76,32 @@ fn main(rt: HostRuntime) -> ExitCode {
         watch: &gate,
     };
     let mut places = Folders::new(alloc, files);
+    let time = now(alloc, &rt).ok();
+    let time = match &time {
+        Some(time) => Some(time.as_str()),
+        None => None,
+    };
     let status = match env::args(&rt) {
         Ok(args) => match args.skip(1).collect::<Vec<String>>(alloc) {
             Ok(words) => {
                 match places.find_sites_of(parse(alloc, words.as_slice(), processors)) {
                     Ok(sited) => {
-                        let host = host_of(&rt, alloc, &gate, &sited, &calls);
+                        let host = host_of(&rt, &gate, Some(&sited), &calls, prefix, time);
                         run(&host, &sited.parsed, &mut places, &mut out, &mut err)
                     }
-                    Err(refusal) => say_error(
-                        alloc,
-                        &calls,
-                        &refusal.error,
-                        &refusal.request,
-                        &mut out,
-                        &mut err,
-                    ),
+                    Err(refusal) => {
+                        let host = host_of(&rt, &gate, None, &calls, prefix, time);
+                        let (error, request) = (&refusal.error, &refusal.request);
+                        say_error(&host, error, request, &mut out, &mut err)
+                    }
                 }
             }
-            Err(_) => say_early(&VerbError::OutOfMemory, &mut err),
+            Err(_) => say_early(&VerbError::OutOfMemory, prefix, &mut err),
         },
         Err(e) if e.kind() == io::ErrorKind::OutOfMemory => {
-            say_early(&VerbError::OutOfMemory, &mut err)
+            say_early(&VerbError::OutOfMemory, prefix, &mut err)
         }
-        Err(_) => say_early(&VerbError::NotUtf8, &mut err),
+        Err(_) => say_early(&VerbError::NotUtf8, prefix, &mut err),
     };
     ExitCode::from(status)
 }

@@ -19,5 +19,6 @@ mod store_folders;
 mod tables;
 mod watched;
 
+pub use cs_folder_work::now;
 pub use folders::Folders;
 pub use siting::{SitedRequest, SitesRefusal};

@@ -1,4 +1,5 @@
 //! That work on a store was left unfinished.
+use crate::next_step::{NextLine, NextStep};
 use cs_reports::StoreWords;
 use cs_reports::object::Object;
 use pinepolo_places::{RESTORING, WorkKind};
@@ -13,19 +14,27 @@ pub struct Unfinished<'a> {
     pub store: StoreWords<'a>,
 }
 
-impl fmt::Display for Unfinished<'_> {
-    fn fmt<W: fmt::Write>(&self, f: &mut fmt::Formatter<W>) -> fmt::Result {
-        let (kind, store) = (self.kind, self.store);
-        writeln!(
-            f,
-            "unfinished {kind}: {RESTORING} is there\nnext: pinepolo {kind} --resume {store}"
-        )
+/// Writes that work on a store was left unfinished, if any was.
+pub fn write_unfinished<W: fmt::Write>(
+    f: &mut fmt::Formatter<W>,
+    unfinished: Option<WorkKind>,
+) -> fmt::Result {
+    match unfinished {
+        Some(kind) => writeln!(f, "unfinished {kind}: {RESTORING} is there"),
+        None => Ok(()),
     }
 }
 
-/// The object with whether work was left unfinished, and its kind.
+impl fmt::Display for Unfinished<'_> {
+    fn fmt<W: fmt::Write>(&self, f: &mut fmt::Formatter<W>) -> fmt::Result {
+        write_unfinished(f, Some(self.kind))?;
+        let next = NextLine(Some(NextStep::Resume(self.kind, self.store)));
+        write!(f, "{next}")
+    }
+}
+
+/// The object with the kind of work that was left unfinished, or null.
 pub fn with_unfinished(object: Object, unfinished: Option<WorkKind>) -> Object {
-    let object = object.truth("restoring", unfinished.is_some());
     match unfinished {
         Some(WorkKind::Restore) => object.text("unfinished", "restore"),
         Some(WorkKind::Undo) => object.text("unfinished", "undo"),
