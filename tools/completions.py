@@ -8,12 +8,12 @@ FOLDER = "SITE=FOLDER"
 def bash(program, verbs, general=()):
     """A function for bash: the verbs and the program's own options, then a verb's options, their values and file names."""
     names = " ".join(it.name for it in [*verbs, *general])
-    options = {it.name: " ".join(option.name for option in [*it.options, *it.general]) for it in verbs}
+    options = {it.name: " ".join(name for option in [*it.options, *it.general] for name in option.names()) for it in verbs}
     cases = "".join(f'    {name}) words="{words}" ;;\n' for name, words in options.items() if words)
     valued = [option for verb in verbs for option in verb.options if option.value]
     # (bash takes 2=FOLDER for three words)
     files = "|".join(sorted({it.name for it in valued if it.value in FILES} | {"=" for it in valued if it.value == FOLDER}))
-    numbers = "|".join(sorted({it.name for it in valued if it.value not in FILES}))
+    numbers = "|".join(sorted({name for it in valued if it.value not in FILES for name in it.names()}))
     before = f'    {files}) words= ;;\n' if files else ""
     return f"""# Completions of {program} for bash. Written by tools/write-reference.
 _{program}() {{
@@ -42,9 +42,10 @@ def zsh_options(verb):
     for option in [*verb.options, *verb.general]:
         takes = ":_files" if option.value in FILES else ':{compset -P "*=" && _files -/}' if option.value == FOLDER else ": "
         value = f":{option.value}{takes}" if option.value else ""
-        # (--to may be given again)
-        name = f"*{option.name}" if option.value == FOLDER else option.name
-        yield f"'{name}[{quoted(option.text)}]{value}'" if option.text else f"'{name}{value}'"
+        for name in option.names():
+            # (--to may be given again)
+            name = f"*{name}" if option.value == FOLDER else name
+            yield f"'{name}[{quoted(option.text)}]{value}'" if option.text else f"'{name}{value}'"
 
 
 def zsh_function(program, verbs, general=()):
@@ -92,5 +93,6 @@ def fish(program, verbs, general=()):
     for verb in verbs:
         for it in [*verb.options, *verb.general]:
             takes = " -r -F" if it.value in (*FILES, FOLDER) else " -x" if it.value else ""
-            lines.append(f"complete -c {program} -n '__fish_seen_subcommand_from {verb.name}' -l {it.name[2:]}{takes}{described(it.text)}")
+            names = f"-s {it.short[1:]} -l {it.name[2:]}" if it.short else f"-l {it.name[2:]}"
+            lines.append(f"complete -c {program} -n '__fish_seen_subcommand_from {verb.name}' {names}{takes}{described(it.text)}")
     return "\n".join(lines) + "\n"

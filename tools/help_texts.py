@@ -3,6 +3,8 @@ import re
 import subprocess
 from typing import NamedTuple
 
+COLUMNS = 80
+
 
 class Verb:
     """A verb: its help text, taken apart."""
@@ -14,14 +16,15 @@ class Verb:
         self.general = []
         for part in re.split(r"\n\n", text.strip()):
             head, _, rest = part.partition("\n")
-            lines = [it.strip() for it in rest.split("\n")]
+            # (what an argument means goes on in lines that are indented further)
+            lines = [it.strip() for it in re.sub(r"\n {10,}", " ", rest).split("\n")]
             if head.startswith("Usage: "):
                 self.usage = head.removeprefix("Usage: ")
             elif head == "Arguments:":
                 self.arguments = [tuple(re.split(r" {2,}", it, maxsplit=1)) for it in lines]
             elif head == "Options:":
                 self.options = [option_of(it) for it in lines if not re.match(r"-[hV],", it)]
-                self.general = [option_of(it[4:]) for it in lines if re.match(r"-[hV],", it)]
+                self.general = [option_of(it) for it in lines if re.match(r"-[hV],", it)]
             elif head in ("Example:", "Examples:"):
                 self.examples = lines
             elif head == "Statuses:":
@@ -50,17 +53,22 @@ class Verb:
 
 
 class Option(NamedTuple):
-    """An option: its name, the name of its value or nothing, and what it is for."""
+    """An option: its name, the name of its value or nothing, what it is for, and its letter or nothing."""
 
     name: str
     value: str
     text: str
+    short: str = ""
+
+    def names(self):
+        """Its names, the letter first."""
+        return [self.short, self.name] if self.short else [self.name]
 
 
 def option_of(line):
     head, text = re.split(r" {2,}", line, maxsplit=1)
-    name, _, value = head.partition(" ")
-    return Option(name, value.strip("<>"), text)
+    short, name, value = re.fullmatch(r"(?:(-\w), )?(--\S+)(?: <(.*)>)?", head).groups(default="")
+    return Option(name, value, text, short)
 
 
 def common(verbs, kind):
@@ -84,11 +92,19 @@ def output(program, *words):
     return done.stdout + done.stderr
 
 
+def help_of(program, *words):
+    """A help text, of which no line may be wider than a terminal of 80 columns."""
+    text = output(program, *words, "--help")
+    if wide := [it for it in text.split("\n") if len(it) > COLUMNS]:
+        raise OSError(f"help of {' '.join(words)}: more than {COLUMNS} columns: {wide[0].strip()}")
+    return text
+
+
 def verbs_of(program):
     """The program's own help, and that of each verb."""
-    top = output(program, "--help")
+    top = help_of(program)
     names = re.findall(r"(?m)^  (\w+) {2,}", top.split("Commands:\n")[1].split("\n\n")[0])
-    return Verb("", top), [Verb(it, output(program, it, "--help")) for it in names if it != "help"]
+    return Verb("", top), [Verb(it, help_of(program, it)) for it in names if it != "help"]
 
 
 def usages_of(program):

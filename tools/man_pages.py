@@ -4,9 +4,6 @@ import re
 from help_texts import common, examples_of
 from mdoc import block_lines, blocks_lines, literal, rows_of, section, table, tagged, text_lines
 
-SHORT = {"--help": "h", "--version": "V"}
-
-
 def page(name, number, about, lines):
     # (write-reference puts the date there)
     return "\n".join([".Dd DATE", f".Dt {name.upper()} {number}", ".Os", ".Sh NAME", f".Nm {name}", f".Nd {about}", *lines]) + "\n"
@@ -37,7 +34,7 @@ def word_pairs(arguments, options):
     for name, text in arguments:
         yield f"Ar {name.strip('<>[].').rstrip('>]')}", text
     for option in options:
-        short = f"Fl {SHORT[option.name]} , " if option.name in SHORT else ""
+        short = f"Fl {option.short[1:]} , " if option.short else ""
         yield f"{short}Fl {option.name[1:]}" + (f" Ar {option.value}" if option.value else ""), option.text
 
 

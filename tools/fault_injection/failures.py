@@ -27,7 +27,7 @@ REMOVALS = ("unlink", "unlinkat", "rmdir")
 TEMPORARY = re.compile(r"\.restoring$|^RESTORING\.\d+$|\.partial$")
 # Verbs that change no file, by form: each judges or shows a whole store.
 READING = {"check": "check STORE", "show": "show STORE", "show FILE": "show STORE p0.s1.seg", "diagnose": "diagnose STORE",
-           "diagnose --manifest": "diagnose --manifest @manifest STORE", "drill": "drill --lose 1 STORE", "manifest": "manifest STORE",
+           "diagnose --manifest": "diagnose --manifest @manifest STORE", "drill": "drill --at-most 1 STORE", "manifest": "manifest STORE",
            "verify": "verify --manifest @manifest STORE", "dump to standard output": "dump --quiet STORE",
            "design to standard output": "design @catalog.toml", "restore --dry-run": "restore --quiet --dry-run STORE"}
 FORMS = (*READING, *VERBS)

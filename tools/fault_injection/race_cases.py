@@ -9,7 +9,7 @@ from fault_injection.stores import LOST
 from fault_injection.verbs import SITED, InPlace, IntoNew, Resumed
 
 # Each verb that judges or copies a store. What it makes is at `out`.
-READERS = ("check STORE", "show STORE", "diagnose STORE", "drill --lose 1 STORE", "manifest STORE", "verify --manifest @manifest STORE",
+READERS = ("check STORE", "show STORE", "diagnose STORE", "drill --at-most 1 STORE", "manifest STORE", "verify --manifest @manifest STORE",
            "dump STORE @out", "recover STORE @out 2 3", "relayout STORE @catalog.toml @out")
 RESTORE, ACCEPTED = "restore --quiet STORE 2 3", "restore --quiet --accept-loss STORE 2 3"
 RESUME, UNDO = "restore --quiet --resume STORE", "undo STORE 1"

@@ -15,7 +15,7 @@ use std::sync::Arc;
 use std::{env, io, thread};
 
 /// The program, with the version that it prints.
-const PROGRAM: &str = "pinepolo 1.0.0";
+const PROGRAM: &str = "pinepolo 2.0.0";
 
 /// The number of processors if the system does not say.
 const ONE_PROCESSOR: u32 = 1;

@@ -9,4 +9,6 @@ pub struct Designed {
     pub catalog: Catalog,
     /// What it says.
     pub design: Design,
+    /// A picture of the placement, if it is printed in place of that.
+    pub picture: Option<String>,
 }

@@ -20,4 +20,6 @@ pub struct StoreView {
     pub strays: Vec<String>,
     /// Which kind of work on it was left unfinished.
     pub unfinished: Option<WorkKind>,
+    /// A picture of it, if that is printed in place of all this.
+    pub picture: Option<String>,
 }

@@ -8,6 +8,7 @@ use Rattle.cs_schema.specs.Order.{placed}
 use Rattle.std.specs.Borrow.{Bor}
 use Rattle.clap.specs.Words.{Row, Text, first_of, many_of, one_of}
 use Rattle.pinepolo_args.specs.NewFolders.{AreNewFolders, texts}
+use Rattle.pinepolo_args.specs.Paths.{file_in, is_output}
 use Rattle.pinepolo_args.specs.declared.request.CheckArgs.{CheckArgs}
 use Rattle.pinepolo_args.specs.declared.request.DrillArgs.{DrillArgs}
 use Rattle.pinepolo_args.specs.declared.request.ShowArgs.{ShowArgs}
@@ -71,7 +72,8 @@ pub record MeansDrill (rows : List Row) (args : DrillArgs) : Type 0 where
 pub record MeansShow (rows : List Row) (args : ShowArgs) : Type 0 where
   pub store : Some args.store.now ≡ text rows (codes "store")
   pub file : path args.file ≡ text rows (codes "file")
-  pub svg : path args.svg ≡ text rows (codes "svg")
+  pub svg : path args.svg ≡ file_in (text rows (codes "svg"))
+  pub prints_svg : args.prints_svg ≡ is_output (text rows (codes "svg"))
 
 pub record MeansDiagnose (rows : List Row) (args : DiagnoseArgs) : Type 0 where
   pub at_most : args.at_most ≡ most_sites_in rows
@@ -107,10 +109,12 @@ pub record MeansVerify (rows : List Row) (args : VerifyArgs) : Type 0 where
 
 pub record MeansDesign (rows : List Row) (args : DesignArgs) : Type 0 where
   pub lost : args.lost ≡ sites_in rows (codes "lost")
-  pub svg : path args.svg ≡ text rows (codes "svg")
+  pub svg : path args.svg ≡ file_in (text rows (codes "svg"))
+  pub prints_svg : args.prints_svg ≡ is_output (text rows (codes "svg"))
   pub catalog : Some args.catalog.now ≡ text rows (codes "catalog")
 
 pub record MeansLoad (rows : List Row) (args : LoadArgs) : Type 0 where
+  pub records : args.records ≡ number rows (codes "records")
   pub replaces : args.replaces ≡ flag rows (codes "replace-partial")
   pub catalog : Some args.catalog.now ≡ text rows (codes "catalog")
   pub table : Some args.table.now ≡ text rows (codes "table")
@@ -119,7 +123,7 @@ pub record MeansLoad (rows : List Row) (args : LoadArgs) : Type 0 where
 pub record MeansDump (rows : List Row) (args : DumpArgs) : Type 0 where
   pub lost : args.lost ≡ sites_in rows (codes "lost")
   pub store : Some args.store.now ≡ text rows (codes "store")
-  pub table : path args.table ≡ text rows (codes "table")
+  pub table : path args.table ≡ file_in (text rows (codes "table"))
 
 pub record MeansRelayout (rows : List Row) (args : RelayoutArgs) : Type 0 where
   pub replaces : args.replaces ≡ flag rows (codes "replace-partial")
@@ -182,6 +186,7 @@ pub record AreOptionsOf (rows : List Row) (processors : ℕ) (o : Options) : Typ
   pub new_sites : path o.new_sites ≡ text rows (codes "new-sites")
   pub output : path o.output ≡ text rows (codes "output")
   pub quiet : o.quiet ≡ flag rows (codes "quiet")
+  pub records : o.records ≡ number rows (codes "records")
   pub replaces : o.replaces ≡ flag rows (codes "replace-partial")
   pub resumes : o.resumes ≡ flag rows (codes "resume")
   pub site : o.site ≡ number rows (codes "site")

@@ -18,9 +18,9 @@ pub enum Value {
 /// How an argument is given.
 #[derive(Clone, Copy)]
 pub enum Form {
-    /// `--ID`.
+    /// `--ID`, or its letter.
     Flag,
-    /// `--ID VALUE`: what the help calls the value, and what it is.
+    /// `--ID VALUE`, or by its letter: what the help calls the value, and what it is.
     Named(&'static str, Value),
     /// A word by its place, or several if they are sites: what the help calls it, and what it is.
     Positional(&'static str, Value),
@@ -44,6 +44,7 @@ pub struct Argument {
     pub id: &'static str,
     pub form: Form,
     pub presence: Presence,
+    /// What the help says, in lines that leave room for the names in 80 columns.
     pub help: &'static str,
     /// The verbs that take it.
     pub verbs: &'static [&'static str],
@@ -61,10 +62,20 @@ fn with_value<'a>(arg: Arg<'a>, value: Value) -> Arg<'a> {
     }
 }
 
+/// An argument by its name, also by a letter if it is given often.
+fn with_names<'a>(arg: Arg<'a>, id: &'static str) -> Arg<'a> {
+    match id {
+        "dry-run" => arg.long(id).short('n'),
+        "quiet" => arg.long(id).short('q'),
+        "workers" => arg.long(id).short('j'),
+        _ => arg.long(id),
+    }
+}
+
 fn with_form<'a>(arg: Arg<'a>, id: &'static str, form: Form) -> Arg<'a> {
     match form {
-        Form::Flag => arg.long(id).action(ArgAction::SetTrue),
-        Form::Named(name, value) => with_value(arg.long(id).value_name(name), value),
+        Form::Flag => with_names(arg, id).action(ArgAction::SetTrue),
+        Form::Named(name, value) => with_value(with_names(arg, id).value_name(name), value),
         Form::Positional(name, Value::Sites) => {
             with_value(arg.value_name(name).num_args(1..), Value::Sites)
         }

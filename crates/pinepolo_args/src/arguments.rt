@@ -4,6 +4,12 @@ use crate::argument::{Argument, Form, Presence, Value};
 /// The greatest number of 32 bits.
 const U32_MAX: i64 = 4_294_967_295;
 
+/// All verbs.
+const ALL: &[&str] = &[
+    "check", "show", "diagnose", "drill", "recover", "restore", "undo", "manifest", "verify",
+    "design", "load", "dump", "relayout",
+];
+
 /// All arguments. Those of a verb are in the order of its help.
 pub const ARGUMENTS: &[Argument] = &[
     Argument {
@@ -17,7 +23,7 @@ pub const ARGUMENTS: &[Argument] = &[
         id: "accept-loss",
         form: Form::Flag,
         presence: Presence::Optional,
-        help: "These sites are known to be gone: restore whatever a diagnosis says",
+        help: "These sites are known to be gone:\nrestore whatever a diagnosis says",
         verbs: &["restore"],
     },
     Argument {
@@ -45,28 +51,35 @@ pub const ARGUMENTS: &[Argument] = &[
         id: "k",
         form: Form::Named("K", Value::Number(0, 16)),
         presence: Presence::Optional,
-        help: "Any K sites may fail, 0 to 16 [default: as many as the catalog allows]",
+        help: "Any K sites may fail, 0 to 16\n[default: as many as the catalog allows]",
         verbs: &["check"],
     },
     Argument {
         id: "at-most",
         form: Form::Named("N", Value::Number(1, 16)),
         presence: Presence::Optional,
-        help: "Try losses of at most N sites, 1 to 16 [default: as many as make the verdict certain]",
+        help: "Try losses of at most N sites, 1 to 16\n[default: as many as make the verdict certain]",
         verbs: &["diagnose"],
+    },
+    Argument {
+        id: "at-most",
+        form: Form::Named("N", Value::Number(1, 16)),
+        presence: Presence::Optional,
+        help: "Try losses of at most N sites, 1 to 16\n[default: as many as the catalog allows]",
+        verbs: &["drill"],
     },
     Argument {
         id: "lose",
         form: Form::Named("N", Value::Number(1, 16)),
-        presence: Presence::Optional,
-        help: "Try losses of at most N sites, 1 to 16 [default: as many as the catalog allows]",
+        presence: Presence::Excludes(&["at-most"]),
+        help: "Another name of --at-most",
         verbs: &["drill"],
     },
     Argument {
         id: "disputes",
         form: Form::Named("N", Value::Number(0, U32_MAX)),
         presence: Presence::Optional,
-        help: "Print at most N of the rows in which two tables differ [default: 10]",
+        help: "Print at most N of the rows in which two tables differ\n[default: 10]",
         verbs: &["diagnose"],
     },
     Argument {
@@ -94,7 +107,7 @@ pub const ARGUMENTS: &[Argument] = &[
         id: "sites",
         form: Form::Named("FILE", Value::Text),
         presence: Presence::Optional,
-        help: "Each site stands in the folder that this file names for it",
+        help: "Each site stands in the folder that FILE names for it",
         verbs: &[
             "check", "show", "diagnose", "drill", "recover", "restore", "undo", "manifest",
             "verify", "design", "dump", "relayout",
@@ -104,28 +117,28 @@ pub const ARGUMENTS: &[Argument] = &[
         id: "sites",
         form: Form::Named("FILE", Value::Text),
         presence: Presence::Optional,
-        help: "Each site of STORE gets the empty folder that this file names for it",
+        help: "Each site of STORE gets the empty folder that FILE\nnames for it",
         verbs: &["load"],
     },
     Argument {
         id: "new-sites",
         form: Form::Named("FILE", Value::Text),
         presence: Presence::Optional,
-        help: "Each site of NEW gets the empty folder that this file names for it",
+        help: "Each site of NEW gets the empty folder that FILE\nnames for it",
         verbs: &["relayout"],
     },
     Argument {
         id: "to",
         form: Form::Named("SITE=FOLDER", Value::Texts),
         presence: Presence::Optional,
-        help: "Restore this site into an empty folder, which then takes its place in the file of --sites",
+        help: "Restore this site into an empty folder, which then\ntakes its place in the file of --sites",
         verbs: &["restore"],
     },
     Argument {
         id: "workers",
         form: Form::Named("N", Value::Number(1, 64)),
         presence: Presence::Optional,
-        help: "Workers, 1 to 64 [default: the number of processors, at most 64]",
+        help: "Workers, 1 to 64\n[default: the number of processors, at most 64]",
         verbs: &[
             "check", "diagnose", "drill", "recover", "restore", "load", "dump", "relayout",
         ],
@@ -135,20 +148,21 @@ pub const ARGUMENTS: &[Argument] = &[
         form: Form::Flag,
         presence: Presence::Optional,
         help: "Show no progress",
-        verbs: &[
-            "check", "show", "diagnose", "drill", "recover", "restore", "undo", "load", "dump",
-            "relayout",
-        ],
+        verbs: ALL,
     },
     Argument {
         id: "json",
         form: Form::Flag,
         presence: Presence::Optional,
         help: "Answer with one object of JSON",
-        verbs: &[
-            "check", "show", "diagnose", "drill", "recover", "restore", "undo", "verify", "design",
-            "load", "relayout",
-        ],
+        verbs: ALL,
+    },
+    Argument {
+        id: "records",
+        form: Form::Named("N", Value::Number(0, U32_MAX)),
+        presence: Presence::Optional,
+        help: "Refuse a CSV that has not just N records",
+        verbs: &["load"],
     },
     Argument {
         id: "replace-partial",
@@ -161,14 +175,14 @@ pub const ARGUMENTS: &[Argument] = &[
         id: "svg",
         form: Form::Named("SVG", Value::Text),
         presence: Presence::Optional,
-        help: "Write a picture of the placement to this file",
+        help: "Write a picture of the placement to this file,\nor with - to standard output in place of the answer",
         verbs: &["design"],
     },
     Argument {
         id: "svg",
         form: Form::Named("SVG", Value::Text),
         presence: Presence::Excludes(&["file"]),
-        help: "Write a picture of the store to this file: the placement, each segment in the colour of its state",
+        help: "Write a picture of the store to this file, or with - to\nstandard output in place of the answer",
         verbs: &["show"],
     },
     Argument {
@@ -220,14 +234,14 @@ pub const ARGUMENTS: &[Argument] = &[
         id: "kept",
         form: Form::Positional("N", Value::Number(1, U32_MAX)),
         presence: Presence::Optional,
-        help: "Put back what is kept in STORE/replaced/N [default: the last]",
+        help: "Put back what is kept in STORE/replaced/N\n[default: the last]",
         verbs: &["undo"],
     },
     Argument {
         id: "table",
         form: Form::Positional("TABLE.csv", Value::Text),
         presence: Presence::Optional,
-        help: "The file to make for the CSV [default: standard output]",
+        help: "The file to make for the CSV\n[default: -, which is standard output]",
         verbs: &["dump"],
     },
     Argument {
@@ -248,7 +262,7 @@ pub const ARGUMENTS: &[Argument] = &[
         id: "lost",
         form: Form::Positional("SITE", Value::Sites),
         presence: Presence::Optional,
-        help: "The sites that are lost, each 1 to 16 [default: those that a diagnosis finds]",
+        help: "The sites that are lost, each 1 to 16\n[default: those that a diagnosis finds]",
         verbs: &["restore"],
     },
 ];

@@ -40,6 +40,7 @@ pub struct Options<'a> {
     pub new_sites: Option<&'a str>,
     pub output: Option<&'a str>,
     pub quiet: bool,
+    pub records: Option<u32>,
     pub replaces: bool,
     pub resumes: bool,
     pub site: Option<u8>,
@@ -89,7 +90,7 @@ impl<'a> Options<'a> {
         };
         Ok(Options {
             accepts_loss: flag_of(found, "accept-loss"),
-            // `diagnose` and `drill` call it by these names
+            // `drill` has both names
             at_most: within_sites(small_number_of(found, "at-most")?.or(small_number_of(
                 found, "lose",
             )?)),
@@ -106,6 +107,7 @@ impl<'a> Options<'a> {
             new_sites: path_of(found, "new-sites")?,
             output: path_of(found, "output")?,
             quiet: flag_of(found, "quiet"),
+            records: number_of(found, "records")?,
             replaces: flag_of(found, "replace-partial"),
             resumes: flag_of(found, "resume"),
             site: small_number_of(found, "site")?,

@@ -27,6 +27,10 @@ pub enum ParseExit {
 /// What is wrong with words that name no verb.
 const NO_COMMAND: &str = "error: no command given\n";
 
+/// What is wrong with words that want JSON where a table or a picture is printed.
+const NO_JSON: &str =
+    "error: --json needs a file for the table or the picture, in place of standard output\n";
+
 /// What the words ask for, which do not begin with the program's name. If they give no number of workers, there are as
 /// many as `processors`, at most 64.
 pub fn parse<'a>(
@@ -97,6 +101,9 @@ fn requested<'a>(matches: &ArgMatches<'a>, processors: u32) -> Result<Request<'a
     let Some(verb) = verb_of(name, &options) else {
         return Err(NO_COMMAND);
     };
+    if options.json && verb.prints_file() {
+        return Err(NO_JSON);
+    }
     // the store of `load` is the one that it makes
     let (sites, new_sites) = match verb {
         Verb::Load(_) => (None, options.sites),

@@ -2,7 +2,7 @@
 ghost use Rattle.std.specs.Prelude.{◌≡◌, MatchResult};
 ghost use Rattle.clap.specs.Words.{found_of, rows_of};
 ghost use Rattle.pinepolo_args.specs.Meanings.{path, text};
-ghost use Rattle.pinepolo_args.specs.Paths.{IsPath, IsFilePath};
+ghost use Rattle.pinepolo_args.specs.Paths.{IsPath, IsFilePath, file_in, is_output};
 
 use crate::values::text_of;
 use clap::ArgMatches;
@@ -30,4 +30,21 @@ pub fn file_path_of<'a>(found: &ArgMatches<'a>, id: &str) -> Result<Option<&'a s
         ),
         path => path,
     }
+}
+
+/// Whether what is written goes to standard output.
+pub fn is_output(given: Option<&str>) -> bool
+    ensures { result ≡ is_output (path given.entry) }
+{
+    match given {
+        Some(path) => path == "-",
+        None => false,
+    }
+}
+
+/// The file that is written, if it is not standard output.
+pub fn file_of<'a>(given: Option<&'a str>) -> Option<&'a str>
+    ensures { path result ≡ file_in (path given.entry) }
+{
+    if is_output(given) { None } else { given }
 }

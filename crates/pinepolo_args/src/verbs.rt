@@ -4,6 +4,7 @@ ghost use Rattle.clap.specs.Words.{Row};
 ghost use Rattle.pinepolo_args.specs.Meanings.{AreOptionsOf, MeansVerb, text};
 
 use crate::options::Options;
+use crate::paths::{file_of, is_output};
 use crate::request::{
     CheckArgs, DesignArgs, DiagnoseArgs, DrillArgs, DumpArgs, LoadArgs, ManifestArgs, RecoverArgs,
     RelayoutArgs, RestoreArgs, ShowArgs, UndoArgs, Verb, VerifyArgs,
@@ -16,10 +17,12 @@ pub fn verb_of<'a>(name: &str, options: &Options<'a>) -> Option<Verb<'a>>
     match name {
         "design" => Some(Verb::Design(DesignArgs {
             lost: options.lost,
-            svg: options.svg,
+            svg: file_of(options.svg),
+            prints_svg: is_output(options.svg),
             catalog: options.catalog?,
         })),
         "load" => Some(Verb::Load(LoadArgs {
+            records: options.records,
             replaces: options.replaces,
             catalog: options.catalog?,
             table: options.table?,
@@ -59,7 +62,8 @@ fn verb_on_store<'a>(name: &str, options: &Options<'a>) -> Option<Verb<'a>>
         "show" => Some(Verb::Show(ShowArgs {
             store,
             file: options.file,
-            svg: options.svg,
+            svg: file_of(options.svg),
+            prints_svg: is_output(options.svg),
         })),
         "diagnose" => Some(Verb::Diagnose(DiagnoseArgs {
             at_most: options.at_most,
@@ -79,7 +83,7 @@ fn verb_on_store<'a>(name: &str, options: &Options<'a>) -> Option<Verb<'a>>
         "dump" => Some(Verb::Dump(DumpArgs {
             lost,
             store,
-            table: options.table,
+            table: file_of(options.table),
         })),
         _ => verb_in_place(name, options, store),
     }

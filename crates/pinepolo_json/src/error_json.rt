@@ -19,6 +19,7 @@ fn refusal_kind(refusal: &Refusal) -> &'static str {
         Refusal::CatalogChanged => "catalog changed",
         Refusal::NotManifest => "not a manifest",
         Refusal::Table(_) => "table",
+        Refusal::Records { .. } => "records",
         Refusal::Layout => "layout",
         Refusal::Unfinished(_) => "unfinished",
         Refusal::NothingToResume(_) => "nothing to resume",
@@ -75,6 +76,9 @@ fn with_refusal(object: Object, refusal: &Refusal) -> Object {
     let object = object.text("kind", refusal_kind(refusal));
     match refusal {
         Refusal::Table(place) => with_place(object, place),
+        Refusal::Records { found, wanted } => {
+            object.number("records", *found).number("wanted", *wanted)
+        }
         Refusal::NoSuchSite(site) => object.number("site", u64::from(*site)),
         Refusal::NothingKept(Some(number)) | Refusal::NoRecord(number) => {
             object.number("kept", u64::from(*number))

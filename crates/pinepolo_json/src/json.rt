@@ -4,6 +4,7 @@ use crate::bad_json::bad_objects;
 use crate::design_json::design_object;
 use crate::diagnosed_json::{diagnosed_object, with_verdict};
 use crate::drilled_json::drilled_object;
+use crate::listed_json::{dumped_object, listed_object};
 use crate::new_store_json::new_store_object;
 use crate::restored_json::{found_object, restoration_object};
 use crate::run_json::RunWords;
@@ -20,16 +21,7 @@ use pinepolo_text::{
 use serde_json::Value;
 use std::alloc::{AllocError, Global};
 
-/// What to do next about an answer; empty if there is nothing to do.
-fn next_of(alloc: Global, text: &AnswerText<'_>) -> Result<String, AllocError> {
-    match text.next() {
-        Some(step) => format!(in alloc; "{step}"),
-        None => Ok(String::new(alloc)),
-    }
-}
-
-/// An answer as one object, with the sites that are away if it is on a store whose sites have folders of their own; null if it
-/// is a text itself, whose verb has no JSON.
+/// An answer as one object, with the sites that are away if it is on a store whose sites have folders of their own.
 pub fn answer_object(
     alloc: Global,
     run: &RunWords<'_>,
@@ -60,7 +52,8 @@ fn object_of(
         Answer::Undone(undone) => undone_object(alloc, object, undone),
         Answer::Designed(designed) => design_object(alloc, object, &designed.design),
         Answer::Loaded(store) | Answer::Relaid(store) => new_store_object(alloc, object, store),
-        Answer::Listed(_) | Answer::Dumped(_) => Ok(Value::Null),
+        Answer::Listed(listed) => listed_object(alloc, object, listed, at),
+        Answer::Dumped(dumped) => dumped_object(alloc, object, dumped),
     }
 }
 

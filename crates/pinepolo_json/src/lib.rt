@@ -9,6 +9,7 @@ mod disputed_json;
 mod drilled_json;
 mod error_json;
 mod json;
+mod listed_json;
 mod new_store_json;
 mod restored_json;
 mod run_json;

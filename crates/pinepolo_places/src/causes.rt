@@ -68,6 +68,8 @@ pub enum Refusal {
     NotManifest,
     /// A CSV makes no store, because of what is at this place.
     Table(CsvPlace),
+    /// A CSV has so many records, and is to have so many.
+    Records { found: u64, wanted: u64 },
     /// A table is not laid out under another catalog.
     Layout,
     /// This work on the store was left unfinished.

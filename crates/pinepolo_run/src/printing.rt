@@ -4,7 +4,7 @@ ghost use Rattle.pinepolo_answers.specs.Statuses.{answer_status};
 ghost use Rattle.pinepolo_answers.specs.Statuses.{listed_status};
 ghost use Rattle.pinepolo_places.specs.Status.{status_of};
 
-use pinepolo_answers::{Answer, Dumped, Listed};
+use pinepolo_answers::{Answer, Listed};
 use pinepolo_json::{RunWords, answer_object, error_object};
 use pinepolo_places::{DEVICE, DONE, MEMORY, WorkKind};
 use pinepolo_text::{AnswerText, At, ErrorText, ListedText, Unfinished};
@@ -84,14 +84,11 @@ pub fn say<W: Write, E: Write>(
             return DEVICE;
         }
     }
+    if let Some(file) = file_of(answer) {
+        return print_bytes(file, answer.status(), prefix, out, err);
+    }
     match answer {
-        Answer::Dumped(
-            Dumped {
-                text: Some(text),
-                ..
-            },
-        ) => print_bytes(text.as_slice(), DONE, prefix, out, err),
-        Answer::Listed(listed) => print_listed(listed, text.at, out, err),
+        Answer::Listed(listed) if json.is_none() => print_listed(listed, text.at, out, err),
         _ => print(
             text_of(alloc, text, json),
             answer.status(),
@@ -99,6 +96,16 @@ pub fn say<W: Write, E: Write>(
             out,
             err,
         ),
+    }
+}
+
+/// The table or the picture that is printed in place of an answer in words.
+fn file_of(answer: &Answer) -> Option<&[u8]> {
+    match answer {
+        Answer::Dumped(dumped) => Some(dumped.text.as_ref()?.as_slice()),
+        Answer::Designed(designed) => Some(designed.picture.as_ref()?.as_bytes()),
+        Answer::Shown(view) => Some(view.picture.as_ref()?.as_bytes()),
+        _ => None,
     }
 }
 

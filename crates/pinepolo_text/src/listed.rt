@@ -7,6 +7,7 @@ use cs_reports::{BadFile, FileProblem};
 use cs_schema::FileName;
 use pinepolo_answers::Listed;
 use pinepolo_places::DONE;
+use std::alloc::{AllocError, Global};
 use std::fmt;
 
 /// The files that have no line in a manifest, as lines.
@@ -25,6 +26,17 @@ impl<'a> ListedText<'a> {
             Digested::Unreadable => FileProblem::Unreadable,
         };
         Some(BadFile::new(&self.listed.catalog, name, problem))
+    }
+
+    /// The files that have no line.
+    pub fn bad_files(&self, alloc: Global) -> Result<Vec<BadFile>, AllocError> {
+        let mut bad = Vec::new(alloc);
+        for (name, found) in &self.listed.files {
+            if let Some(file) = self.bad_file(*name, *found) {
+                bad.push(file)?;
+            }
+        }
+        Ok(bad)
     }
 
     /// What is to be mended before the first of the files can be read, if anything is.

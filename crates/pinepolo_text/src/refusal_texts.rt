@@ -39,6 +39,10 @@ pub fn refusal_texts(refusal: &Refusal) -> (&'static str, &'static str) {
             "give a manifest, as pinepolo manifest prints it",
         ),
         Refusal::Table(place) => ("{2}", table_advice(place)),
+        Refusal::Records { .. } => (
+            "the CSV ends with record {2}",
+            "get the rest of it, or give its right number of records",
+        ),
         Refusal::Layout => ("{2}", "change {0}, and lay the store out again"),
         Refusal::Unfinished(WorkKind::Restore) => (
             "a restore of {0} is not finished",

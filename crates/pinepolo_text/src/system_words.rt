@@ -66,6 +66,7 @@ pub fn mend_text(call: &FailedCall) -> Option<&'static str> {
             "make room on the disk of {0}"
         }
         ErrorKind::PermissionDenied => "see who may do that: ls -ld {0}",
+        ErrorKind::IsADirectory => "move {0} away",
         ErrorKind::ReadOnlyFilesystem => "mount the file system of {0} for writing",
         ErrorKind::NotFound | ErrorKind::NotADirectory => match call.operation {
             Operation::Make => "make the folder in which {0} is to be",

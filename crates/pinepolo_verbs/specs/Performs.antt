@@ -22,7 +22,7 @@ module _ {P S K I N B : Type 0} (w : WorldSays P S K I N B) where
   -- What a verb with these arguments did, if this is its answer. No verb answers anything else.
   abbrev pub Performs : P → Verb → Answer → P → Type 0
   Performs s (verb.Check args) (answer.Checked checked) t = ChecksStore w.reads w.opens w.gives w.refuses w.leaves s args.store.now args.k checked t
-  Performs s (verb.Show args) shown t = Shows w.reads w.opens w.gives w.refuses w.lists w.draws w.leaves s args.store.now (option_map (λ file. file.now) args.file) (option_map (λ p. p.now) args.svg) shown t
+  Performs s (verb.Show args) shown t = Shows w.reads w.opens w.gives w.refuses w.lists w.draws w.leaves s args.store.now (option_map (λ file. file.now) args.file) (option_map (λ p. p.now) args.svg) args.prints_svg shown t
   Performs s (verb.Drill args) (answer.Drilled drilled) t = DrillsStore w.reads w.opens w.gives s args.store.now args.at_most drilled t
   Performs s (verb.Diagnose args) (answer.Diagnosed diagnosed) t = DiagnosesStore w.reads w.opens w.gives w.refuses w.opens_table w.remaining w.leaves s args.store.now (option_map (λ path. path.now) args.manifest) args.at_most args.disputes diagnosed t
   Performs s (verb.Recover args) (answer.Recovered recovered) t = RecoversStore w.reads w.opens w.gives w.makes w.takes w.marks s args.store.now args.lost args.output.now recovered.files t
@@ -31,8 +31,8 @@ module _ {P S K I N B : Type 0} (w : WorldSays P S K I N B) where
   Performs s (verb.Undo args) (answer.Undone undone) t = DoesUndo w.reads w.opens w.takes_undo w.gives_back w.holds w.may_leave s args.store.now (undo_asked args.resumes args.kept) t undone
   Performs s (verb.Manifest args) (answer.Listed listed) t = ListsStore w.reads w.opens w.gives w.refuses s args.store.now args.site listed t
   Performs s (verb.Verify args) (answer.Verified verified) t = VerifiesStore w.reads w.opens w.gives w.refuses w.opens_table w.remaining s args.store.now args.manifest.now args.site verified t
-  Performs s (verb.Design args) (answer.Designed designed) t = DesignsCatalog w.reads w.draws s args.catalog.now args.lost (option_map (λ path. path.now) args.svg) designed.design t
-  Performs s (verb.Load args) (answer.Loaded store) t = LoadsStore w.reads w.opens_table w.remaining w.begins w.takes_new w.marks_new s args.catalog.now args.table.now args.store.now store t
+  Performs s (verb.Design args) (answer.Designed designed) t = DesignsCatalog w.reads w.draws s args.catalog.now args.lost (option_map (λ path. path.now) args.svg) args.prints_svg designed t
+  Performs s (verb.Load args) (answer.Loaded store) t = LoadsStore w.reads w.opens_table w.remaining w.begins w.takes_new w.marks_new s args.catalog.now args.table.now args.store.now args.records store t
   Performs s (verb.Dump args) (answer.Dumped dumped) t = DumpsStore w.reads w.opens w.gives w.leaves w.writes_table s args.store.now args.lost (option_map (λ path. path.now) args.table) dumped t
   Performs s (verb.Relayout args) (answer.Relaid store) t = RelaysStore w.reads w.opens w.gives w.begins w.takes_new w.marks_new s args.store.now args.lost args.catalog.now args.new.now store t
   Performs s _ _ t = ⊥

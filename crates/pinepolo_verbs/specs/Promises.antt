@@ -1,5 +1,5 @@
 -- What the verbs do, each by what the places, the store and the output say of one call.
-use Rattle.std.specs.Prelude.{◌≡◌, ◌⊎◌, ℕ, false, List, [], Option, MatchOption, Ok}
+use Rattle.std.specs.Prelude.{◌≡◌, ◌⊎◌, ℕ, Bool, false, List, [], Option, MatchOption, Ok, is_some}
 use Rattle.std.specs.FinMap.{entries}
 use Rattle.cs_schema.specs.CatalogData.{CatalogData}
 use Rattle.cs_schema.specs.FileNames.{surviving}
@@ -16,7 +16,7 @@ use Rattle.cs_diagnosis.specs.Disputed.{AreAllDisputes}
 use Rattle.pinepolo_answers.specs.OnlyLoss.{AreFatalBeside}
 use Rattle.pinepolo_answers.specs.declared.diagnosed.Diagnosed.{Diagnosed}
 use Rattle.cs_reports.specs.Design.{IsDesign}
-use Rattle.cs_reports.specs.declared.design.Design.{Design}
+use Rattle.pinepolo_answers.specs.declared.designed.Designed.{Designed}
 use Rattle.cs_manifest.specs.Lines.{catalog_path}
 use Rattle.cs_manifest.specs.declared.manifest.Manifest.{Manifest}
 use Rattle.pinepolo_places.specs.Finding.{FindsCatalog, FindsStore, FindsStoreText, LooksUp}
@@ -92,13 +92,18 @@ module _ {P S K : Type 0} (reads : P → List ℕ → List ℕ → P → Type 0)
     pub writes : WritesOutput makes takes marks reached output_path rebuilt t
 
 -- a picture was written to the path that was asked for; if there is none, nothing was done
-abbrev pub IsDrawn : {P : Type 0} → (P → List ℕ → List ℕ → P → Type 0) → P → Option (List ℕ) → P → Type 0
-IsDrawn draws s path t = MatchOption path (t ≡ s) (λ p. (bytes : List ℕ) × draws s p bytes t)
+abbrev pub IsWritten : {P : Type 0} → (P → List ℕ → List ℕ → P → Type 0) → P → Option (List ℕ) → P → Type 0
+IsWritten draws s path t = MatchOption path (t ≡ s) (λ p. (bytes : List ℕ) × draws s p bytes t)
 
--- the catalog at this path was read, and this is what it says of losses; then its picture was written, if one was asked for
-pub record DesignsCatalog {P : Type 0} (reads : P → List ℕ → List ℕ → P → Type 0) (draws : P → List ℕ → List ℕ → P → Type 0) (s : P) (path : List ℕ) (lost : Sites) (svg : Option (List ℕ)) (design : Design) (t : P) : Type 0 where
+-- that was done, and the answer has a picture just if it is to be printed
+pub record IsDrawn {P : Type 0} (draws : P → List ℕ → List ℕ → P → Type 0) (s : P) (path : Option (List ℕ)) (prints : Bool) (picture : Option (List ℕ)) (t : P) : Type 0 where
+  pub written : IsWritten draws s path t
+  pub printed : is_some picture ≡ prints
+
+-- the catalog at this path was read, and this is what it says of losses; then its picture was written or is to be printed, if one was asked for
+pub record DesignsCatalog {P : Type 0} (reads : P → List ℕ → List ℕ → P → Type 0) (draws : P → List ℕ → List ℕ → P → Type 0) (s : P) (path : List ℕ) (lost : Sites) (svg : Option (List ℕ)) (prints : Bool) (designed : Designed) (t : P) : Type 0 where
   pub catalog : CatalogData
   pub reached : P
   pub found : FindsCatalog reads s path catalog reached
-  pub is : IsDesign catalog lost design
-  pub drawn : IsDrawn draws reached svg t
+  pub is : IsDesign catalog lost designed.design
+  pub drawn : IsDrawn draws reached svg prints designed.picture t

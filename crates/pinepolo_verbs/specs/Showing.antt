@@ -1,5 +1,5 @@
 -- What the verb `show` does, by what the places and the store say of one call.
-use Rattle.std.specs.Prelude.{◌≡◌, ℕ, List, [], Option, Some, None}
+use Rattle.std.specs.Prelude.{◌≡◌, ℕ, Bool, List, [], Option, Some, None}
 use Rattle.cs_schema.specs.CatalogData.{CatalogData}
 use Rattle.cs_schema.specs.FileNames.{surviving, HasName, file_path}
 use Rattle.cs_schema.specs.declared.file_name.FileName.{FileName}
@@ -29,8 +29,8 @@ pub record LooksOver {S : Type 0} (gives : S → FileName → Option (List ℕ) 
   pub said : AreLines C (contents_of files) bad lines
 
 module _ {P S : Type 0} (reads : P → List ℕ → List ℕ → P → Type 0) (opens : P → List ℕ → CatalogData → S → Type 0) (gives : S → FileName → Option (List ℕ) → S → Type 0) where
-  -- The store at this path was found and its folder listed, and each of its files was read; these are the bad ones, this is said of each, and this is what its catalog says of losses. Its picture was written, if one was asked for.
-  pub record ShowsStore (refuses : S → FileName → StoreFault → S → Type 0) (lists : P → List ℕ → List (List ℕ) → P → Type 0) (draws : P → List ℕ → List ℕ → P → Type 0) (leaves : P → List ℕ → Option WorkKind → Type 0) (s : P) (path : List ℕ) (svg : Option (List ℕ)) (view : StoreView) (t : P) : Type 0 where
+  -- The store at this path was found and its folder listed, and each of its files was read; these are the bad ones, this is said of each, and this is what its catalog says of losses. Its picture was written or is to be printed, if one was asked for.
+  pub record ShowsStore (refuses : S → FileName → StoreFault → S → Type 0) (lists : P → List ℕ → List (List ℕ) → P → Type 0) (draws : P → List ℕ → List ℕ → P → Type 0) (leaves : P → List ℕ → Option WorkKind → Type 0) (s : P) (path : List ℕ) (svg : Option (List ℕ)) (prints : Bool) (view : StoreView) (t : P) : Type 0 where
     pub reached : P
     pub looked : P
     pub store : S
@@ -38,7 +38,7 @@ module _ {P S : Type 0} (reads : P → List ℕ → List ℕ → P → Type 0) (
     pub names : List (List ℕ)
     pub finds : FindsStore reads opens s path view.catalog store reached
     pub listed : lists reached path names looked
-    pub drawn : IsDrawn draws looked svg t
+    pub drawn : IsDrawn draws looked svg prints view.picture t
     pub looks : LooksOver gives refuses view.catalog store view.bad.items view.lines.items left
     pub design : IsDesign view.catalog [] view.design
     pub unfinished : leaves t path view.unfinished
@@ -55,7 +55,7 @@ module _ {P S : Type 0} (reads : P → List ℕ → List ℕ → P → Type 0) (
     pub report : IsReportOf view.catalog view.name bytes view.report
 
   -- the answer is the store as a whole, or the file of it that was asked for
-  abbrev pub Shows : (S → FileName → StoreFault → S → Type 0) → (P → List ℕ → List (List ℕ) → P → Type 0) → (P → List ℕ → List ℕ → P → Type 0) → (P → List ℕ → Option WorkKind → Type 0) → P → List ℕ → Option (List ℕ) → Option (List ℕ) → Answer → P → Type 0
-  Shows refuses lists draws leaves s path None svg (Shown view) t = ShowsStore refuses lists draws leaves s path svg view t
-  Shows refuses lists draws leaves s path (Some file) svg (ShownFile view) t = ShowsFile s path file view t
-  Shows refuses lists draws leaves s path _ _ _ t = ⊥
+  abbrev pub Shows : (S → FileName → StoreFault → S → Type 0) → (P → List ℕ → List (List ℕ) → P → Type 0) → (P → List ℕ → List ℕ → P → Type 0) → (P → List ℕ → Option WorkKind → Type 0) → P → List ℕ → Option (List ℕ) → Option (List ℕ) → Bool → Answer → P → Type 0
+  Shows refuses lists draws leaves s path None svg prints (Shown view) t = ShowsStore refuses lists draws leaves s path svg prints view t
+  Shows refuses lists draws leaves s path (Some file) svg prints (ShownFile view) t = ShowsFile s path file view t
+  Shows refuses lists draws leaves s path _ _ _ _ t = ⊥

@@ -1,5 +1,5 @@
 -- What the verbs on tables as CSV do, each by what the places, the store and the output say of one call.
-use Rattle.std.specs.Prelude.{◌≡◌, ℕ, List, Option, None, Some, MatchOption, Ok}
+use Rattle.std.specs.Prelude.{◌≡◌, ℕ, List, Option, None, Some, IfSome, MatchOption, Ok}
 use Rattle.std.specs.Option.{option_map}
 use Rattle.std.specs.FinMap.{entries}
 use Rattle.cs_schema.specs.CatalogData.{CatalogData}
@@ -51,9 +51,9 @@ module _ {P K : Type 0} (begins : P → List ℕ → List ℕ → K → P → Ty
     pub is : IsNewStore C files rows store
 
 module _ {P I K : Type 0} (reads : P → List ℕ → List ℕ → P → Type 0) (opens_table : P → List ℕ → I → P → Type 0) (remaining : I → Option (List ℕ)) (begins : P → List ℕ → List ℕ → K → P → Type 0) (takes : K → FileName → List ℕ → K → Type 0) (marks : K → ℕ → K → Type 0) where
-  -- The catalog was read, and then the CSV: its rows make these files. Then a store with the catalog's bytes was begun, and
+  -- The catalog was read, and then the CSV: its rows make these files, and are as many as were asked for. Then a store with the catalog's bytes was begun, and
   -- they were put there and marked.
-  pub record LoadsStore (s : P) (catalog_path table_path store_path : List ℕ) (store : NewStore) (t : P) : Type 0 where
+  pub record LoadsStore (s : P) (catalog_path table_path store_path : List ℕ) (records : Option ℕ) (store : NewStore) (t : P) : Type 0 where
     pub catalog : CatalogData
     pub bytes : List ℕ
     pub found : P
@@ -62,6 +62,7 @@ module _ {P I K : Type 0} (reads : P → List ℕ → List ℕ → P → Type 0)
     pub says : IsCatalogOf bytes catalog
     pub loaded : Loaded
     pub table : ReadsTable opens_table remaining found catalog table_path opened loaded
+    pub count : IfSome records (λ n. loaded.rows ≡ n)
     pub makes : MakesStore begins takes marks opened store_path catalog bytes loaded.files loaded.rows store t
 
 module _ {S : Type 0} (gives : S → FileName → Option (List ℕ) → S → Type 0) where

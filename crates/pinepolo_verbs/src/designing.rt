@@ -1,10 +1,10 @@
 //! The verb `design`.
 ghost use Rattle.std.specs.Prelude.{IfOk};
 ghost use Rattle.std.specs.Option.{option_map};
-ghost use Rattle.pinepolo_verbs.specs.Promises.{DesignsCatalog};
+ghost use Rattle.pinepolo_verbs.specs.Promises.{DesignsCatalog, IsDrawn};
 
-use crate::drawing::{draw, require_unnamed_picture};
-use cs_reports::{design_of, picture};
+use crate::drawing::{Drawn, draw, require_unnamed_picture};
+use cs_reports::{Design, design_of, picture};
 use cs_schema::Catalog;
 use cs_store::Fault;
 use pinepolo_answers::Designed;
@@ -12,14 +12,14 @@ use pinepolo_args::DesignArgs;
 use pinepolo_places::{Places, Tables, VerbError, look_up};
 use std::alloc::Global;
 
-/// What a catalog says of losses beside those that came already; its picture, where one is asked for.
+/// What a catalog says of losses beside those that came already; its picture is written or handed on, if one is asked for.
 pub fn design<P: Places + Tables>(
     alloc: Global,
     places: &mut P,
     request: &DesignArgs<'_>,
 ) -> Result<Designed, VerbError>
     ensures { IfOk result (λ designed. DesignsCatalog P.reads P.draws
-        places.old request.now.catalog.now request.now.lost (option_map (λ path. path.now) request.now.svg) designed.design places.new) }
+        places.old request.now.catalog.now request.now.lost (option_map (λ path. path.now) request.now.svg) request.now.prints_svg designed places.new) }
 {
     let lost = request.lost;
     let catalog = match look_up(alloc, places, request.catalog) {
@@ -34,12 +34,32 @@ pub fn design<P: Places + Tables>(
     let Ok(design) = design_of(alloc, &catalog, lost) else {
         return Err(VerbError::OutOfMemory);
     };
-    if let Some(svg) = request.svg {
-        let text = picture(alloc, &catalog, &design);
-        match draw(alloc, places, svg, text) {
-            Ok(()) => {}
-            Err(error) => return Err(error),
-        }
+    let to = Drawn {
+        svg: request.svg,
+        prints: request.prints_svg,
+    };
+    match draw_design(alloc, places, &catalog, &design, to) {
+        Ok(picture) => Ok(Designed {
+            catalog,
+            design,
+            picture,
+        }),
+        Err(error) => Err(error),
     }
-    Ok(Designed { catalog, design })
+}
+
+/// Draws a placement, if that is asked for.
+fn draw_design<P: Places + Tables>(
+    alloc: Global,
+    places: &mut P,
+    catalog: &Catalog,
+    design: &Design,
+    to: Drawn<'_>,
+) -> Result<Option<String>, VerbError>
+    ensures { IfOk result (λ drawn. IsDrawn P.draws places.old (option_map (λ p. p.now) to.entry.svg) to.entry.prints drawn places.new) }
+{
+    if !to.is_asked() {
+        return Ok(None);
+    }
+    draw(alloc, places, to, picture(alloc, catalog, design))
 }

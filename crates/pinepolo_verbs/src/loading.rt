@@ -1,5 +1,5 @@
 //! The verb `load`.
-ghost use Rattle.std.specs.Prelude.{IfOk};
+ghost use Rattle.std.specs.Prelude.{◌≡◌, IfOk, IfSome, OnOk};
 ghost use Rattle.pinepolo_verbs.specs.TablePromises.{LoadsStore, ReadsTable};
 
 use crate::making::{NewPlace, make_store, unsafe_already};
@@ -14,6 +14,7 @@ use pinepolo_args::LoadArgs;
 use pinepolo_places::{CsvPlace, Failure, Refusal, VerbError, World, look_up_text};
 use pinepolo_progress::{LinesRead, Progress, Stage};
 use std::alloc::Global;
+use std::fmt;
 use std::marker::Sync;
 use std::thread::Threads;
 
@@ -24,7 +25,7 @@ pub fn load<R: Threads + Sync, G: Progress + Sync, P: World>(
     request: &LoadArgs<'_>,
 ) -> Result<NewStore, VerbError>
     ensures { IfOk result (λ store. LoadsStore P.reads P.opens_table P.Input.remaining P.begins P.NewStore.takes P.NewStore.marks
-        places.old request.now.catalog.now request.now.table.now request.now.store.now store places.new) }
+        places.old request.now.catalog.now request.now.table.now request.now.store.now request.now.records store places.new) }
 {
     let alloc = run.alloc;
     let found = match look_up_text(alloc, places, request.catalog) {
@@ -39,12 +40,47 @@ pub fn load<R: Threads + Sync, G: Progress + Sync, P: World>(
         Ok(loaded) => loaded,
         Err(error) => return Err(error),
     };
+    match require_records(alloc, request, rows) {
+        Ok(()) => {}
+        Err(error) => return Err(error),
+    }
     run.gate.reached(Stage::Writing);
     let at = NewPlace {
         path: request.store,
         replaces: request.replaces,
     };
     make_store(alloc, places, found, files, rows, at)
+}
+
+/// How many records a CSV has and is to have, each as the last one's number.
+#[derive(Clone, Copy)]
+struct Ends {
+    found: u64,
+    wanted: u64,
+}
+
+impl fmt::Display for Ends {
+    fn fmt<W: fmt::Write>(&self, f: &mut fmt::Formatter<W>) -> fmt::Result {
+        let (found, wanted) = (self.found, self.wanted);
+        write!(f, "{found} instead of {wanted}")
+    }
+}
+
+/// Sees that a CSV has as many records as it is to have, if that is known: of a pipe that broke off no table is made.
+fn require_records(alloc: Global, request: &LoadArgs<'_>, rows: usize) -> Result<(), VerbError>
+    ensures { OnOk result (IfSome request.now.records (λ n. rows ≡ n)) }
+{
+    let found = rows as u64;
+    let Some(wanted) = request.records else {
+        return Ok(());
+    };
+    let wanted = u64::from(wanted);
+    if found == wanted {
+        return Ok(());
+    }
+    let refusal = Refusal::Records { found, wanted };
+    let words = Ends { found, wanted };
+    Err(VerbError::refused_by(alloc, refusal, request.table, &words))
 }
 
 /// The number of the record that is to blame for a fault, from 1 after the header, and of the column, from 0.

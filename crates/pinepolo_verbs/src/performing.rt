@@ -72,7 +72,15 @@ pub fn perform<R: Threads + Sync, G: Progress + Sync, P: World>(
             list(run.rt, run.alloc, places, args.store, args.site).map(Answer::Listed)
         },
         Verb::Verify(args) => {
-            verify(run.rt, run.alloc, places, args.store, args.manifest, args.site).map(Answer::Verified)
+            verify(
+                run.rt,
+                run.alloc,
+                places,
+                args.store,
+                args.manifest,
+                args.site,
+            )
+            .map(Answer::Verified)
         }
         Verb::Design(args) => design(run.alloc, places, args).map(Answer::Designed),
         Verb::Load(args) => load(run, places, args).map(Answer::Loaded),

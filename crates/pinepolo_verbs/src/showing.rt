@@ -3,9 +3,10 @@ ghost use Rattle.std.specs.Prelude.{◌≡◌, IsTrue, IfOk, IfSome};
 ghost use Rattle.std.specs.Option.{option_map};
 ghost use Rattle.cs_schema.specs.FileNames.{HasName, file_path};
 ghost use Rattle.cs_parallel_io.specs.Standing.{standing};
+ghost use Rattle.pinepolo_verbs.specs.Promises.{IsDrawn};
 ghost use Rattle.pinepolo_verbs.specs.Showing.{Shows, ShowsStore, ShowsFile, LooksOver};
 
-use crate::drawing::{draw, require_unnamed_picture};
+use crate::drawing::{Drawn, draw, require_unnamed_picture};
 use cs_file_decode::look_into;
 use cs_inspection::{Badness, bad_files};
 use cs_parallel_io::{SharedSource, load_readable_side_by_side};
@@ -68,23 +69,39 @@ fn picture_of(
     store_picture(alloc, catalog, &design, files)
 }
 
-/// What a store holds: its catalog, its files, those that are bad, and what else stands in its folder. Its picture is written,
-/// if a path is given for it.
+/// Draws a store with these bad files, if that is asked for.
+fn draw_store<P: Places + Tables>(
+    alloc: Global,
+    places: &mut P,
+    catalog: &Catalog,
+    bad: &[(FileName, Badness)],
+    to: Drawn<'_>,
+) -> Result<Option<String>, VerbError>
+    ensures { IfOk result (λ drawn. IsDrawn P.draws places.old (option_map (λ p. p.now) to.entry.svg) to.entry.prints drawn places.new) }
+{
+    if !to.is_asked() {
+        return Ok(None);
+    }
+    draw(alloc, places, to, picture_of(alloc, catalog, bad))
+}
+
+/// What a store holds: its catalog, its files, those that are bad, and what else stands in its folder. Its picture is written
+/// or handed on, if one is asked for.
 fn show_store<R: Threads + Sync, G: Progress + Sync, P: Listings + Tables>(
     run: &Run<'_, R, G>,
     places: &mut P,
     path: &str,
-    svg: Option<&str>,
+    to: Drawn<'_>,
 ) -> Result<StoreView, VerbError>
     ensures { IfOk result (λ view. ShowsStore P.reads P.opens (standing P.Store.answers) (standing P.Store.fails) P.lists P.draws P.leaves
-        places.old path.now (option_map (λ p. p.now) svg.entry) view places.new) }
+        places.old path.now (option_map (λ p. p.now) to.entry.svg) to.entry.prints view places.new) }
 {
     let alloc = run.alloc;
     let (catalog, source) = match find_store(alloc, places, path) {
         Ok(found) => found,
         Err(error) => return Err(error),
     };
-    require_unnamed_picture(alloc, places, svg)?;
+    require_unnamed_picture(alloc, places, to.svg)?;
     let before = watch(alloc, places, path)?;
     let names = match places.names(path) {
         Ok(names) => names,
@@ -100,13 +117,10 @@ fn show_store<R: Threads + Sync, G: Progress + Sync, P: Listings + Tables>(
     let Ok(design) = design_of(alloc, &catalog, Loss::none()) else {
         return Err(VerbError::OutOfMemory);
     };
-    if let Some(svg) = svg {
-        let text = picture_of(alloc, &catalog, bad.as_slice());
-        match draw(alloc, places, svg, text) {
-            Ok(()) => {}
-            Err(error) => return Err(error),
-        }
-    }
+    let picture = match draw_store(alloc, places, &catalog, bad.as_slice(), to) {
+        Ok(picture) => picture,
+        Err(error) => return Err(error),
+    };
     let Ok(unfinished) = places.unfinished(path) else {
         return Err(VerbError::OutOfMemory);
     };
@@ -118,6 +132,7 @@ fn show_store<R: Threads + Sync, G: Progress + Sync, P: Listings + Tables>(
             lines,
             strays,
             unfinished,
+            picture,
         }),
         Err(_) => Err(VerbError::OutOfMemory),
     }
@@ -191,10 +206,14 @@ pub fn show<R: Threads + Sync, G: Progress + Sync, P: Listings + Tables>(
     request: &ShowArgs<'_>,
 ) -> Result<Answer, VerbError>
     ensures { IfOk result (λ answer. Shows P.reads P.opens (standing P.Store.answers) (standing P.Store.fails) P.lists P.draws P.leaves
-        places.old request.now.store.now (option_map (λ file. file.now) request.now.file) (option_map (λ p. p.now) request.now.svg) answer places.new) }
+        places.old request.now.store.now (option_map (λ file. file.now) request.now.file) (option_map (λ p. p.now) request.now.svg) request.now.prints_svg answer places.new) }
 {
+    let to = Drawn {
+        svg: request.svg,
+        prints: request.prints_svg,
+    };
     match request.file {
-        None => show_store(run, places, request.store, request.svg).map(Answer::Shown),
+        None => show_store(run, places, request.store, to).map(Answer::Shown),
         Some(file) => show_file(run.alloc, places, request.store, file).map(Answer::ShownFile),
     }
 }
