@@ -1,5 +1,5 @@
 -- What the steps come to, as what `relayout` answers.
-use Rattle.std.proofs.Common.{◌≡◌, ◌≢◌, ℕ, List, length, map, refl, sym, ap, subst, ◌∙◌, inl, inr}
+use Rattle.std.proofs.Common.{◌≡◌, ◌≢◌, List, length, map, refl, sym, ap, subst, ◌∙◌, inl, inr}
 use Rattle.std.specs.Prelude.{Result, Ok, Err}
 use Rattle.cs_schema.specs.CatalogData.{CatalogData}
 use Rattle.cs_schema.specs.CatalogRules.{IsCatalog}
@@ -25,6 +25,7 @@ use Rattle.cs_tables.specs.declared.load_fault.LoadFault.TheVariants as load
 use Rattle.cs_tables.proofs.CountLemmas.{rows-count}
 use Rattle.cs_tables.specs.ByName.{AreArranged, by_name}
 use Rattle.cs_tables.specs.Relayout.{IsStoreFaultOf, IsSurvivingTable, LaysOut, MakesStore, MayFollow}
+use Rattle.cs_tables.specs.declared.load_fault.FullRange.{FullRange}
 use Rattle.cs_tables.specs.declared.relayout_fault.RelayoutFault.{RelayoutFault}
 use Rattle.cs_tables.specs.declared.relayout_fault.RelayoutFault.TheVariants as fault
 use Rattle.cs_tables.specs.declared.laying.Relaid.{Relaid}
@@ -36,17 +37,17 @@ pub store-refused : (old : CatalogData) (F : FileContents) (L : Sites) (new : Ca
 store-refused old F L new e fault.Memory may h is = tt
 store-refused old F L new e (fault.Differs d) may h is = absurd is
 store-refused old F L new e fault.Unsafe may h is = absurd is
-store-refused old F L new e (fault.Full p s n) may h is = absurd is
+store-refused old F L new e (fault.Full full) may h is = absurd is
 store-refused old F L new e (fault.Store f) may (inl memory) is = absurd (is.1 memory)
 store-refused old F L new e (fault.Store f) may (inr verdict) is = (may, λ m. is.1 (is.0 ∙ m), subst (λ (x : Fault). IsRebuildVerdict old F L (Err x)) is.0 verdict)
 
 -- of rows with different keys no key stands twice, and they come from no text
-pub no-other : (C : CatalogData) (cells : List Cells) (f : LoadFault) → AreDistinctBefore (cells_at cells C.key) (length (cells_at cells C.key)) → IsBuildRefusal C cells f → f ≢ load.Memory → ((p s n : ℕ) → f ≢ load.Full p s n) → ⊥
+pub no-other : (C : CatalogData) (cells : List Cells) (f : LoadFault) → AreDistinctBefore (cells_at cells C.key) (length (cells_at cells C.key)) → IsBuildRefusal C cells f → f ≢ load.Memory → ((full : FullRange) → f ≢ load.Full full) → ⊥
 no-other C cells load.Memory keys h memory full = memory refl
 no-other C cells load.Unsafe keys h memory full = h
 no-other C cells (load.Text f) keys h memory full = h
 no-other C cells (load.Twice repeat) keys h memory full = keys repeat.first repeat.again h.before h.there (h.is_first ∙ sym h.is_again)
-no-other C cells (load.Full p s n) keys h memory full = full p s n refl
+no-other C cells (load.Full range) keys h memory full = full range refl
 
 -- the one table that the survivors hold, and its columns
 abbrev pub IsTableInColumns : CatalogData → FileContents → Sites → List Cells → Type 0
@@ -92,4 +93,4 @@ module _ (old : CatalogData) (F : FileContents) (L : Sites) (new : CatalogData) 
   laid-out (Err (fault.Differs d)) h = absurd h
   laid-out (Err fault.Unsafe) h = absurd h
   laid-out (Err (fault.Store e)) h = absurd h
-  laid-out (Err (fault.Full p s n)) h = record { may = may; table = laid; survives = survives; full = subst (λ (rows : List Row). IsFull new rows p s n) the_table.rows h }
+  laid-out (Err (fault.Full full)) h = record { may = may; table = laid; survives = survives; is = subst (λ (rows : List Row). IsFull new rows full) the_table.rows h }

@@ -1,7 +1,7 @@
 -- The text of a table is said by its cells alone.
-use Rattle.std.proofs.Common.{◌≡◌, ℕ, zero, suc, ◌<◌, List, [], ◌∷◌, length, map, get_or, refl, sym, ap, ◌∙◌, arith}
+use Rattle.std.proofs.Common.{◌≡◌, ℕ, ◌<◌, List, [], ◌∷◌, length, map, get_or, refl, sym, ap, ◌∙◌, arith}
 use Rattle.std.specs.List.{range_with_len}
-use Rattle.std.proofs.lemmas.List.{get_or-map, get_or_default, length-map, same_lists}
+use Rattle.std.proofs.lemmas.List.{get_or-map, length-map, same_lists}
 use Rattle.cs_schema.specs.CatalogData.{CatalogData, ColumnData}
 use Rattle.cs_schema.specs.Rows.{Row, cell}
 use Rattle.cs_schema.specs.Values.{values}
@@ -10,7 +10,6 @@ use Rattle.cs_schema.specs.declared.cells.Value.{Value}
 use Rattle.cs_recovery.specs.Columns.{AreColumnsOf}
 use Rattle.cs_csv.specs.Fields.{Record}
 use Rattle.cs_csv.specs.Writing.{names_record, records_text, row_count, row_record, rows_records, table_text}
-use Rattle.cs_csv.proofs.RecordLemmas.{cells_at-is}
 
 row-same : (a b : List Cells) → map values a ≡ map values b → (n : ℕ) → row_record a n ≡ row_record b n
 row-same [] [] e n = refl

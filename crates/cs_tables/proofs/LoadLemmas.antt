@@ -1,11 +1,11 @@
 -- What building and reading come to, as what a load answers.
 use Rattle.std.proofs.Common.{◌≡◌, ◌<◌, ℕ, Bool, List, [], length, ap, sym, subst, refl, ◌∙◌, inl, inr, Some, None}
-use Rattle.std.specs.Prelude.{Option, Result, Ok, Err, nat_lt}
+use Rattle.std.specs.Prelude.{Option, Ok, Err, nat_lt}
 use Rattle.std.proofs.lemmas.Bool.{cases_Bool}
-use Rattle.std.specs.Option.{option_map, option_or}
+use Rattle.std.specs.Option.{option_map}
 use Rattle.std.specs.List.{find}
 use Rattle.std.proofs.lemmas.Option.{none-some, same_Some}
-use Rattle.cs_schema.specs.CatalogData.{CatalogData, HasSegment}
+use Rattle.cs_schema.specs.CatalogData.{CatalogData}
 use Rattle.cs_schema.specs.Rows.{Row}
 use Rattle.cs_schema.specs.declared.cells.Cells.{Cells}
 use Rattle.cs_store.specs.FileSet.{Files, contents_of}
@@ -15,7 +15,6 @@ use Rattle.cs_safety.specs.Safety.{IsSafe}
 use Rattle.cs_schema.specs.Order.{row_limit, rows_of}
 use Rattle.cs_order.specs.Tables.{all_segments, is_twice, table_of}
 use Rattle.cs_recovery.specs.BuildAnswers.{BuildClauses, build_fault}
-use Rattle.cs_recovery.specs.Columns.{rows_in}
 use Rattle.cs_recovery.proofs.Exact.{all_are_segments}
 use Rattle.cs_recovery.proofs.RowLists.{find_in}
 use Rattle.cs_csv.specs.Faults.{IsFirstFault}
@@ -40,14 +39,14 @@ text-refused C known f fault.Memory safe h e = tt
 text-refused C known f fault.Unsafe safe h e = absurd e
 text-refused C known f (fault.Text g) safe h e = (safe, subst (λ x. IfKnown known (λ records unclosed. IsFirstFault C.columns records unclosed x)) e h)
 text-refused C known f (fault.Twice r) safe h e = absurd e
-text-refused C known f (fault.Full p s n) safe h e = absurd e
+text-refused C known f (fault.Full full) safe h e = absurd e
 
 pub rows-refused : (C : CatalogData) (known : Option (List ℕ)) (cells : List Cells) (g : LoadFault) → IsSafe C [] → ReadsRows C known cells → IsBuildRefusal C cells g → LoadsTable C known (Err g)
 rows-refused C known cells fault.Memory safe reads h = tt
 rows-refused C known cells fault.Unsafe safe reads h = absurd h
 rows-refused C known cells (fault.Text g) safe reads h = absurd h
 rows-refused C known cells (fault.Twice r) safe reads h = record { safe = safe; cells = cells; reads = reads; builds = h }
-rows-refused C known cells (fault.Full p s n) safe reads h = record { safe = safe; cells = cells; reads = reads; builds = h }
+rows-refused C known cells (fault.Full full) safe reads h = record { safe = safe; cells = cells; reads = reads; builds = h }
 
 full-at : (o : Option (ℕ × ℕ)) (p s : ℕ) → option_map (λ (a : ℕ × ℕ). Fault.Full a.0 a.1) o ≡ Some (Fault.Full p s) → (a : ℕ × ℕ) × (o ≡ Some a) × (a.0 ≡ p)
 full-at None p s e = absurd (none-some (Fault.Full p s) e)
@@ -76,4 +75,4 @@ twice-refused C cells fault.Memory h = tt
 twice-refused C cells fault.Unsafe h = absurd h
 twice-refused C cells (fault.Text f) h = absurd h
 twice-refused C cells (fault.Twice r) h = h
-twice-refused C cells (fault.Full p s n) h = absurd h
+twice-refused C cells (fault.Full full) h = absurd h

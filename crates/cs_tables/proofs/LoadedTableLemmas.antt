@@ -1,18 +1,15 @@
 -- Columns of cells, as those of a text and as those of a table.
-use Rattle.std.proofs.Common.{◌≡◌, ℕ, zero, suc, ◌<◌, List, [], ◌∷◌, length, map, get_or, refl, sym, ap, ◌∙◌, arith, Some, None}
-use Rattle.std.proofs.lemmas.List.{get_or-map, length-map, get_or_default}
+use Rattle.std.proofs.Common.{◌≡◌, ℕ, ◌<◌, List, [], ◌∷◌, length, refl, sym, ap, ◌∙◌, arith}
+use Rattle.std.proofs.lemmas.List.{get_or-map, length-map}
 use Rattle.cs_schema.specs.CatalogData.{CatalogData, ColumnData, no_column}
-use Rattle.cs_schema.specs.CatalogRules.{IsCatalog}
-use Rattle.cs_schema.specs.Rows.{Row, cell}
-use Rattle.cs_schema.specs.Values.{values, kind_of}
+use Rattle.cs_schema.specs.Rows.{Row}
 use Rattle.cs_schema.specs.declared.cells.Cells.{Cells}
-use Rattle.cs_schema.specs.declared.cells.Value.{Value}
 use Rattle.cs_schema.specs.declared.kinds.Kind.{Kind}
 use Rattle.cs_schema.specs.declared.kinds.Kind.TheVariants as kind
 use Rattle.cs_rows.specs.WalkedView.{count_of}
 use Rattle.cs_recovery.specs.Columns.{AreColumnsOf, AreTableColumns}
 use Rattle.cs_csv.specs.Fields.{Record, kind_at}
-use Rattle.cs_csv.specs.Faults.{HoldsRows, cells_at, kinds_of}
+use Rattle.cs_csv.specs.Faults.{HoldsRows}
 use Rattle.cs_csv.specs.Writing.{AreEven, row_count}
 use Rattle.cs_csv.proofs.HeldLemmas.{held-count, held-even}
 use Rattle.cs_csv.proofs.RecordLemmas.{cells_at-is, kind_at-is}

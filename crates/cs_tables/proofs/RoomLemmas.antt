@@ -66,8 +66,8 @@ not_refused old new old-rules new-rules may F L T loss safe holds fits (Err faul
 not_refused old new old-rules new-rules may F L T loss safe holds fits (Err (fault.Differs d)) a = absurd (none-some d (sym may.same ∙ a))
 not_refused old new old-rules new-rules may F L T loss safe holds fits (Err fault.Unsafe) a = absurd (a.1 may.safe)
 not_refused old new old-rules new-rules may F L T loss safe holds fits (Err (fault.Store e)) a = absurd (no_refusal old old-rules F L T loss safe holds e a.1 a.2)
-not_refused old new old-rules new-rules may F L T loss safe holds fits (Err (fault.Full p s n)) a =
+not_refused old new old-rules new-rules may F L T loss safe holds fits (Err (fault.Full range)) a =
     let same : T ≡ a.survives.table = a.survives.only.1 T holds in
     let table : a.table ≡ map (by_name old new) T = a.survives.is ∙ ap (map (by_name old new)) (sym same) in
     let is_table : IsTable new (map (by_name old new) T) = by_name-table old new (alike old new old-rules new-rules may.same) T holds.table in
-    absurd (has_room new (map (by_name old new) T) is_table fits p s (subst (λ (U : List Row). build_fault new U ≡ Some (Fault.Full p s)) table a.full.refused))
+    absurd (has_room new (map (by_name old new) T) is_table fits range.p range.s (subst (λ (U : List Row). build_fault new U ≡ Some (Fault.Full range.p range.s)) table a.is.refused))

@@ -9,7 +9,6 @@ use Rattle.cs_schema.specs.declared.cells.Cells.{Cells}
 use Rattle.cs_store.specs.FileSet.{Files, contents_of}
 use Rattle.cs_store.specs.declared.fault.Fault.{Fault}
 use Rattle.cs_safety.specs.Safety.{IsSafe}
-use Rattle.cs_order.specs.Tables.{table_of}
 use Rattle.cs_rows.specs.WalkedView.{count_of}
 use Rattle.cs_recovery.specs.BuildAnswers.{build_fault}
 use Rattle.cs_recovery.specs.Columns.{rows_in}
@@ -18,8 +17,9 @@ use Rattle.cs_csv.specs.Fields.{Record}
 use Rattle.cs_csv.specs.Faults.{HoldsRows, IsFirstFault, cells_at}
 use Rattle.cs_csv.specs.Reading.{IfKnown}
 use Rattle.cs_csv.specs.declared.fault.CsvFault.{CsvFault}
-use Rattle.cs_csv.specs.declared.fault.CsvFault.TheVariants as csv
 use Rattle.cs_tables.specs.Repeats.{IsFirstRepeat}
+use Rattle.cs_tables.specs.Cutting.{IsCut, values_in}
+use Rattle.cs_tables.specs.declared.load_fault.FullRange.{FullRange}
 use Rattle.cs_tables.specs.declared.load_fault.LoadFault.{LoadFault}
 use Rattle.cs_tables.specs.declared.load_fault.LoadFault.TheVariants as fault
 use Rattle.cs_tables.specs.declared.loading.Loaded.{Loaded}
@@ -32,16 +32,17 @@ pub record HoldsTableOf (C : CatalogData) (rows : List Row) (F : FileContents) :
   pub all : (row : Row) → IsIn row rows → IsIn row table
   pub holds : Holds C F table
 
--- no key stands twice, and the least range that is too large has so many rows
-pub record IsFull (C : CatalogData) (rows : List Row) (p s n : ℕ) : Type 0 where
-  pub refused : build_fault C rows ≡ Some (Fault.Full p s)
-  pub count : n ≡ length (filter (λ row. segment_of_row C p row == s) rows)
+-- no key stands twice, and the least range that is too large has so many rows and is cut there
+pub record IsFull (C : CatalogData) (rows : List Row) (full : FullRange) : Type 0 where
+  pub refused : build_fault C rows ≡ Some (Fault.Full full.p full.s)
+  pub count : full.rows ≡ length (filter (λ row. segment_of_row C full.p row == full.s) rows)
+  pub cut : IsCut (values_in C full.p full.s rows) full.cut
 
 -- why rows in columns make no store
 abbrev pub IsBuildRefusal : CatalogData → List Cells → LoadFault → Type 0
 IsBuildRefusal C cells fault.Memory = ⊤
 IsBuildRefusal C cells (fault.Twice repeat) = IsFirstRepeat (cells_at cells C.key) repeat.first repeat.again repeat.key
-IsBuildRefusal C cells (fault.Full p s n) = IsFull C (rows_in cells) p s n
+IsBuildRefusal C cells (fault.Full full) = IsFull C (rows_in cells) full
 IsBuildRefusal C cells _ = ⊥
 
 -- what rows in columns make: a store that holds their table, or why there is none
@@ -78,7 +79,7 @@ LoadsTable C known (Err fault.Memory) = ⊤
 LoadsTable C known (Err fault.Unsafe) = ¬ IsSafe C []
 LoadsTable C known (Err (fault.Text f)) = IsSafe C [] × IfKnown known (λ records unclosed. IsFirstFault C.columns records unclosed f)
 LoadsTable C known (Err (fault.Twice repeat)) = BuildsRows C known (Err (fault.Twice repeat))
-LoadsTable C known (Err (fault.Full p s n)) = BuildsRows C known (Err (fault.Full p s n))
+LoadsTable C known (Err (fault.Full full)) = BuildsRows C known (Err (fault.Full full))
 
 -- a fault of a text as one of a load
 abbrev pub IsTextFaultOf : CsvFault → LoadFault → Type 0

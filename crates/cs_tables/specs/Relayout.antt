@@ -1,5 +1,5 @@
 -- What `relayout` answers: the files of a store of a new catalog that holds the table of an old one, or why there are none.
-use Rattle.std.specs.Prelude.{◌≡◌, ◌≢◌, ℕ, ⊤, List, [], map, length, Some, None, Result, Ok, Err}
+use Rattle.std.specs.Prelude.{◌≡◌, ◌≢◌, ⊤, List, [], map, length, Some, None, Result, Ok, Err}
 use Rattle.cs_schema.specs.CatalogData.{CatalogData}
 use Rattle.cs_schema.specs.FileNames.{FileContents}
 use Rattle.cs_schema.specs.Losses.{Sites}
@@ -16,6 +16,7 @@ use Rattle.cs_recovery.specs.Verdicts.{IsRebuildVerdict, NamesItsSites}
 use Rattle.cs_tables.specs.Loading.{HoldsTableOf, IsFull}
 use Rattle.cs_tables.specs.ByName.{by_name}
 use Rattle.cs_tables.specs.Differences.{first_difference}
+use Rattle.cs_tables.specs.declared.load_fault.FullRange.{FullRange}
 use Rattle.cs_tables.specs.declared.relayout_fault.RelayoutFault.{RelayoutFault}
 use Rattle.cs_tables.specs.declared.relayout_fault.RelayoutFault.TheVariants as fault
 use Rattle.cs_tables.specs.declared.laying.Relaid.{Relaid}
@@ -41,12 +42,12 @@ pub record IsLaidOut (old : CatalogData) (F : FileContents) (L : Sites) (new : C
   pub holds : Holds new (contents_of relaid.files) table
   pub count : relaid.rows ≡ length table
 
--- the least range of the new catalog that is too large for that table has so many rows
-pub record IsTooLarge (old : CatalogData) (F : FileContents) (L : Sites) (new : CatalogData) (p s n : ℕ) : Type 0 where
+-- the least range of the new catalog that is too large for that table
+pub record IsTooLarge (old : CatalogData) (F : FileContents) (L : Sites) (new : CatalogData) (full : FullRange) : Type 0 where
   pub may : MayFollow old new
   pub table : List Row
   pub survives : IsSurvivingTable old F L new table
-  pub full : IsFull new table p s n
+  pub is : IsFull new table full
 
 -- What `relayout` answers: files that hold the table of the survivors, or the first refusal.
 abbrev pub LaysOut : CatalogData → FileContents → Sites → CatalogData → Result Relaid RelayoutFault → Type 0
@@ -55,7 +56,7 @@ LaysOut old F L new (Err fault.Memory) = ⊤
 LaysOut old F L new (Err (fault.Differs d)) = first_difference old new ≡ Some d
 LaysOut old F L new (Err fault.Unsafe) = (first_difference old new ≡ None) × (¬ IsSafe new [])
 LaysOut old F L new (Err (fault.Store e)) = MayFollow old new × (e ≢ Fault.Memory) × IsRebuildVerdict old F L (Err e)
-LaysOut old F L new (Err (fault.Full p s n)) = IsTooLarge old F L new p s n
+LaysOut old F L new (Err (fault.Full full)) = IsTooLarge old F L new full
 
 -- a fault of a store as one of a store that is laid out anew
 abbrev pub IsStoreFaultOf : Fault → RelayoutFault → Type 0
@@ -67,5 +68,5 @@ IsStoreFaultOf e _ = ⊥
 abbrev pub MakesStore : CatalogData → List Cells → Result Relaid RelayoutFault → Type 0
 MakesStore C cells (Ok relaid) = HoldsTableOf C (rows_in cells) (contents_of relaid.files) × (relaid.rows ≡ count_of cells)
 MakesStore C cells (Err fault.Memory) = ⊤
-MakesStore C cells (Err (fault.Full p s n)) = IsFull C (rows_in cells) p s n
+MakesStore C cells (Err (fault.Full full)) = IsFull C (rows_in cells) full
 MakesStore C cells (Err _) = ⊥

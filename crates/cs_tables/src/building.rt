@@ -6,7 +6,7 @@ ghost use Rattle.cs_recovery.specs.BuildAnswers.{build_fault};
 ghost use Rattle.cs_recovery.specs.Columns.{AreTableColumns, rows_in};
 ghost use Rattle.cs_tables.specs.Loading.{BuildsTable, IsBuildRefusal, IsTwiceFault};
 
-use crate::counting::rows_in_range;
+use crate::cutting::full_range;
 use crate::load_fault::LoadFault;
 use crate::repeats::first_repeat;
 use cs_rebuild::{Fault, FileSet, Gate, Run, build};
@@ -45,10 +45,9 @@ fn refusal(alloc: Global, catalog: &Catalog, rows: &[Cells], fault: Fault) -> Lo
 {
     match fault {
         Fault::Twice => twice(alloc, catalog, rows),
-        Fault::Full { p, s } => LoadFault::Full {
-            p,
-            s,
-            rows: rows_in_range(catalog, rows, p, s),
+        Fault::Full { p, s } => match full_range(alloc, catalog, rows, p, s) {
+            Ok(full) => LoadFault::Full(full),
+            Err(_) => LoadFault::Memory,
         },
         // `build` has no other fault about rows
         _ => LoadFault::Memory,

@@ -53,7 +53,7 @@ fn build_store<R: Threads + Sync, G: Gate + Sync>(
     };
     match fault {
         LoadFault::Memory => Err(RelayoutFault::Memory),
-        LoadFault::Full { p, s, rows } => Err(RelayoutFault::Full { p, s, rows }),
+        LoadFault::Full(full) => Err(RelayoutFault::Full(full)),
         // keys are distinct, and no text was read
         _ => unreachable!(),
     }

@@ -8,6 +8,7 @@
 mod arranging;
 mod building;
 mod counting;
+mod cutting;
 mod differences;
 mod dumping;
 mod laying;
@@ -25,7 +26,7 @@ pub use counting::count_rows;
 pub use differences::Difference;
 pub use dumping::{DumpFault, dump};
 pub use laying::{Relaid, relayout};
-pub use load_fault::{LoadFault, Repeat};
+pub use load_fault::{FullRange, LoadFault, Repeat};
 pub use load_words::LoadWords;
 pub use loading::{Loaded, load};
 pub use relayout_fault::RelayoutFault;

@@ -11,6 +11,17 @@ pub struct Repeat {
     pub key: Value,
 }
 
+/// The range of a segment that has more than 1,048,576 rows.
+#[derive(Drop)]
+pub struct FullRange {
+    pub p: u16,
+    pub s: u16,
+    /// How many rows it has.
+    pub rows: usize,
+    /// At which value to cut the projection, so that just what fits comes before; none if too many rows have the least value.
+    pub cut: Option<Value>,
+}
+
 /// Why a text makes no store.
 #[derive(Drop)]
 pub enum LoadFault {
@@ -22,6 +33,6 @@ pub enum LoadFault {
     Text(CsvFault),
     /// A repeated primary key: the first row with the key of an earlier one.
     Twice(Repeat),
-    /// The range of this segment, the first such one, has this many rows: more than 1,048,576.
-    Full { p: u16, s: u16, rows: usize },
+    /// The first range with too many rows.
+    Full(FullRange),
 }

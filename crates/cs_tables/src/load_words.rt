@@ -1,7 +1,8 @@
 //! Describes why rows make no store.
 
-use crate::load_fault::{LoadFault, Repeat};
+use crate::load_fault::{FullRange, LoadFault, Repeat};
 use cs_csv::{CsvWords, Excerpt};
+use cs_schema::limits::SEGMENT_ROWS;
 use cs_schema::{Catalog, Value};
 use std::fmt;
 
@@ -12,20 +13,49 @@ pub struct LoadWords<'a> {
     pub fault: &'a LoadFault,
 }
 
-/// A primary key.
+/// A cell.
 #[derive(Clone, Copy)]
-struct KeyWords<'a> {
-    key: &'a Value,
+struct CellWords<'a> {
+    cell: &'a Value,
 }
 
-impl fmt::Display for KeyWords<'_> {
+impl fmt::Display for CellWords<'_> {
     fn fmt<W: fmt::Write>(&self, f: &mut fmt::Formatter<W>) -> fmt::Result {
-        match self.key {
+        match self.cell {
             Value::Int(int) => write!(f, "{int}"),
             Value::Text(text) => {
                 let text = Excerpt::new(text.as_str().as_bytes());
                 write!(f, "\"{text}\"")
             }
+        }
+    }
+}
+
+/// The range of a segment that has too many rows, and where to cut it.
+#[derive(Clone, Copy)]
+pub(crate) struct FullWords<'a> {
+    pub(crate) catalog: &'a Catalog,
+    pub(crate) full: &'a FullRange,
+}
+
+impl fmt::Display for FullWords<'_> {
+    fn fmt<W: fmt::Write>(&self, f: &mut fmt::Formatter<W>) -> fmt::Result {
+        let (catalog, full) = (self.catalog, self.full);
+        let (p, s, rows) = (full.p, full.s, full.rows);
+        let name = match catalog.projections.get(p as usize) {
+            Some(projection) => projection.name.as_str(),
+            None => "no projection",
+        };
+        write!(
+            f,
+            "p{p}.s{s} is full: {rows} rows of {name}, and {SEGMENT_ROWS} fit: "
+        )?;
+        match &full.cut {
+            Some(cell) => {
+                let cut = CellWords { cell };
+                write!(f, "cut {name} at {cut}")
+            }
+            None => write!(f, "too many have one value: sort {name} by another column"),
         }
     }
 }
@@ -46,7 +76,7 @@ impl LoadWords<'_> {
         f: &mut fmt::Formatter<W>,
         repeat: &Repeat,
     ) -> fmt::Result {
-        let key = KeyWords { key: &repeat.key };
+        let key = CellWords { cell: &repeat.key };
         let first = repeat.first.saturating_add(1);
         let again = repeat.again.saturating_add(1);
         let name = self.key_name();
@@ -68,7 +98,11 @@ impl fmt::Display for LoadWords<'_> {
                 write!(f, "{words}")
             }
             LoadFault::Twice(repeat) => self.write_repeat(f, repeat),
-            LoadFault::Full { p, s, rows } => write!(f, "p{p}.s{s} is full: {rows} rows"),
+            LoadFault::Full(full) => {
+                let catalog = self.catalog;
+                let words = FullWords { catalog, full };
+                write!(f, "{words}")
+            }
         }
     }
 }

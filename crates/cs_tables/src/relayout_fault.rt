@@ -1,10 +1,11 @@
 //! Why a store is not laid out anew.
 
 use crate::differences::Difference;
+use crate::load_fault::FullRange;
 use cs_rebuild::Fault;
 
 /// Why a store is not laid out under a new catalog.
-#[derive(Debug, Clone, Copy, PartialEq, Eq)]
+#[derive(Drop)]
 pub enum RelayoutFault {
     /// Out of memory. It may take the place of any other answer.
     Memory,
@@ -14,6 +15,6 @@ pub enum RelayoutFault {
     Unsafe,
     /// Why the surviving files of the old store hold no table.
     Store(Fault),
-    /// The range of this segment of the new catalog, the first such one, has this many rows: more than 1,048,576.
-    Full { p: u16, s: u16, rows: usize },
+    /// The first range of the new catalog with too many rows.
+    Full(FullRange),
 }

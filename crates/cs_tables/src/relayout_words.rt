@@ -1,6 +1,7 @@
 //! Describes why a store is not laid out anew.
 
 use crate::differences::Difference;
+use crate::load_words::FullWords;
 use crate::relayout_fault::RelayoutFault;
 use crate::{LoadFault, LoadWords};
 use cs_schema::{Catalog, Kind};
@@ -84,9 +85,10 @@ impl fmt::Display for RelayoutWords<'_> {
             RelayoutFault::Differs(difference) => self.write_difference(f, *difference),
             RelayoutFault::Unsafe => self.write_refusal(f, &LoadFault::Unsafe),
             RelayoutFault::Store(fault) => write!(f, "{fault}"),
-            RelayoutFault::Full { p, s, rows } => {
-                let (p, s, rows) = (*p, *s, *rows);
-                self.write_refusal(f, &LoadFault::Full { p, s, rows })
+            RelayoutFault::Full(full) => {
+                let catalog = self.new;
+                let words = FullWords { catalog, full };
+                write!(f, "{words}")
             }
         }
     }

@@ -9,25 +9,35 @@ mod verbs;
 
 use anyhow::Result;
 use changes::changed;
-use cs_file_system::{FailedCalls, NotedFiles};
+use cs_file_system::{FailedCalls, FileStep, NotedFiles, Watch};
 use pinepolo_args::parse;
 use pinepolo_folders::Folders;
-use pinepolo_progress::ProgressLine;
 use std::sync::Arc;
 use verbs::{Asked, answer, refuse};
 
 /// How many processors there are.
 const PROCESSORS: u32 = 2;
 
+/// Nobody who is told of files.
+#[derive(Clone, Copy)]
+struct Untold;
+
+impl Watch for Untold {
+    fn expects(&self, _bytes: u64) {}
+
+    fn begins(&self, _step: FileStep, _site: Option<u8>) {}
+
+    fn moves(&self, _bytes: u64) {}
+}
+
 fn main(rt: HostRuntime) -> Result<()> {
     let alloc = rt.alloc();
     for line in rt.lines(alloc) {
         let calls = Arc::new(alloc, FailedCalls::new(alloc)?)?;
-        let watch = ProgressLine::new(rt, rt.stderr(), false, 1);
         let files = NotedFiles {
             rt,
             calls: &calls,
-            watch: &watch,
+            watch: &Untold,
         };
         let mut places = Folders::new(alloc, files);
         let line = line?;

@@ -118,10 +118,10 @@ pub fn answer<R: Threads + Sync + AllocGlobal + Files + Print, P: World>(
 }
 
 /// Prints why the folders of a store's sites are refused, and the status.
-pub fn refuse<R: AllocGlobal + Files + Print>(
-    rt: &R,
-    refusal: &SitesRefusal<'_>,
-    calls: &FailedCalls,
+pub fn refuse<'a, R: AllocGlobal + Files + Print>(
+    rt: &'a R,
+    refusal: &'a SitesRefusal<'a>,
+    calls: &'a FailedCalls,
 ) -> Result<()> {
     let host = host_of(rt, None, calls);
     let (mut out, mut err) = (Vec::new(host.alloc), Vec::new(host.alloc));

@@ -3,7 +3,7 @@
 //! `pinepolo_run` has the verbs; here they get the system's arguments, folders and streams.
 #![tactic(auto)]
 
-use cs_file_system::{FailedCalls, NotedFiles};
+use cs_file_system::{FailedCalls, FileStep, NotedFiles, Watch};
 use pinepolo_args::parse;
 use pinepolo_folders::{Folders, SitedRequest, now};
 use pinepolo_progress::ProgressLine;
@@ -20,6 +20,18 @@ const PROGRAM: &str = "pinepolo 2.0.0";
 /// The number of processors if the system does not say.
 const ONE_PROCESSOR: u32 = 1;
 
+/// Nobody who is told of files: the line of progress moves by rounds of tasks alone.
+#[derive(Clone, Copy)]
+struct Untold;
+
+impl Watch for Untold {
+    fn expects(&self, _bytes: u64) {}
+
+    fn begins(&self, _step: FileStep, _site: Option<u8>) {}
+
+    fn moves(&self, _bytes: u64) {}
+}
+
 /// No call on a file failed so far.
 fn no_failed_calls(alloc: Global) -> Result<Arc<FailedCalls>, AllocError> {
     match Arc::new(alloc, FailedCalls::new(alloc)?) {
@@ -28,28 +40,35 @@ fn no_failed_calls(alloc: Global) -> Result<Arc<FailedCalls>, AllocError> {
     }
 }
 
-/// What a verb runs on, over the folders of sites that were found.
+/// What a verb runs on, over a store in one folder.
 fn host_of<'a, R: AllocGlobal, G>(
     rt: &'a R,
     gate: &'a G,
-    sited: Option<&'a SitedRequest<'_>>,
     calls: &'a FailedCalls,
     prefix: &'a str,
-    time: Option<&'a str>,
+    time: &'a Option<String>,
 ) -> Host<'a, R, G> {
-    let sites = match sited {
-        Some(sited) => sited.sites(),
+    let time = match time {
+        Some(time) => Some(time.as_str()),
         None => None,
     };
     Host {
         rt,
         alloc: rt.alloc(),
         gate,
-        sites,
+        sites: None,
         calls,
         prefix,
         program: PROGRAM,
         time,
+    }
+}
+
+/// The same over the folders of sites that were found.
+fn with_sites<'a, R, G>(host: Host<'a, R, G>, sited: &'a SitedRequest<'_>) -> Host<'a, R, G> {
+    Host {
+        sites: sited.sites(),
+        ..host
     }
 }
 
@@ -73,24 +92,21 @@ fn main(rt: HostRuntime) -> ExitCode {
     let files = NotedFiles {
         rt,
         calls: &calls,
-        watch: &gate,
+        watch: &Untold,
     };
     let mut places = Folders::new(alloc, files);
     let time = now(alloc, &rt).ok();
-    let time = match &time {
-        Some(time) => Some(time.as_str()),
-        None => None,
-    };
     let status = match env::args(&rt) {
         Ok(args) => match args.skip(1).collect::<Vec<String>>(alloc) {
             Ok(words) => {
                 match places.find_sites_of(parse(alloc, words.as_slice(), processors)) {
                     Ok(sited) => {
-                        let host = host_of(&rt, &gate, Some(&sited), &calls, prefix, time);
+                        let host = host_of(&rt, &gate, &calls, prefix, &time);
+                        let host = with_sites(host, &sited);
                         run(&host, &sited.parsed, &mut places, &mut out, &mut err)
                     }
                     Err(refusal) => {
-                        let host = host_of(&rt, &gate, None, &calls, prefix, time);
+                        let host = host_of(&rt, &gate, &calls, prefix, &time);
                         let (error, request) = (&refusal.error, &refusal.request);
                         say_error(&host, error, request, &mut out, &mut err)
                     }

@@ -21,6 +21,14 @@ use pinepolo_text::{
 use serde_json::Value;
 use std::alloc::{AllocError, Global};
 
+/// What to do next about an answer; empty if there is nothing to do.
+fn next_of(alloc: Global, text: &AnswerText<'_>) -> Result<String, AllocError> {
+    match text.next() {
+        Some(step) => format!(in alloc; "{step}"),
+        None => Ok(String::new(alloc)),
+    }
+}
+
 /// An answer as one object, with the sites that are away if it is on a store whose sites have folders of their own.
 pub fn answer_object(
     alloc: Global,

@@ -1,11 +1,13 @@
 //! From a request to a status.
 ghost use Rattle.std.specs.Prelude.{◌≡◌, ◌≤◌};
 ghost use Rattle.cs_parallel_io.specs.Standing.{standing};
+ghost use Rattle.pinepolo_answers.specs.Statuses.{answer_status};
 ghost use Rattle.pinepolo_places.specs.Status.{status_of};
 ghost use Rattle.pinepolo_run.specs.Requests.{IsSaid, Runs, exit_status};
 
 use crate::host::Host;
 use crate::printing::{print_bytes, report, say, say_object};
+use pinepolo_answers::Answer;
 use pinepolo_args::{ParseExit, Request};
 use pinepolo_places::{DEVICE, DONE, USAGE, VerbError, World};
 use pinepolo_progress::Progress;
@@ -18,8 +20,8 @@ use std::thread::Threads;
 /// Does what was asked for, prints its answer, and gives its status: 0 done or sound, 1 refused, 2 a usage error, 3 out
 /// of memory, 4 a file, a folder or a stream failed, 5 ambiguous, 6 not recoverable. If there is no request, it prints why.
 pub fn run<'a, R: Threads + Sync, G: Progress + Sync, P: World, W: Write, E: Write>(
-    host: &Host<'a, R, G>,
-    parsed: &Result<Request<'a>, ParseExit>,
+    host: &'a Host<'a, R, G>,
+    parsed: &'a Result<Request<'a>, ParseExit>,
     places: &mut P,
     out: &mut W,
     err: &mut E,
@@ -65,17 +67,28 @@ pub fn run<'a, R: Threads + Sync, G: Progress + Sync, P: World, W: Write, E: Wri
     let done = perform(&run, places, &request.verb);
     host.gate.erase();
     match done {
-        Ok(answer) => {
-            let text = AnswerText {
-                answer: &answer,
-                at: host.at(request),
-            };
-            let words = host.words(request);
-            let json = if request.json { Some(&words) } else { None };
-            say(host.alloc, &text, json, out, err)
-        }
+        Ok(answer) => say_answer(host, &answer, request, out, err),
         Err(error) => say_error(host, &error, request, out, err),
     }
+}
+
+/// Prints what a verb answered, as JSON if that is wanted, and else as text, and gives the status.
+fn say_answer<'a, R, G, W: Write, E: Write>(
+    host: &'a Host<'a, R, G>,
+    answer: &'a Answer,
+    request: &'a Request<'a>,
+    out: &mut W,
+    err: &mut E,
+) -> u8
+    ensures { IsSaid (answer_status answer.now) result }
+{
+    let text = AnswerText {
+        answer,
+        at: host.at(request),
+    };
+    let words = host.words(request);
+    let json = if request.json { Some(&words) } else { None };
+    say(host.alloc, &text, json, out, err)
 }
 
 /// Prints why there is no request, and gives the status.
@@ -95,9 +108,9 @@ fn say_exit<W: Write, E: Write>(prefix: &str, exit: &ParseExit, out: &mut W, err
 /// Prints why a verb stopped early, with what the system said of the call that failed, and gives the status: as JSON if that is
 /// wanted, and else as text.
 pub fn say_error<'a, R, G, W: Write, E: Write>(
-    host: &Host<'a, R, G>,
+    host: &'a Host<'a, R, G>,
     error: &'a VerbError,
-    request: &Request<'a>,
+    request: &'a Request<'a>,
     out: &mut W,
     err: &mut E,
 ) -> u8
@@ -116,7 +129,7 @@ pub fn say_error<'a, R, G, W: Write, E: Write>(
 }
 
 /// Says why there was no request to perform, behind a prefix, and gives the status.
-pub fn say_early<E: Write>(error: &VerbError, prefix: &str, err: &mut E) -> u8
+pub fn say_early<'a, E: Write>(error: &'a VerbError, prefix: &'a str, err: &mut E) -> u8
     ensures { IsSaid (status_of error.now) result }
 {
     let at = None;

@@ -96,9 +96,9 @@ abbrev pub IsWritten : {P : Type 0} → (P → List ℕ → List ℕ → P → T
 IsWritten draws s path t = MatchOption path (t ≡ s) (λ p. (bytes : List ℕ) × draws s p bytes t)
 
 -- that was done, and the answer has a picture just if it is to be printed
-pub record IsDrawn {P : Type 0} (draws : P → List ℕ → List ℕ → P → Type 0) (s : P) (path : Option (List ℕ)) (prints : Bool) (picture : Option (List ℕ)) (t : P) : Type 0 where
+pub record IsDrawn {P : Type 0} (draws : P → List ℕ → List ℕ → P → Type 0) (s : P) (path : Option (List ℕ)) (prints has_picture : Bool) (t : P) : Type 0 where
   pub written : IsWritten draws s path t
-  pub printed : is_some picture ≡ prints
+  pub printed : has_picture ≡ prints
 
 -- the catalog at this path was read, and this is what it says of losses; then its picture was written or is to be printed, if one was asked for
 pub record DesignsCatalog {P : Type 0} (reads : P → List ℕ → List ℕ → P → Type 0) (draws : P → List ℕ → List ℕ → P → Type 0) (s : P) (path : List ℕ) (lost : Sites) (svg : Option (List ℕ)) (prints : Bool) (designed : Designed) (t : P) : Type 0 where
@@ -106,4 +106,4 @@ pub record DesignsCatalog {P : Type 0} (reads : P → List ℕ → List ℕ → 
   pub reached : P
   pub found : FindsCatalog reads s path catalog reached
   pub is : IsDesign catalog lost designed.design
-  pub drawn : IsDrawn draws reached svg prints designed.picture t
+  pub drawn : IsDrawn draws reached svg prints (is_some designed.picture) t

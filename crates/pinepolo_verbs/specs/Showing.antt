@@ -1,5 +1,5 @@
 -- What the verb `show` does, by what the places and the store say of one call.
-use Rattle.std.specs.Prelude.{◌≡◌, ℕ, Bool, List, [], Option, Some, None}
+use Rattle.std.specs.Prelude.{◌≡◌, ℕ, Bool, List, [], Option, Some, None, is_some}
 use Rattle.cs_schema.specs.CatalogData.{CatalogData}
 use Rattle.cs_schema.specs.FileNames.{surviving, HasName, file_path}
 use Rattle.cs_schema.specs.declared.file_name.FileName.{FileName}
@@ -38,7 +38,7 @@ module _ {P S : Type 0} (reads : P → List ℕ → List ℕ → P → Type 0) (
     pub names : List (List ℕ)
     pub finds : FindsStore reads opens s path view.catalog store reached
     pub listed : lists reached path names looked
-    pub drawn : IsDrawn draws looked svg prints view.picture t
+    pub drawn : IsDrawn draws looked svg prints (is_some view.picture) t
     pub looks : LooksOver gives refuses view.catalog store view.bad.items view.lines.items left
     pub design : IsDesign view.catalog [] view.design
     pub unfinished : leaves t path view.unfinished

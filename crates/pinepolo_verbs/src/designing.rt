@@ -1,5 +1,5 @@
 //! The verb `design`.
-ghost use Rattle.std.specs.Prelude.{IfOk};
+ghost use Rattle.std.specs.Prelude.{IfOk, is_some};
 ghost use Rattle.std.specs.Option.{option_map};
 ghost use Rattle.pinepolo_verbs.specs.Promises.{DesignsCatalog, IsDrawn};
 
@@ -56,7 +56,7 @@ fn draw_design<P: Places + Tables>(
     design: &Design,
     to: Drawn<'_>,
 ) -> Result<Option<String>, VerbError>
-    ensures { IfOk result (λ drawn. IsDrawn P.draws places.old (option_map (λ p. p.now) to.entry.svg) to.entry.prints drawn places.new) }
+    ensures { IfOk result (λ drawn. IsDrawn P.draws places.old (option_map (λ p. p.now) to.entry.svg) to.entry.prints (is_some drawn) places.new) }
 {
     if !to.is_asked() {
         return Ok(None);

@@ -44,7 +44,7 @@ pub fn draw<P: Places + Tables>(
     to: Drawn<'_>,
     text: Result<String, AllocError>,
 ) -> Result<Option<String>, VerbError>
-    ensures { IfOk result (λ picture. IsDrawn P.draws places.old (option_map (λ p. p.now) to.entry.svg) to.entry.prints picture places.new) }
+    ensures { IfOk result (λ picture. IsDrawn P.draws places.old (option_map (λ p. p.now) to.entry.svg) to.entry.prints (is_some picture) places.new) }
 {
     let Ok(text) = text else {
         return Err(VerbError::OutOfMemory);

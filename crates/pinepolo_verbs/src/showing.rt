@@ -1,5 +1,5 @@
 //! The verb `show`.
-ghost use Rattle.std.specs.Prelude.{◌≡◌, IsTrue, IfOk, IfSome};
+ghost use Rattle.std.specs.Prelude.{◌≡◌, IsTrue, IfOk, IfSome, is_some};
 ghost use Rattle.std.specs.Option.{option_map};
 ghost use Rattle.cs_schema.specs.FileNames.{HasName, file_path};
 ghost use Rattle.cs_parallel_io.specs.Standing.{standing};
@@ -77,7 +77,7 @@ fn draw_store<P: Places + Tables>(
     bad: &[(FileName, Badness)],
     to: Drawn<'_>,
 ) -> Result<Option<String>, VerbError>
-    ensures { IfOk result (λ drawn. IsDrawn P.draws places.old (option_map (λ p. p.now) to.entry.svg) to.entry.prints drawn places.new) }
+    ensures { IfOk result (λ drawn. IsDrawn P.draws places.old (option_map (λ p. p.now) to.entry.svg) to.entry.prints (is_some drawn) places.new) }
 {
     if !to.is_asked() {
         return Ok(None);

@@ -1,4 +1,4 @@
-use Rattle.std.proofs.Common.{refl, ◌∙◌}
+use Rattle.std.proofs.Common.{refl}
 use Rattle.cs_csv.specs.Writing.{table_text}
 use Rattle.cs_tables.proofs.LoadedTableLemmas.{even-columns}
 use Rattle.cs_tables.proofs.dumping.dump.Goals as goal

@@ -1,4 +1,3 @@
-use Rattle.std.proofs.Common.{◌∙◌}
 use Rattle.cs_tables.proofs.LoadLemmas.{rows-refused, text-refused}
 use Rattle.cs_tables.proofs.LoadedTableLemmas.{table-columns}
 use Rattle.cs_tables.proofs.loading.load.Goals as goal

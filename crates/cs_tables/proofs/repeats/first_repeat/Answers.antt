@@ -1,7 +1,6 @@
-use Rattle.std.proofs.Common.{◌≡◌, ◌<◌, length, arith, sym}
+use Rattle.std.proofs.Common.{arith, sym}
 use Rattle.std.proofs.lemmas.Option.{get_or_from_slice_get, none-some}
 use Rattle.std.specs.Prelude.{pos}
-use Rattle.cs_schema.specs.Rows.{cell}
 use Rattle.cs_schema.specs.Values.{values}
 use Rattle.cs_schema.specs.declared.cells.Value.{Value}
 use Rattle.cs_tables.proofs.RepeatLemmas.{seen-more}

@@ -1,3 +1,4 @@
+use Rattle.std.proofs.Common.{rules}
 use Rattle.cs_csv.proofs.OutcomeLemmas.{if-ok-then}
 use Rattle.pinepolo_verbs.proofs.loading.load.Goals as goal
 
@@ -11,5 +12,6 @@ returns g c = if-ok-then c.make_store.result _ _ (λ store h. record {
   says = c.in-Ok.ensures.ok.1;
   loaded = c.in-Ok-read_table.loaded;
   table = c.in-Ok-read_table.ensures;
+  count = search rules;
   makes = h;
 }) c.make_store.ensures

@@ -1,17 +1,19 @@
-use Rattle.std.proofs.Common.{◌≡◌, ◌<◌, ◌≤◌, ℕ, List, length, get_or, true, false, ap, sym, arith, ◌∙◌}
-use Rattle.std.specs.Prelude.{slice_index, ◌==◌}
-use Rattle.std.specs.List.{filter}
+use Rattle.std.proofs.Common.{◌≡◌, ◌<◌, ◌≤◌, ℕ, List, length, get_or, true, false, refl, ap, sym, arith, ◌∙◌}
+use Rattle.std.specs.Prelude.{slice_index, pos}
 use Rattle.std.proofs.lemmas.Bool.{eq-eqb, ne_eqb}
-use Rattle.std.proofs.lemmas.List.{get_or_read, take_all}
+use Rattle.std.proofs.lemmas.List.{append-nil, get_or_read, take_all}
+use Rattle.std.proofs.lemmas.Option.{get_or_from_slice_get}
 use Rattle.cs_schema.specs.CatalogData.{projection}
-use Rattle.cs_schema.specs.Rows.{Row, cell, segment_of_row}
+use Rattle.cs_schema.specs.Rows.{cell}
 use Rattle.cs_schema.specs.Ranges.{range_of}
 use Rattle.cs_schema.specs.Values.{values}
 use Rattle.cs_rows.specs.WalkedView.{count_of}
 use Rattle.cs_recovery.specs.Columns.{rows_in}
-use Rattle.cs_tables.proofs.CountLemmas.{count-more, first_inside, rows-count}
-use Rattle.cs_tables.proofs.counting.rows_in_range.Goals as goal
-use Rattle.cs_tables.proofs.counting.rows_in_range.Goals.{then-segment_of_cell-s, else-segment_of_cell-s}
+use Rattle.cs_schema.specs.declared.cells.Value.{Value}
+use Rattle.cs_tables.specs.Cutting.{values_in}
+use Rattle.cs_tables.proofs.CountLemmas.{value-more, first_inside, rows-count}
+use Rattle.cs_tables.proofs.cutting.values_in_range.Goals as goal
+use Rattle.cs_tables.proofs.cutting.values_in_range.Goals.{then-segment_of_cell-s+in_ok-push, else-segment_of_cell-s}
 
 pub bounds-rows-first : goal.bounds-rows-first
 bounds-rows-first c =
@@ -46,12 +48,15 @@ loop-row-preserved c =
     let range : c.segment_of_cell.result ≡ range_of (projection C c.args.p).cuts (cell (values (get_or rows first y)) c.loop-row.row) =
     c.segment_of_cell.ensures.range ∙ ap (λ x. range_of (projection C c.args.p).cuts (cell (values x) c.loop-row.row)) c.index-rows-first.is in
     elim c.if-segment_of_cell-s.branch [
-      | then-segment_of_cell-s w ↦
-          let more = count-more C c.args.p c.args.s rows y first c.loop-row.row is within there c.loop-row.count true c.loop-row.invariant.is (eq-eqb _ c.args.s (sym range ∙ w.if-segment_of_cell-s.true)) in
-          record { bound = omega (arith, w.count-is); is = w.count-is ∙ more }
+      | then-segment_of_cell-s+in_ok-push w ↦
+          let v = w.cell.result in
+          let is_v : cell (values (get_or rows first y)) c.loop-row.row ≡ v = ap (λ x. cell (values x) c.loop-row.row) (sym c.index-rows-first.is) ∙ get_or_from_slice_get (values c.index-rows-first.result) c.loop-row.row v (Value.Int (pos 0)) w.cell.ensures.value in
+          let more = value-more C c.args.p c.args.s rows y first c.loop-row.row is within there c.loop-row.found.items true v c.loop-row.invariant (eq-eqb _ c.args.s (sym range ∙ w.if-segment_of_cell-s.true)) is_v in
+          ap (λ f. f.items) w.found-is ∙ w.in_ok-push.ensures.items ∙ more
       | else-segment_of_cell-s w ↦
-          let more = count-more C c.args.p c.args.s rows y first c.loop-row.row is within there c.loop-row.count false c.loop-row.invariant.is (ne_eqb _ c.args.s (λ e. w.if-segment_of_cell-s.false (range ∙ e))) in
-          record { bound = omega (arith, w.count-is); is = omega (arith, w.count-is, more) }
+          let v = cell (values (get_or rows first y)) c.loop-row.row in
+          let more = value-more C c.args.p c.args.s rows y first c.loop-row.row is within there c.loop-row.found.items false v c.loop-row.invariant (ne_eqb _ c.args.s (λ e. w.if-segment_of_cell-s.false (range ∙ e))) refl in
+          ap (λ f. f.items) w.found-is ∙ sym (append-nil c.loop-row.found.items) ∙ more
     ]
 
 pub returns : goal.returns
@@ -69,4 +74,4 @@ returns c =
     let y = c.index-rows-first.result in
     let size : length (values (get_or rows first y)) ≡ count_of rows = c.requires.columns.even first y inside in
     let all : length (rows_in rows) ≤ c.loop-row.row = omega (arith, size, ap (λ x. length (values x)) c.index-rows-first.is, rows-count rows) in
-    c.loop-row.invariant.is ∙ ap (λ (l : List Row). length (filter (λ row. segment_of_row C c.args.p row == c.args.s) l)) (take_all c.loop-row.row (rows_in rows) all)
+    c.loop-row.invariant ∙ ap (values_in C c.args.p c.args.s) (take_all c.loop-row.row (rows_in rows) all)
