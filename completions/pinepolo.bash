@@ -6,22 +6,22 @@ _pinepolo() {
         return
     fi
     case ${COMP_WORDS[1]} in
-    check) words="--k --sites --workers --quiet --json --help" ;;
-    show) words="--sites --quiet --json --svg --help" ;;
-    diagnose) words="--at-most --disputes --manifest --sites --workers --quiet --json --help" ;;
-    drill) words="--lose --sites --workers --quiet --json --help" ;;
-    recover) words="--sites --workers --quiet --json --help" ;;
-    restore) words="--dry-run --accept-loss --resume --sites --to --workers --quiet --json --help" ;;
-    undo) words="--resume --sites --quiet --json --help" ;;
-    manifest) words="--site --sites --help" ;;
-    verify) words="--manifest --site --sites --json --help" ;;
-    design) words="--lost --sites --json --svg --help" ;;
-    load) words="--sites --workers --quiet --json --replace-partial --help" ;;
-    dump) words="--lost --sites --workers --quiet --help" ;;
-    relayout) words="--lost --sites --new-sites --workers --quiet --json --replace-partial --help" ;;
+    check) words="--k --sites -j --workers -q --quiet --json -h --help" ;;
+    show) words="--sites -q --quiet --json --svg -h --help" ;;
+    diagnose) words="--at-most --disputes --manifest --sites -j --workers -q --quiet --json -h --help" ;;
+    drill) words="--at-most --lose --sites -j --workers -q --quiet --json -h --help" ;;
+    recover) words="--sites -j --workers -q --quiet --json -h --help" ;;
+    restore) words="-n --dry-run --accept-loss --resume --sites --to -j --workers -q --quiet --json -h --help" ;;
+    undo) words="--resume --sites -q --quiet --json -h --help" ;;
+    manifest) words="--site --sites -q --quiet --json -h --help" ;;
+    verify) words="--manifest --site --sites -q --quiet --json -h --help" ;;
+    design) words="--lost --sites -q --quiet --json --svg -h --help" ;;
+    load) words="--sites -j --workers -q --quiet --json --records --replace-partial -h --help" ;;
+    dump) words="--lost --sites -j --workers -q --quiet --json -h --help" ;;
+    relayout) words="--lost --sites --new-sites -j --workers -q --quiet --json --replace-partial -h --help" ;;
     esac
     case ${COMP_WORDS[COMP_CWORD-1]} in
-    --at-most|--disputes|--k|--lose|--lost|--site|--to|--workers) return ;;
+    --at-most|--disputes|--k|--lose|--lost|--records|--site|--to|--workers|-j) return ;;
     --manifest|--new-sites|--sites|--svg|=) words= ;;
     esac
     mapfile -t COMPREPLY < <(compgen -W "$words" -- "$word"; compgen -f -- "$word")
