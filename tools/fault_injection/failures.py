@@ -23,6 +23,8 @@ FITTING = {"openat": READS, "statx": READS, "read": ("EIO",), "getdents64": ("EI
            "ftruncate": ("EIO",), "fsync": ("EIO", "ENOSPC"), "link": (*CHANGES, "ENOSPC"), "rename": (*CHANGES, "ENOSPC"), "mkdir": WRITES,
            **dict.fromkeys(("unlink", "unlinkat", "rmdir", "chmod", "fchmod", "chown", "fchown"), CHANGES)}
 REMOVALS = ("unlink", "unlinkat", "rmdir")
+# Why a site is away, and what to do then.
+REASONS = re.compile(r": could not .*|^(next|if that cannot be done): .*\n", re.MULTILINE)
 # What only a run that was killed may leave.
 TEMPORARY = re.compile(r"\.restoring$|^RESTORING\.\d+$|\.partial$")
 # Verbs that change no file, by form: each judges or shows a whole store.
@@ -67,8 +69,10 @@ class Reading(IntoNew):
         if self.name == "restore --dry-run" and status == DOUBTFUL:
             return []
         answer = status, MEASURED.sub("#", said)
-        if self.sited and (site := re.match(r"s\d+\b", path)) and answer == self.answer_without(room, site[0]):
-            return []
+        if self.sited and (site := re.match(r"s\d+\b", path)):
+            without = self.answer_without(room, site[0])
+            if (status, REASONS.sub("", answer[1])) == (without[0], REASONS.sub("", without[1])):
+                return []
         return [] if answer == self.answer(room) else [f"status {status}, {first_line(said)}"]
 
 
