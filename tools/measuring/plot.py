@@ -106,7 +106,8 @@ def grid(across: Axis, up: Axis, tick_text: Callable[[float], str]) -> Iterator[
     for value in across.ticks():
         x = across.at(value)
         yield line(x, up.begin, x, up.end, "#d8d8d8")
-        if is_power(value) or value > across.most * 0.999:
+        # the last tick has room for its number if it is not right behind a power
+        if is_power(value) or value > across.most * 0.999 and is_power(value / 5):
             yield text(x, up.begin + 18, rows_text(value))
     for value in up.ticks():
         y = up.at(value)
