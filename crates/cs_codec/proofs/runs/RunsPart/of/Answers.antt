@@ -1,16 +1,7 @@
 use Rattle.std.proofs.Common.{◌≡◌, ◌-◌, ◌∷◌, [], ◌++◌, length, take, drop, sym, ap, ◌∙◌, arith}
-use Rattle.cs_codec.proofs.ColumnRanges.{range_size}
-use Rattle.cs_codec.proofs.RunColumns.{cell_at, range_more}
+use Rattle.cs_codec.proofs.ColumnRanges.{range_more, range_size}
+use Rattle.cs_codec.proofs.RunColumns.{cell_at}
 use Rattle.cs_codec.proofs.runs.RunsPart.of.Goals as goal
-
-pub lone_bits-requires-clause-order : goal.lone_bits-requires-clause-order
-lone_bits-requires-clause-order g c = c.requires.order
-
-pub lone_bits-requires-clause-within : goal.lone_bits-requires-clause-within
-lone_bits-requires-clause-within g c = c.requires.within
-
-pub returns-in-Some : goal.returns-in-Some
-returns-in-Some g c = sym c.in-Some.ensures.cell
 
 pub push_run-requires-clause-at : goal.push_run-requires-clause-at
 push_run-requires-clause-at g c = omega (arith, c.requires.within, c.loop-at-test.true)
@@ -25,8 +16,8 @@ push_run-requires-clause-short g c =
 pub push_run-requires-clause-runs : goal.push_run-requires-clause-runs
 push_run-requires-clause-runs g c = c.loop-at.invariant.runs
 
-pub invariant_of-result-2 : goal.invariant_of-result-2
-invariant_of-result-2 g c =
+pub invariant_of-result : goal.invariant_of-result
+invariant_of-result g c =
     let xs = g.L.Column.cells c.args.column.now in
     let end : c.loop-at.at ≡ c.args.to = omega (arith, c.requires.order, c.loop-at-test.false) in
     let size = ap length (c.loop-at.invariant.cells ∙ ap (λ k. take (k - c.args.from) (drop c.args.from xs)) end) ∙ range_size xs c.args.from c.args.to c.requires.within in
@@ -48,6 +39,6 @@ loop-at-preserved g c =
     record {
       cells = c.in_ok-push_run.ensures.cells x.cell x.is
           ∙ ap (λ z. z ++ x.cell ∷ []) c.loop-at.invariant.cells
-          ∙ range_more xs c.args.from c.loop-at.at x.cell (omega arith) x.is;
+          ∙ sym (range_more xs c.args.from c.loop-at.at x.cell (omega arith) x.is);
       runs = c.in_ok-push_run.ensures.runs;
     }
