@@ -1,5 +1,5 @@
 //! A file system that notes what the system said of each call that fails, and tells how far work has come.
-ghost use Rattle.std.specs.Prelude.{◌≡◌};
+ghost use Rattle.std.specs.Prelude.{◌≡◌, ⊤};
 
 use crate::failed_calls::{FailedCalls, Operation};
 use crate::watching::{FileStep, Watch};
@@ -13,12 +13,24 @@ use std::sync::Arc;
 use std::time::{Clock, Duration};
 
 /// A file system whose calls that fail are noted; it does what the system's does.
-#[derive(Clone, Copy, Drop)]
+#[derive(Drop)]
 pub struct NotedFiles<'a, R, W> {
     pub rt: R,
     pub calls: &'a Arc<FailedCalls>,
     /// Who is told how far work on files has come.
     pub watch: &'a W,
+}
+
+impl<'a, R: Copy, W> Copy for NotedFiles<'a, R, W> {}
+
+impl<'a, R: Copy, W> Clone for NotedFiles<'a, R, W> {
+    ghost is_clone = { λ x y. y ≡ x };
+
+    ghost is_infallible = { λ _. ⊤ };
+
+    fn clone(&self) -> Result<Self, AllocError> {
+        Ok(*self)
+    }
 }
 
 /// Files of which each call that fails is noted, and whoever watches is told.

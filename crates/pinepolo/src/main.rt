@@ -3,7 +3,7 @@
 //! `pinepolo_run` has the verbs; here they get the system's arguments, folders and streams.
 #![tactic(auto)]
 
-use cs_file_system::{FailedCalls, FileStep, NotedFiles, Watch};
+use cs_file_system::{FailedCalls, NotedFiles};
 use pinepolo_args::parse;
 use pinepolo_folders::{Folders, SitedRequest, now};
 use pinepolo_progress::ProgressLine;
@@ -19,18 +19,6 @@ const PROGRAM: &str = "pinepolo 2.0.0";
 
 /// The number of processors if the system does not say.
 const ONE_PROCESSOR: u32 = 1;
-
-/// Nobody who is told of files: the line of progress moves by rounds of tasks alone.
-#[derive(Clone, Copy)]
-struct Untold;
-
-impl Watch for Untold {
-    fn expects(&self, _bytes: u64) {}
-
-    fn begins(&self, _step: FileStep, _site: Option<u8>) {}
-
-    fn moves(&self, _bytes: u64) {}
-}
 
 /// No call on a file failed so far.
 fn no_failed_calls(alloc: Global) -> Result<Arc<FailedCalls>, AllocError> {
@@ -92,7 +80,7 @@ fn main(rt: HostRuntime) -> ExitCode {
     let files = NotedFiles {
         rt,
         calls: &calls,
-        watch: &Untold,
+        watch: &gate,
     };
     let mut places = Folders::new(alloc, files);
     let time = now(alloc, &rt).ok();
