@@ -29,7 +29,11 @@ impl<'a, R: Copy, W> Clone for NotedFiles<'a, R, W> {
     ghost is_infallible = { λ _. ⊤ };
 
     fn clone(&self) -> Result<Self, AllocError> {
-        Ok(*self)
+        Ok(NotedFiles {
+            rt: self.rt,
+            calls: self.calls,
+            watch: self.watch,
+        })
     }
 }
 
