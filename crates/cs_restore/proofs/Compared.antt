@@ -9,7 +9,7 @@ use Rattle.cs_shelf.specs.Shelf.{IsAmong}
 use Rattle.cs_restore.specs.Placing.{AddsStep, IsThere, OthersWereRead, WasRead}
 use Rattle.cs_restore.specs.declared.step.Step.{Step}
 use Rattle.cs_restore.specs.declared.step.What.TheVariants.{Same}
-use Rattle.cs_restore.proofs.Among.{among_more, among_last}
+use Rattle.cs_shelf.proofs.Among.{among_more, among_last}
 use Rattle.cs_restore.proofs.Places.{has_place}
 
 -- a name is among the changes, or what the answer has under it was read there

@@ -1,8 +1,7 @@
 mod Backs
-mod Comes
+pub mod Comes
 mod UndoLoop
 mod Again
-mod Among
 mod Compared
 mod Finished
 mod Found

@@ -2,13 +2,13 @@
 use Rattle.std.proofs.Common.{◌≡◌, ℕ, ◌+◌, ◌≤◌, List, Some, length, inl, inr, ⊎_elim, refl, slice_get, arith}
 use Rattle.cs_schema.specs.declared.file_name.FileName.{FileName}
 use Rattle.cs_store.specs.FileSet.{Files}
-use Rattle.cs_shelf.specs.Shelf.{Elapses, Follows, HasCopies, IsNoMore, KeepsOld, LeavesOnly}
+use Rattle.cs_shelf.specs.Shelf.{AddsCopies, CanUndo, Elapses, Follows, HasOld, IsNoMore, Keeps, KeepsEach, Kept, LeavesOnly}
 use Rattle.cs_restore.specs.Placing.{HasOne, IsOldOrPartOver, IsPartOf, IsPartOver, IsPutOver, MayHaveOne, OthersAreThere, TouchesOnly}
 use Rattle.cs_shelf.proofs.Moments.{started, goes_on, then_run}
 use Rattle.cs_shelf.proofs.Steps.{no_more, weaker}
 use Rattle.cs_restore.proofs.Parts.{HasFirst, first_none, first_more, first_all, part_none, part_more, may_touch, as_touched}
 
-module _ {S : Type 0} (holds may_leave kept : S → Files → Type 0) (moment : S → ℕ) (left_since : S → ℕ → Files → Type 0) (faults : S → ℕ) (out : Files) (names : List FileName) (s : S) where
+module _ {S : Type 0} (holds may_leave : S → Files → Type 0) (kept : S → Kept → Type 0) (moment : S → ℕ) (left_since : S → ℕ → Files → Type 0) (faults : S → ℕ) (out : Files) (names : List FileName) (s : S) where
   -- the first i files stand in place in what is held, and what a stop leaves or left is a part
   pub record SoFar (i : ℕ) (t : S) : Type 0 where
     pub held : Follows (HasFirst out names i) (holds s) (holds t)
@@ -83,7 +83,7 @@ module _ {S : Type 0} (holds may_leave kept : S → Files → Type 0) (moment : 
 
 -- ---- the old files are kept first
 
-module _ {S : Type 0} (holds may_leave kept : S → Files → Type 0) (moment : S → ℕ) (left_since : S → ℕ → Files → Type 0) (out : Files) (names : List FileName) (s t : S)
+module _ {S : Type 0} (holds may_leave : S → Files → Type 0) (kept : S → Kept → Type 0) (moment : S → ℕ) (left_since : S → ℕ → Files → Type 0) (out : Files) (names : List FileName) (s t : S)
     (same : IsNoMore (holds s) (holds t)) (stop : IsNoMore (may_leave s) (may_leave t)) (time : Elapses (moment s) (moment t) (left_since s) (left_since t) (may_leave t)) (only_now : (c : Files) → left_since s (moment s) c → may_leave s c) where
   pub kept_moments : LeavesOnly moment left_since s t (IsOldOrPartOver out (holds s) (may_leave s))
   kept_moments = goes_on moment left_since s s t (IsOldOrPartOver out (holds s) (may_leave s)) (may_leave t) (started moment left_since s (IsOldOrPartOver out (holds s) (may_leave s)) (λ c was. inl (only_now c was))) time (λ c now. inl (stop c now))
@@ -91,8 +91,8 @@ module _ {S : Type 0} (holds may_leave kept : S → Files → Type 0) (moment : 
   pub old_part : Follows (IsPartOf out) (holds s) (holds t)
   old_part c now = (c, same c now, part_none out c)
 
-  pub old_kept : KeepsOld (holds s) (holds t) (kept t)
-  old_kept c now = (c, same c now, λ k kk n. inl refl)
+  pub old_kept : Follows (AddsCopies (holds s)) (kept s) (kept t) → Keeps HasOld (holds s) (holds t) (kept s) (kept t)
+  old_kept copies c now = (c, same c now, λ k kk. let from = copies k kk in (from.0, from.1, λ n. inl refl))
 
   pub others_there : OthersAreThere out names (holds s) → OthersAreThere out names (holds t)
   others_there others d now = others d (same d now)
@@ -104,7 +104,24 @@ module _ {S : Type 0} (holds may_leave kept : S → Files → Type 0) (moment : 
     pub then_part : Follows (TouchesOnly out names) (holds t) (holds u) → Follows (IsPartOf out) (holds s) (holds u)
     then_part follows c now = let from = follows c now in (from.0, same from.0 from.1, from.2.part)
 
-    pub then_kept : HasCopies names (holds s) (kept t) → IsNoMore (kept t) (kept u) → Follows (TouchesOnly out names) (holds t) (holds u) → KeepsOld (holds s) (holds u) (kept u)
-    then_kept copies none follows c now =
-        let from = follows c now in
-        (from.0, same from.0 from.1, λ k kk n. ⊎_elim (λ old. inl old) (λ among. inr (λ some. copies k (none k kk) from.0 (same from.0 from.1) among.0 n among.1 some)) (from.2.touched n))
+    pub then_undoable : Follows (KeepsEach names (holds s)) (kept s) (kept t) → IsNoMore (kept t) (kept u) → Follows (TouchesOnly out names) (holds t) (holds u) → Keeps CanUndo (holds s) (holds u) (kept s) (kept u)
+    then_undoable keeps none follows c now =
+        let from = follows c now in (
+          from.0,
+          same from.0 from.1,
+          λ k kk.
+              let before = keeps k (none k kk) in
+              let each = before.2 from.0 (same from.0 from.1) in (
+                before.0,
+                before.1,
+                record {
+                  old = λ n. ⊎_elim (λ old. inl old) (λ among. inr (each.noted n among, each.each n among)) (from.2.touched n);
+                  noted = λ n noted. ⊎_elim (λ was. inl was) (λ one. inr (each.each n one)) (each.only n noted);
+                },
+              ),
+        )
+
+    pub then_kept : Follows (KeepsEach names (holds s)) (kept s) (kept t) → IsNoMore (kept t) (kept u) → Follows (TouchesOnly out names) (holds t) (holds u) → Keeps HasOld (holds s) (holds u) (kept s) (kept u)
+    then_kept keeps none follows c now =
+        let from = then_undoable keeps none follows c now in
+        (from.0, from.1, λ k kk. let before = from.2 k kk in (before.0, before.1, before.2.old))

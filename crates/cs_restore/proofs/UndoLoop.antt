@@ -2,13 +2,13 @@
 use Rattle.std.proofs.Common.{◌≡◌, ℕ, ◌+◌, ◌≤◌, List, Some, length, inl, inr, ⊎_elim, refl, slice_get, arith}
 use Rattle.cs_schema.specs.declared.file_name.FileName.{FileName}
 use Rattle.cs_store.specs.FileSet.{Files}
-use Rattle.cs_shelf.specs.Shelf.{Elapses, Follows, HasCopies, IsNoMore, KeepsOld, LeavesOnly}
+use Rattle.cs_shelf.specs.Shelf.{AddsCopies, CanUndo, Elapses, Follows, HasOld, IsNoMore, Keeps, KeepsEach, Kept, LeavesOnly}
 use Rattle.cs_shelf.proofs.Moments.{started, goes_on, then_run}
 use Rattle.cs_shelf.proofs.Steps.{from_more, no_more, weaker}
 use Rattle.cs_restore.specs.Undoing.{IsBack, IsOldOrPartBackOf, IsOneBack, IsPartBack, IsPartBackOf, MayBeOneBack}
 use Rattle.cs_restore.proofs.Backs.{HasFirst, first_none, first_more, first_all, part_none, part_more}
 
-module _ {S : Type 0} (holds may_leave kept : S → Files → Type 0) (moment : S → ℕ) (left_since : S → ℕ → Files → Type 0) (faults : S → ℕ) (back : Files) (names : List FileName) (s : S) where
+module _ {S : Type 0} (holds may_leave : S → Files → Type 0) (kept : S → Kept → Type 0) (moment : S → ℕ) (left_since : S → ℕ → Files → Type 0) (faults : S → ℕ) (back : Files) (names : List FileName) (s : S) where
   -- the first i names are back in what is held, and what a stop leaves or left is a part
   pub record SoFar (i : ℕ) (t : S) : Type 0 where
     pub held : Follows (HasFirst back names i) (holds s) (holds t)
@@ -80,7 +80,7 @@ module _ {S : Type 0} (holds may_leave kept : S → Files → Type 0) (moment : 
 
 -- ---- what is replaced is kept first
 
-module _ {S : Type 0} (holds may_leave kept : S → Files → Type 0) (moment : S → ℕ) (left_since : S → ℕ → Files → Type 0) (back : Files) (names : List FileName) (s t : S)
+module _ {S : Type 0} (holds may_leave : S → Files → Type 0) (kept : S → Kept → Type 0) (moment : S → ℕ) (left_since : S → ℕ → Files → Type 0) (back : Files) (names : List FileName) (s t : S)
     (same : IsNoMore (holds s) (holds t)) (stop : IsNoMore (may_leave s) (may_leave t)) (time : Elapses (moment s) (moment t) (left_since s) (left_since t) (may_leave t)) (only_now : (c : Files) → left_since s (moment s) c → may_leave s c) where
   pub kept_moments : LeavesOnly moment left_since s t (IsOldOrPartBackOf back names (holds s) (may_leave s))
   kept_moments = goes_on moment left_since s s t (IsOldOrPartBackOf back names (holds s) (may_leave s)) (may_leave t) (started moment left_since s (IsOldOrPartBackOf back names (holds s) (may_leave s)) (λ c was. inl (only_now c was))) time (λ c now. inl (stop c now))
@@ -88,8 +88,8 @@ module _ {S : Type 0} (holds may_leave kept : S → Files → Type 0) (moment : 
   pub old_part : Follows (IsPartBack back names) (holds s) (holds t)
   old_part c now = (c, same c now, part_none back names c)
 
-  pub old_kept : KeepsOld (holds s) (holds t) (kept t)
-  old_kept c now = (c, same c now, λ k kk n. inl refl)
+  pub old_kept : Follows (AddsCopies (holds s)) (kept s) (kept t) → Keeps HasOld (holds s) (holds t) (kept s) (kept t)
+  old_kept copies c now = (c, same c now, λ k kk. let from = copies k kk in (from.0, from.1, λ n. inl refl))
 
   module _ (u : S) (synced : IsNoMore (holds s) (may_leave t)) where
     pub then_moments : LeavesOnly moment left_since t u (IsPartBackOf back names (may_leave t)) → LeavesOnly moment left_since s u (IsOldOrPartBackOf back names (holds s) (may_leave s))
@@ -98,7 +98,24 @@ module _ {S : Type 0} (holds may_leave kept : S → Files → Type 0) (moment : 
     pub then_part : Follows (IsPartBack back names) (holds t) (holds u) → Follows (IsPartBack back names) (holds s) (holds u)
     then_part follows = from_more (IsPartBack back names) (holds s) (holds t) (holds u) same follows
 
-    pub then_kept : HasCopies names (holds s) (kept t) → IsNoMore (kept t) (kept u) → Follows (IsPartBack back names) (holds t) (holds u) → KeepsOld (holds s) (holds u) (kept u)
-    then_kept copies none follows c now =
-        let from = follows c now in
-        (from.0, same from.0 from.1, λ k kk n. ⊎_elim (λ old. inl old) (λ new. inr (λ some. copies k (none k kk) from.0 (same from.0 from.1) new.0.0 n new.0.1 some)) (from.2 n))
+    pub then_undoable : Follows (KeepsEach names (holds s)) (kept s) (kept t) → IsNoMore (kept t) (kept u) → Follows (IsPartBack back names) (holds t) (holds u) → Keeps CanUndo (holds s) (holds u) (kept s) (kept u)
+    then_undoable keeps none follows c now =
+        let from = follows c now in (
+          from.0,
+          same from.0 from.1,
+          λ k kk.
+              let before = keeps k (none k kk) in
+              let each = before.2 from.0 (same from.0 from.1) in (
+                before.0,
+                before.1,
+                record {
+                  old = λ n. ⊎_elim (λ old. inl old) (λ new. inr (each.noted n new.0, each.each n new.0)) (from.2 n);
+                  noted = λ n noted. ⊎_elim (λ was. inl was) (λ one. inr (each.each n one)) (each.only n noted);
+                },
+              ),
+        )
+
+    pub then_kept : Follows (KeepsEach names (holds s)) (kept s) (kept t) → IsNoMore (kept t) (kept u) → Follows (IsPartBack back names) (holds t) (holds u) → Keeps HasOld (holds s) (holds u) (kept s) (kept u)
+    then_kept keeps none follows c now =
+        let from = then_undoable keeps none follows c now in
+        (from.0, from.1, λ k kk. let before = from.2 k kk in (before.0, before.1, before.2.old))

@@ -5,7 +5,7 @@ use Rattle.cs_schema.specs.CatalogRules.{IsCatalog}
 use Rattle.cs_schema.specs.Losses.{Sites}
 use Rattle.cs_schema.specs.declared.file_name.FileName.{FileName}
 use Rattle.cs_store.specs.FileSet.{Files}
-use Rattle.cs_shelf.specs.Shelf.{AddsCopies, ChangesNothing, Follows, KeepsOld, LeavesOnly}
+use Rattle.cs_shelf.specs.Shelf.{AddsCopies, ChangesNothing, Follows, HasOld, Keeps, Kept, LeavesOnly}
 use Rattle.cs_restore.specs.Placing.{IsOldOrPartOver, IsPartOf, IsPutOver}
 use Rattle.cs_restore.specs.Restoring.{IsFinished, IsOldOrPart, MayBeLeft, PlansFor, PlansRestore}
 use Rattle.cs_restore.proofs.Finished.{finished}
@@ -15,7 +15,7 @@ use Rattle.cs_shelf.proofs.Moments.{nothing_changed, runs_weaker, then_run}
 pub plans_held : (C : CatalogData) (L : Sites) (out : Files) (changes : List FileName) (held : Files → Type 0) → ((d : Files) → held d → PlansFor C L out changes d) → PlansRestore C L held out changes
 plans_held C L out changes held each = record { answers = λ d now. (each d now).answers; others = λ d now n. (each d now).others n }
 
-module _ {S : Type 0} (holds may_leave kept : S → Files → Type 0) (moment : S → ℕ) (left_since : S → ℕ → Files → Type 0) (C : CatalogData) (L : Sites)
+module _ {S : Type 0} (holds may_leave : S → Files → Type 0) (kept : S → Kept → Type 0) (moment : S → ℕ) (left_since : S → ℕ → Files → Type 0) (C : CatalogData) (L : Sites)
     (s t : S) (only_now : (c : Files) → left_since s (moment s) c → may_leave s c) (still : ChangesNothing holds may_leave kept moment left_since s t) where
   -- nothing changed
   pub nothing_moments : LeavesOnly moment left_since s t (MayBeLeft C L (holds s) (may_leave s))
@@ -24,8 +24,8 @@ module _ {S : Type 0} (holds may_leave kept : S → Files → Type 0) (moment : 
   pub nothing_held : Follows (IsOldOrPart C L) (holds s) (holds t)
   nothing_held c now = (c, still.held c now, inl refl)
 
-  pub nothing_lost : KeepsOld (holds s) (holds t) (kept t)
-  nothing_lost c now = (c, still.held c now, λ k kk n. inl refl)
+  pub nothing_lost : Keeps HasOld (holds s) (holds t) (kept s) (kept t)
+  nothing_lost c now = (c, still.held c now, λ k kk. (k, still.copies k kk, λ n. inl refl))
 
   pub nothing_copied : Follows (AddsCopies (holds s)) (kept s) (kept t)
   nothing_copied k now = (k, still.copies k now, λ n. inl refl)
@@ -39,8 +39,10 @@ module _ {S : Type 0} (holds may_leave kept : S → Files → Type 0) (moment : 
     pub put_held : Follows (IsPartOf out) (holds t) (holds u) → Follows (IsOldOrPart C L) (holds s) (holds u)
     put_held part c now = let from = part c now in (from.0, still.held from.0 from.1, inr (out, plan.answers from.0 from.1, from.2))
 
-    pub put_kept : KeepsOld (holds t) (holds u) (kept u) → KeepsOld (holds s) (holds u) (kept u)
-    put_kept keeps c now = let from = keeps c now in (from.0, still.held from.0 from.1, from.2)
+    pub put_kept : (made : Files → Files → Kept → Kept → Type 0) → Keeps made (holds t) (holds u) (kept t) (kept u) → Keeps made (holds s) (holds u) (kept s) (kept u)
+    put_kept made keeps c now =
+        let from = keeps c now in
+        (from.0, still.held from.0 from.1, λ k kk. let before = from.2 k kk in (before.0, still.copies before.0 before.1, before.2))
 
     pub put_copies : Follows (AddsCopies (holds t)) (kept t) (kept u) → Follows (AddsCopies (holds s)) (kept s) (kept u)
     put_copies copies k now =
@@ -64,8 +66,8 @@ module _ {S : Type 0} (holds may_leave kept : S → Files → Type 0) (moment : 
       pub back_held : Follows (IsPartOf out) (holds t) (holds u) → Follows (IsOldOrPart C L) (holds s) (holds v)
       back_held part c now = put_held part c (back.held c now)
 
-      pub back_kept : KeepsOld (holds t) (holds u) (kept u) → KeepsOld (holds s) (holds v) (kept v)
-      back_kept keeps c now = let from = put_kept keeps c (back.held c now) in (from.0, from.1, λ k kk. from.2 k (back.copies k kk))
+      pub back_kept : (made : Files → Files → Kept → Kept → Type 0) → Keeps made (holds t) (holds u) (kept t) (kept u) → Keeps made (holds s) (holds v) (kept s) (kept v)
+      back_kept made keeps c now = let from = put_kept made keeps c (back.held c now) in (from.0, from.1, λ k kk. from.2 k (back.copies k kk))
 
       pub back_copies : Follows (AddsCopies (holds t)) (kept t) (kept u) → Follows (AddsCopies (holds s)) (kept s) (kept v)
       back_copies copies k now = put_copies copies k (back.copies k now)

@@ -2,7 +2,7 @@
 use Rattle.std.specs.Prelude.{◌≡◌, ◌⊎◌, List}
 use Rattle.cs_schema.specs.declared.file_name.FileName.{FileName}
 use Rattle.cs_store.specs.FileSet.{Files, contents_of}
-use Rattle.cs_shelf.specs.Shelf.{IsAmong}
+use Rattle.cs_shelf.specs.Shelf.{CanUndo, IsAmong, Kept, nothing_kept}
 
 -- each of these names has what it had before, a file or none, and no other changed
 pub record IsBack (back : Files) (names : List FileName) (d c : Files) : Type 0 where
@@ -30,13 +30,10 @@ IsPartBackOf back names old c = (d : Files) × old d × IsPartBack back names d 
 abbrev pub IsOldOrPartBackOf : Files → List FileName → (Files → Type 0) → (Files → Type 0) → Files → Type 0
 IsOldOrPartBackOf back names held left c = left c ⊎ IsPartBackOf back names held c
 
--- A store was d and became c, which changed none but these names, and what d had under them was kept. An undo of c comes
--- to what d had under every name.
+-- Work that began with nothing kept made c of d, and was finished. An undo by what is kept comes to what d had under every name.
 abbrev pub UndoBringsBack : Type 0
 UndoBringsBack =
-    (d c back e : Files) (names : List FileName) → ((n : FileName) → (contents_of c n ≡ contents_of d n) ⊎ IsAmong names n)
-    → ((n : FileName) → IsAmong names n → contents_of back n ≡ contents_of d n)
-    → IsBack back names c e → (n : FileName) → contents_of e n ≡ contents_of d n
+    (d c e : Files) (k : Kept) → CanUndo d c nothing_kept k → IsBack k.files k.names c e → (n : FileName) → contents_of e n ≡ contents_of d n
 
 -- Where an undo of d stopped, whatever it left, an undo of that comes to what one without the stop comes to.
 abbrev pub StoppedUndoGoesOn : Type 0

@@ -2,7 +2,7 @@
 ghost use Rattle.std.specs.Prelude.{◌≡◌, ◌≤◌, IfErr, OnOk, OnErr, IsErrOf};
 ghost use Rattle.cs_store.specs.Fault.{CountsFault, MemoryOr};
 ghost use Rattle.cs_shelf.specs.Faults.{FailsToWrite};
-ghost use Rattle.cs_shelf.specs.Shelf.{AddsCopies, Elapses, Follows, IsNoMore, KeepsOld, LeavesOnly};
+ghost use Rattle.cs_shelf.specs.Shelf.{AddsCopies, CanUndo, Elapses, Follows, HasOld, IsNoMore, Keeps, LeavesOnly};
 ghost use Rattle.cs_restore.specs.Placing.{HasOne, IsOldOrPartOver, IsPartOf, IsPartOver, IsPutOver, MayHaveOne, OthersAreThere, TouchesOnly};
 
 use cs_schema::FileName;
@@ -58,7 +58,8 @@ pub fn exchange<S: Shelf>(answer: &FileSet, names: &[FileName], shelf: &mut S) -
     ensures whole { OnOk result (Follows (IsPutOver answer.now) (S.holds shelf.old) (S.holds shelf.new)) }
     ensures durable { OnOk result (Follows (IsPutOver answer.now) (S.holds shelf.old) (S.may_leave shelf.new)) }
     ensures part { Follows (IsPartOf answer.now) (S.holds shelf.old) (S.holds shelf.new) }
-    ensures kept { KeepsOld (S.holds shelf.old) (S.holds shelf.new) (S.kept shelf.new) }
+    ensures kept { Keeps HasOld (S.holds shelf.old) (S.holds shelf.new) (S.kept shelf.old) (S.kept shelf.new) }
+    ensures undoable { OnOk result (Keeps CanUndo (S.holds shelf.old) (S.holds shelf.new) (S.kept shelf.old) (S.kept shelf.new)) }
     ensures copies { Follows (AddsCopies (S.holds shelf.old)) (S.kept shelf.old) (S.kept shelf.new) }
     ensures any_moment { LeavesOnly S.moment S.left_since shelf.old shelf.new
         (IsOldOrPartOver answer.now (S.holds shelf.old) (S.may_leave shelf.old)) }

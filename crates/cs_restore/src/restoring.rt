@@ -1,7 +1,7 @@
 //! Restores a store in place.
 ghost use Rattle.std.specs.Prelude.{◌≤◌, ◌⊎◌, [], IfOk, IfErr};
 ghost use Rattle.cs_schema.specs.FileNames.{surviving};
-ghost use Rattle.cs_shelf.specs.Shelf.{AddsCopies, ChangesNothing, Follows, IsReadIn, KeepsOld, LeavesOnly};
+ghost use Rattle.cs_shelf.specs.Shelf.{AddsCopies, CanUndo, ChangesNothing, Follows, HasOld, IsReadIn, Keeps, LeavesOnly};
 ghost use Rattle.cs_store.specs.Fault.{MemoryOr};
 ghost use Rattle.cs_shelf.specs.Faults.{FailsToRead, FailsToWrite};
 ghost use Rattle.cs_restore.specs.Refusals.{IsRestoreFault};
@@ -48,7 +48,8 @@ pub fn restore<S: Shelf, R: Threads + Sync, G: Gate + Sync>(
     ensures stopped { Follows (IsOldOrPart catalog.now loss) (S.holds shelf.old) (S.holds shelf.new) }
     ensures any_moment { LeavesOnly S.moment S.left_since shelf.old shelf.new
         (MayBeLeft catalog.now loss (S.holds shelf.old) (S.may_leave shelf.old)) }
-    ensures kept { KeepsOld (S.holds shelf.old) (S.holds shelf.new) (S.kept shelf.new) }
+    ensures kept { Keeps HasOld (S.holds shelf.old) (S.holds shelf.new) (S.kept shelf.old) (S.kept shelf.new) }
+    ensures undoable { IfOk result (λ restored. Keeps CanUndo (S.holds shelf.old) (S.holds shelf.new) (S.kept shelf.old) (S.kept shelf.new)) }
     ensures copies { Follows (AddsCopies (S.holds shelf.old)) (S.kept shelf.old) (S.kept shelf.new) }
     ensures fault { IfErr result (λ fault. MemoryOr fault (IsRestoreFault catalog.now loss read
         (ChangesNothing S.holds S.may_leave S.kept S.moment S.left_since shelf.old shelf.new)

@@ -1,3 +1,4 @@
+pub mod Among
 mod Copies
 pub mod Faults
 pub mod Loads

@@ -9,14 +9,14 @@ use Rattle.cs_store.specs.FileSet.{Files, contents_of}
 use Rattle.cs_store.specs.Load.{Answers, names_of, present, ReadsInTurn, Loads, ReadsSome}
 use Rattle.cs_store.specs.Memory.{held_at}
 use Rattle.cs_store.specs.declared.fault.StoreFault.{StoreFault}
-use Rattle.cs_shelf.specs.Shelf.{ChangesNothing, IsFoundIn}
+use Rattle.cs_shelf.specs.Shelf.{ChangesNothing, IsFoundIn, Kept}
 use Rattle.cs_shelf.proofs.Names.{same_name}
 
 none_either : (b : Bool) (x : Option (List ℕ)) → x ≡ None → (if b then x else None) ≡ None
 none_either true x e = e
 none_either false x e = refl
 
-module _ {S : Type 0} (holds may_leave kept : S → Files → Type 0) (moment : S → ℕ) (left_since : S → ℕ → Files → Type 0) where
+module _ {S : Type 0} (holds may_leave : S → Files → Type 0) (kept : S → Kept → Type 0) (moment : S → ℕ) (left_since : S → ℕ → Files → Type 0) where
   abbrev Still : S → S → Type 0
   Still s t = ChangesNothing holds may_leave kept moment left_since s t
 

@@ -1,7 +1,7 @@
 -- How a run of calls on a shelf goes on.
 use Rattle.std.proofs.Common.{inl, inr, ⊎_elim, ℕ, arith}
 use Rattle.cs_store.specs.FileSet.{Files}
-use Rattle.cs_shelf.specs.Shelf.{ChangesNothing, Elapses, LeavesOnly}
+use Rattle.cs_shelf.specs.Shelf.{ChangesNothing, Elapses, Kept, LeavesOnly}
 
 module _ {S : Type 0} (moment : S → ℕ) (left_since : S → ℕ → Files → Type 0) where
   -- before the first call
@@ -34,7 +34,7 @@ module _ {S : Type 0} (moment : S → ℕ) (left_since : S → ℕ → Files →
   }
 
   -- calls that change nothing
-  pub nothing_changed : (holds may_leave kept : S → Files → Type 0) (old new : S) → ((c : Files) → left_since old (moment old) c → may_leave old c) → ChangesNothing holds may_leave kept moment left_since old new → LeavesOnly moment left_since old new (may_leave old)
+  pub nothing_changed : (holds may_leave : S → Files → Type 0) (kept : S → Kept → Type 0) (old new : S) → ((c : Files) → left_since old (moment old) c → may_leave old c) → ChangesNothing holds may_leave kept moment left_since old new → LeavesOnly moment left_since old new (may_leave old)
   nothing_changed holds may_leave kept old new only still = record {
     later = still.later;
     each = λ c left. ⊎_elim (only c) (λ now. now) (still.before (moment old) c (omega arith) left);

@@ -9,14 +9,14 @@ use Rattle.cs_store.specs.FileSet.{Files, contents_of}
 use Rattle.cs_store.specs.LoadReadable.{Outcome, Outcomes, gave, failed, attempted, found, failures, Attempted, AttemptsInTurn, LoadsReadable, AttemptsSome}
 use Rattle.cs_store.specs.declared.fault.StoreFault.{StoreFault}
 use Rattle.cs_store.specs.declared.fault.StoreFault.TheVariants.{Device, Memory}
-use Rattle.cs_shelf.specs.Shelf.{ChangesNothing, IsReadIn}
+use Rattle.cs_shelf.specs.Shelf.{ChangesNothing, IsReadIn, Kept}
 use Rattle.cs_shelf.proofs.Loads.{still_then, still}
 use Rattle.cs_shelf.proofs.Names.{same_name, ties_itself}
 
 none_some : {X : Type 0} (x : X) → (let o : Option X = None in o) ≡ Some x → ⊥
 none_some x e = cc
 
-module _ {S : Type 0} (holds may_leave kept : S → Files → Type 0) (moment : S → ℕ) (left_since : S → ℕ → Files → Type 0)
+module _ {S : Type 0} (holds may_leave : S → Files → Type 0) (kept : S → Kept → Type 0) (moment : S → ℕ) (left_since : S → ℕ → Files → Type 0)
     (gives : S → FileName → Option (List ℕ) → S → Type 0) (refuses : S → FileName → StoreFault → S → Type 0)
     (finds : (s : S) (name : FileName) (file : Option (List ℕ)) (t : S) → gives s name file t → (c : Files) → holds s c → file ≡ contents_of c name)
     (same : (s : S) (name : FileName) (file : Option (List ℕ)) (t : S) → gives s name file t → ChangesNothing holds may_leave kept moment left_since s t)

@@ -21,6 +21,8 @@ pub struct MemoryShelf {
     pub files: FileSet,
     /// The old files that are kept apart.
     pub kept: FileSet,
+    /// The names that are noted as changing.
+    pub noted: Vec<FileName>,
     /// The contents before each change.
     pub past: Vec<FileSet>,
     pub stop: Option<Stop>,
@@ -29,16 +31,24 @@ pub struct MemoryShelf {
 }
 
 impl MemoryShelf {
-    /// A shelf with these files and these kept copies.
-    pub fn new(alloc: Global, files: FileSet, kept: FileSet, stop: Option<Stop>) -> Self
+    /// A shelf with these files, these kept copies and these noted names.
+    pub fn new(
+        alloc: Global,
+        files: FileSet,
+        kept: FileSet,
+        noted: Vec<FileName>,
+        stop: Option<Stop>,
+    ) -> Self
         ensures files { result.files ≡ files }
         ensures kept { result.kept ≡ kept }
+        ensures noted { result.noted ≡ noted }
         ensures stop { result.stop ≡ stop }
         ensures faults { result.faults ≡ 0 }
     {
         Self {
             files,
             kept,
+            noted,
             past: Vec::new(alloc),
             stop,
             faults: 0,
@@ -76,13 +86,13 @@ impl Source for MemoryShelf {
 
 impl Shelf for MemoryShelf {
     ghost use Rattle.cs_shelf.specs.Memory.{Since, only_files};
-    ghost use Rattle.cs_shelf.specs.MemoryReads.{finds, given_same, refused_same};
+    ghost use Rattle.cs_shelf.specs.MemoryReads.{finds, given_same, kept_in, refused_same};
 
     ghost holds = { λ s c. c ≡ s.files };
 
     ghost may_leave = { λ s c. c ≡ s.files };
 
-    ghost kept = { λ s c. c ≡ s.kept };
+    ghost kept = { λ s k. k ≡ kept_in s };
 
     ghost moment = { λ s. length s.past.items };
 
@@ -105,7 +115,13 @@ impl Shelf for MemoryShelf {
         if course == Course::StopsBefore {
             return Err(StoreFault::Device);
         }
-        match keep_copies(self.alloc, &self.files, &mut self.kept, names) {
+        match keep_copies(
+            self.alloc,
+            &self.files,
+            &mut self.kept,
+            &mut self.noted,
+            names,
+        ) {
             Ok(()) => {}
             Err(fault) => return Err(fault),
         }

@@ -4,7 +4,7 @@ ghost use Rattle.cs_schema.specs.declared.file_name.FileName.{FileName};
 ghost use Rattle.cs_store.specs.declared.fault.StoreFault.{StoreFault};
 ghost use Rattle.cs_store.specs.Fault.{CountsFault};
 ghost use Rattle.cs_store.specs.FileSet.{Files, contents_of};
-ghost use Rattle.cs_shelf.specs.Shelf.{AddsCopies, ChangesNothing, Elapses, Follows, Has, HasCopies, IsNoMore, Lacks, MayHave, MayLack};
+ghost use Rattle.cs_shelf.specs.Shelf.{AddsCopies, ChangesNothing, Elapses, Follows, Has, IsNoMore, KeepsEach, Kept, Lacks, MayHave, MayLack};
 
 use cs_schema::FileName;
 use cs_store::{Source, StoreFault};
@@ -21,8 +21,8 @@ pub trait Shelf: Source {
     /// The contents that a stop at this moment may leave.
     ghost may_leave: { Self → Files → Type 0 };
 
-    /// The old files that are kept apart.
-    ghost kept: { Self → Files → Type 0 };
+    /// The old files that are kept apart, and the names that are noted as changing.
+    ghost kept: { Self → Kept → Type 0 };
 
     /// The current moment, a number that never falls.
     ghost moment: { Self → ℕ };
@@ -30,10 +30,10 @@ pub trait Shelf: Source {
     /// The contents that a stop might have left at any moment since a given one, during a call or between two calls.
     ghost left_since: { Self → ℕ → Files → Type 0 };
 
-    /// Keeps a copy of the file of each of these names, if there is one, before any is replaced or removed. A copy that
-    /// exists already stays as it is. After this call a stop leaves what a read finds.
+    /// Keeps a copy of the file of each of these names, if there is one, before any is replaced or removed, and notes the
+    /// names. A copy that exists already stays as it is. After this call a stop leaves what a read finds.
     fn keep(&mut self, names: &[FileName]) -> Result<(), StoreFault>
-        ensures ok { OnOk result (HasCopies names.now (holds self.old) (kept self.new)) }
+        ensures ok { OnOk result (Follows (KeepsEach names.now (holds self.old)) (kept self.old) (kept self.new)) }
         ensures copies { Follows (AddsCopies (holds self.old)) (kept self.old) (kept self.new) }
         ensures synced { OnOk result (IsNoMore (holds self.old) (may_leave self.new)) }
         ensures same { IsNoMore (holds self.old) (holds self.new) }

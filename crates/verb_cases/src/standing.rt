@@ -44,6 +44,6 @@ impl Standing {
     {
         let files = copy_files(alloc, &self.files)?;
         let kept = copy_files(alloc, &self.kept)?;
-        Ok(MemoryShelf::new(alloc, files, kept, stop))
+        Ok(MemoryShelf::new(alloc, files, kept, Vec::new(alloc), stop))
     }
 }

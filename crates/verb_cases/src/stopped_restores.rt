@@ -67,7 +67,8 @@ pub fn are_same(files: &FileSet, others: &FileSet) -> bool {
 /// The store on a shelf that stops there.
 pub fn shelf_of(trial: &Trial, stop: Option<Stop>) -> Result<MemoryShelf> {
     let none = FileSet::new(trial.alloc)?;
-    Ok(MemoryShelf::new(trial.alloc, damaged(trial)?, none, stop))
+    let noted = Vec::new(trial.alloc);
+    Ok(MemoryShelf::new(trial.alloc, damaged(trial)?, none, noted, stop))
 }
 
 /// Restores what is on the shelf: how many rows it has, unless it was stopped.

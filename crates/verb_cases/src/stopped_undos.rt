@@ -1,11 +1,9 @@
 //! An undo of a restore, with a stop at every call in turn.
 use crate::stopped_restores::{CALLS, Trial, are_same, damaged, restored, shelf_of};
 use anyhow::{Result, anyhow};
-use cs_restore::{names_of, put_back};
-use cs_schema::FileName;
+use cs_restore::put_back;
 use cs_shelf::{MemoryShelf, Stop};
 use cs_store::FileSet;
-use std::alloc::Global;
 use std::marker::Sync;
 use std::thread::Threads;
 use test_support::file_sets::copy_of;
@@ -19,17 +17,6 @@ pub struct Undone {
     pub is_same: bool,
 }
 
-/// The names under which a restore changed something.
-fn changed(alloc: Global, old: &FileSet, new: &FileSet) -> Result<Vec<FileName>> {
-    let mut names = Vec::new(alloc);
-    for name in &names_of(alloc, new)? {
-        if old.get(*name) != new.get(*name) {
-            names.push(*name)?;
-        }
-    }
-    Ok(names)
-}
-
 /// Undoes a restore on a shelf that stops at each call in turn, and each undo again.
 pub fn run_undo<R: Threads + Sync>(rt: &R, trial: &Trial) -> Result<Undone> {
     let alloc = trial.alloc;
@@ -38,7 +25,6 @@ pub fn run_undo<R: Threads + Sync>(rt: &R, trial: &Trial) -> Result<Undone> {
         return Err(anyhow!("refused"));
     }
     let old = damaged(trial)?;
-    let names = changed(alloc, &old, &shelf.files)?;
     let mut undone = Undone {
         stops: 0,
         is_same: true,
@@ -50,13 +36,14 @@ pub fn run_undo<R: Threads + Sync>(rt: &R, trial: &Trial) -> Result<Undone> {
                 takes_effect,
             };
             let files = copy_of(alloc, &shelf.files)?;
-            let mut stopped = MemoryShelf::new(alloc, files, FileSet::new(alloc)?, Some(stop));
-            if put_back(&shelf.kept, names.as_slice(), &mut stopped).is_ok() {
+            let (none, noted) = (FileSet::new(alloc)?, Vec::new(alloc));
+            let mut stopped = MemoryShelf::new(alloc, files, none, noted, Some(stop));
+            if put_back(&shelf.kept, shelf.noted.as_slice(), &mut stopped).is_ok() {
                 undone.is_same = undone.is_same && are_same(&old, &stopped.files);
                 return Ok(undone);
             }
             stopped.stop = None;
-            if put_back(&shelf.kept, names.as_slice(), &mut stopped).is_err() {
+            if put_back(&shelf.kept, shelf.noted.as_slice(), &mut stopped).is_err() {
                 return Err(anyhow!("refused after a stop"));
             }
             undone.stops = undone.stops.saturating_add(1);

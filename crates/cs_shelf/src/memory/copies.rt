@@ -2,7 +2,7 @@
 ghost use Rattle.std.specs.Prelude.{◌≡◌, [], ◌∷◌, ◌++◌, IsSome, IfOk, OnOk, OnErr, IsErrOf};
 ghost use Rattle.std.specs.FinMap.{insert};
 ghost use Rattle.cs_store.specs.FileSet.{contents_of};
-ghost use Rattle.cs_shelf.specs.Shelf.{AddsCopiesOf, HasCopiesOf, Lacks};
+ghost use Rattle.cs_shelf.specs.Shelf.{AddsCopiesOf, KeepsNames, Lacks};
 
 use super::rest::without;
 use cs_schema::FileName;
@@ -99,19 +99,36 @@ fn keep_copy(
     }
 }
 
-/// Keeps a copy of the file of each of these names that has a file and no copy yet.
+/// Notes a name.
+fn note(noted: &mut Vec<FileName>, name: FileName) -> Result<(), StoreFault>
+    ensures ok { OnOk result (noted.new.items ≡ noted.old.items ++ name ∷ []) }
+    ensures memory { IsErrOf result StoreFault.Device → ⊥ }
+{
+    match noted.push(name) {
+        Ok(()) => Ok(()),
+        Err(_) => Err(StoreFault::Memory),
+    }
+}
+
+/// Keeps a copy of the file of each of these names that has a file and no copy yet, and notes the names.
 pub fn keep_copies(
     alloc: Global,
     files: &FileSet,
     kept: &mut FileSet,
+    noted: &mut Vec<FileName>,
     names: &[FileName],
 ) -> Result<(), StoreFault>
-    ensures ok { OnOk result (HasCopiesOf names.now files.now kept.new) }
+    ensures ok { OnOk result (KeepsNames names.now files.now
+        (record { files = kept.old; names = noted.old.items }) (record { files = kept.new; names = noted.new.items })) }
     ensures copies { AddsCopiesOf files.now kept.old kept.new }
     ensures memory { IsErrOf result StoreFault.Device → ⊥ }
 {
     for name in names {
         match keep_copy(alloc, files, kept, *name) {
+            Ok(()) => {}
+            Err(fault) => return Err(fault),
+        }
+        match note(noted, *name) {
             Ok(()) => {}
             Err(fault) => return Err(fault),
         }

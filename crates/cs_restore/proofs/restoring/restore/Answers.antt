@@ -1,4 +1,5 @@
 use Rattle.std.proofs.Common.{inl, inr}
+use Rattle.cs_shelf.specs.Shelf.{CanUndo, HasOld}
 use Rattle.cs_shelf.proofs.Loads.{unmoved}
 use Rattle.cs_restore.proofs.Told.{read_since}
 use Rattle.cs_restore.proofs.Whole.{plans_held, nothing_held, nothing_lost, nothing_copied, put_held, put_moments, put_kept, put_copies, back_held, back_moments, back_kept, back_copies, all_finished, all_durable}
@@ -29,7 +30,7 @@ returns-in-Err-exchange-clause-any_moment g c =
 pub returns-in-Err-exchange-clause-kept : goal.returns-in-Err-exchange-clause-kept
 returns-in-Err-exchange-clause-kept g c =
     put_kept g.S.Shelf.holds g.S.Shelf.may_leave g.S.Shelf.kept g.S.Shelf.moment g.S.Shelf.left_since c.args.catalog.now c.args.loss c.args.shelf.now c.args.shelf.now (g.met.S.Shelf.only_now c.args.shelf.now) (unmoved g.S.Shelf.holds g.S.Shelf.may_leave g.S.Shelf.kept g.S.Shelf.moment g.S.Shelf.left_since c.args.shelf.now)
-    c.in-Ok.plan.answer c.in-Ok.plan.changes.items (plans_held c.args.catalog.now c.args.loss c.in-Ok.plan.answer c.in-Ok.plan.changes.items (g.S.Shelf.holds c.args.shelf.now) (λ d now. c.in-Ok.ensures.plan d (c.requires d now))) c.exchange.new.shelf c.exchange.ensures.kept
+    c.in-Ok.plan.answer c.in-Ok.plan.changes.items (plans_held c.args.catalog.now c.args.loss c.in-Ok.plan.answer c.in-Ok.plan.changes.items (g.S.Shelf.holds c.args.shelf.now) (λ d now. c.in-Ok.ensures.plan d (c.requires d now))) c.exchange.new.shelf HasOld c.exchange.ensures.kept
 
 pub returns-in-Err-exchange-clause-copies : goal.returns-in-Err-exchange-clause-copies
 returns-in-Err-exchange-clause-copies g c =
@@ -59,7 +60,12 @@ returns-in-Ok-check_held-clause-any_moment g c =
 pub returns-in-Ok-check_held-clause-kept : goal.returns-in-Ok-check_held-clause-kept
 returns-in-Ok-check_held-clause-kept g c =
     back_kept g.S.Shelf.holds g.S.Shelf.may_leave g.S.Shelf.kept g.S.Shelf.moment g.S.Shelf.left_since c.args.catalog.now c.args.loss c.args.shelf.now c.args.shelf.now (g.met.S.Shelf.only_now c.args.shelf.now) (unmoved g.S.Shelf.holds g.S.Shelf.may_leave g.S.Shelf.kept g.S.Shelf.moment g.S.Shelf.left_since c.args.shelf.now)
-    c.in-Ok.plan.answer c.in-Ok.plan.changes.items (plans_held c.args.catalog.now c.args.loss c.in-Ok.plan.answer c.in-Ok.plan.changes.items (g.S.Shelf.holds c.args.shelf.now) (λ d now. c.in-Ok.ensures.plan d (c.requires d now))) c.exchange.new.shelf c.check_held.new.shelf c.check_held.ensures.unchanged c.exchange.ensures.kept
+    c.in-Ok.plan.answer c.in-Ok.plan.changes.items (plans_held c.args.catalog.now c.args.loss c.in-Ok.plan.answer c.in-Ok.plan.changes.items (g.S.Shelf.holds c.args.shelf.now) (λ d now. c.in-Ok.ensures.plan d (c.requires d now))) c.exchange.new.shelf c.check_held.new.shelf c.check_held.ensures.unchanged HasOld c.exchange.ensures.kept
+
+pub returns-in-Ok-check_held-clause-undoable : goal.returns-in-Ok-check_held-clause-undoable
+returns-in-Ok-check_held-clause-undoable g c =
+    back_kept g.S.Shelf.holds g.S.Shelf.may_leave g.S.Shelf.kept g.S.Shelf.moment g.S.Shelf.left_since c.args.catalog.now c.args.loss c.args.shelf.now c.args.shelf.now (g.met.S.Shelf.only_now c.args.shelf.now) (unmoved g.S.Shelf.holds g.S.Shelf.may_leave g.S.Shelf.kept g.S.Shelf.moment g.S.Shelf.left_since c.args.shelf.now)
+    c.in-Ok.plan.answer c.in-Ok.plan.changes.items (plans_held c.args.catalog.now c.args.loss c.in-Ok.plan.answer c.in-Ok.plan.changes.items (g.S.Shelf.holds c.args.shelf.now) (λ d now. c.in-Ok.ensures.plan d (c.requires d now))) c.exchange.new.shelf c.check_held.new.shelf c.check_held.ensures.unchanged CanUndo c.in-Ok-exchange.ensures.undoable
 
 pub returns-in-Ok-check_held-clause-copies : goal.returns-in-Ok-check_held-clause-copies
 returns-in-Ok-check_held-clause-copies g c =
@@ -79,7 +85,7 @@ returns-in-Err-check_held-clause-any_moment g c =
 pub returns-in-Err-check_held-clause-kept : goal.returns-in-Err-check_held-clause-kept
 returns-in-Err-check_held-clause-kept g c =
     back_kept g.S.Shelf.holds g.S.Shelf.may_leave g.S.Shelf.kept g.S.Shelf.moment g.S.Shelf.left_since c.args.catalog.now c.args.loss c.args.shelf.now c.args.shelf.now (g.met.S.Shelf.only_now c.args.shelf.now) (unmoved g.S.Shelf.holds g.S.Shelf.may_leave g.S.Shelf.kept g.S.Shelf.moment g.S.Shelf.left_since c.args.shelf.now)
-    c.in-Ok.plan.answer c.in-Ok.plan.changes.items (plans_held c.args.catalog.now c.args.loss c.in-Ok.plan.answer c.in-Ok.plan.changes.items (g.S.Shelf.holds c.args.shelf.now) (λ d now. c.in-Ok.ensures.plan d (c.requires d now))) c.exchange.new.shelf c.check_held.new.shelf c.check_held.ensures.unchanged c.exchange.ensures.kept
+    c.in-Ok.plan.answer c.in-Ok.plan.changes.items (plans_held c.args.catalog.now c.args.loss c.in-Ok.plan.answer c.in-Ok.plan.changes.items (g.S.Shelf.holds c.args.shelf.now) (λ d now. c.in-Ok.ensures.plan d (c.requires d now))) c.exchange.new.shelf c.check_held.new.shelf c.check_held.ensures.unchanged HasOld c.exchange.ensures.kept
 
 pub returns-in-Err-check_held-clause-copies : goal.returns-in-Err-check_held-clause-copies
 returns-in-Err-check_held-clause-copies g c =

@@ -2,7 +2,7 @@ use Rattle.std.proofs.lemmas.Result.{on_ok_weaker}
 use Rattle.cs_shelf.specs.Shelf.{AddsCopies}
 use Rattle.cs_restore.specs.Undoing.{IsBack}
 use Rattle.cs_shelf.proofs.Steps.{from_more, no_more}
-use Rattle.cs_restore.proofs.UndoLoop.{kept_moments, old_part, old_kept, then_moments, then_part, then_kept}
+use Rattle.cs_restore.proofs.UndoLoop.{kept_moments, old_part, old_kept, then_kept, then_moments, then_part, then_undoable}
 use Rattle.cs_restore.proofs.undoing.put_back.Goals as goal
 
 pub returns-in-Ok-clause-whole : goal.returns-in-Ok-clause-whole
@@ -23,6 +23,11 @@ returns-in-Ok-clause-kept g c =
     then_kept g.S.Shelf.holds g.S.Shelf.may_leave g.S.Shelf.kept g.S.Shelf.moment g.S.Shelf.left_since c.args.back.now c.args.names.now c.args.shelf.now c.keep.new.self c.keep.ensures.same c.keep.ensures.stop c.keep.ensures.time (g.met.S.Shelf.only_now c.args.shelf.now)
     c.put_back_all.new.shelf c.in-Ok.ensures.synced c.in-Ok.ensures.ok c.put_back_all.ensures.copies c.put_back_all.ensures.part
 
+pub returns-in-Ok-clause-undoable : goal.returns-in-Ok-clause-undoable
+returns-in-Ok-clause-undoable g c =
+    on_ok_weaker c.put_back_all.result (λ _. then_undoable g.S.Shelf.holds g.S.Shelf.may_leave g.S.Shelf.kept g.S.Shelf.moment g.S.Shelf.left_since c.args.back.now c.args.names.now c.args.shelf.now c.keep.new.self c.keep.ensures.same c.keep.ensures.stop c.keep.ensures.time (g.met.S.Shelf.only_now c.args.shelf.now)
+    c.put_back_all.new.shelf c.in-Ok.ensures.synced c.in-Ok.ensures.ok c.put_back_all.ensures.copies c.put_back_all.ensures.part) c.put_back_all.ensures.whole
+
 pub returns-in-Ok-clause-copies : goal.returns-in-Ok-clause-copies
 returns-in-Ok-clause-copies g c =
     no_more (AddsCopies (g.S.Shelf.holds c.args.shelf.now)) (g.S.Shelf.kept c.args.shelf.now) (g.S.Shelf.kept c.keep.new.self) (g.S.Shelf.kept c.put_back_all.new.shelf) c.keep.ensures.copies c.put_back_all.ensures.copies
@@ -38,7 +43,7 @@ returns-in-Err-clause-part g c =
 
 pub returns-in-Err-clause-kept : goal.returns-in-Err-clause-kept
 returns-in-Err-clause-kept g c =
-    old_kept g.S.Shelf.holds g.S.Shelf.may_leave g.S.Shelf.kept g.S.Shelf.moment g.S.Shelf.left_since c.args.back.now c.args.names.now c.args.shelf.now c.keep.new.self c.keep.ensures.same c.keep.ensures.stop c.keep.ensures.time (g.met.S.Shelf.only_now c.args.shelf.now)
+    old_kept g.S.Shelf.holds g.S.Shelf.may_leave g.S.Shelf.kept g.S.Shelf.moment g.S.Shelf.left_since c.args.back.now c.args.names.now c.args.shelf.now c.keep.new.self c.keep.ensures.same c.keep.ensures.stop c.keep.ensures.time (g.met.S.Shelf.only_now c.args.shelf.now) c.keep.ensures.copies
 
 pub returns-in-Err-clause-any_moment : goal.returns-in-Err-clause-any_moment
 returns-in-Err-clause-any_moment g c =

@@ -1,5 +1,5 @@
 -- Names among others, and one more.
-use Rattle.std.proofs.Common.{◌≡◌, ℕ, zero, suc, List, [], ◌∷◌, ◌++◌, length, Some, refl, slice_get}
+use Rattle.std.proofs.Common.{◌≡◌, ◌⊎◌, inl, inr, ⊎_elim, ℕ, zero, suc, List, [], ◌∷◌, ◌++◌, length, Some, refl, slice_get}
 use Rattle.cs_schema.specs.declared.file_name.FileName.{FileName}
 use Rattle.cs_shelf.specs.Shelf.{IsAmong}
 
@@ -17,3 +17,12 @@ among_more xs x n among = (among.0, still_there xs (x ∷ []) among.0 n among.1)
 
 pub among_last : (xs : List FileName) (x : FileName) → IsAmong (xs ++ x ∷ []) x
 among_last xs x = (length xs, last_there xs x)
+
+there_or_last : (xs : List FileName) (x n : FileName) (i : ℕ) → slice_get (xs ++ x ∷ []) i ≡ Some n → IsAmong xs n ⊎ (n ≡ x)
+there_or_last [] x n zero at = inr (cc)
+there_or_last [] x n (suc i) at = absurd (cc)
+there_or_last (y ∷ xs) x n zero at = inl (zero, at)
+there_or_last (y ∷ xs) x n (suc i) at = ⊎_elim (λ among. inl (suc among.0, among.1)) (λ is. inr is) (there_or_last xs x n i at)
+
+pub among_or_last : (xs : List FileName) (x n : FileName) → IsAmong (xs ++ x ∷ []) n → IsAmong xs n ⊎ (n ≡ x)
+among_or_last xs x n among = there_or_last xs x n among.0 among.1
