@@ -3,15 +3,15 @@ ghost use Rattle.std.specs.Prelude.{◌≡◌, ◌≤◌, ⊤, IsErrOf};
 ghost use Rattle.cs_store.specs.Fault.{CountsFault};
 
 use crate::paths::{file_in, no_memory, path_in};
-use cs_file_system::{SystemFiles, mark, write_synced};
+use cs_file_system::{FileSystem, SystemFiles, mark, write_synced};
 use cs_parallel_io::{BatchSink, FileWriter};
 use cs_schema::FileName;
 use cs_store::{Sink, StoreFault};
 use std::alloc::Global;
+use std::io;
 use std::io::ErrorKind;
 use std::marker::Sync;
 use std::rt::Files;
-use std::{fs, io};
 
 /// The name of the mark that all files are there.
 const MARK: &str = "DONE";
@@ -34,7 +34,8 @@ impl<R: Files + Drop> OutputFolder<R> {
             path: String::from_str(alloc, path).map_err(no_memory)?,
             faults: 0,
         };
-        match fs::create_dir(&output.rt, path) {
+        let made = SystemFiles(&output.rt).create_folder(path);
+        match made {
             Ok(()) => Ok(output),
             Err(_) => Err(StoreFault::Device),
         }
