@@ -1,4 +1,5 @@
 mod ChangingLemmas
 mod FolderLemmas
 mod KeepingLemmas
+mod LineLemmas
 mod SyncLemmas

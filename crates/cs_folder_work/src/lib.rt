@@ -13,6 +13,7 @@ mod finishing;
 mod giving_back;
 mod journal;
 mod keeping;
+pub mod laws;
 mod moving;
 mod names;
 mod noting;

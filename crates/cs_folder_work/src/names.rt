@@ -1,4 +1,7 @@
 //! Names of a store's files, as texts.
+ghost use Rattle.std.specs.Prelude.{◌≡◌, IfSome};
+ghost use Rattle.cs_schema.specs.FileNames.{file_path};
+
 use cs_schema::FileName;
 
 /// The number behind a letter.
@@ -20,7 +23,9 @@ fn name_by_parts(p: &str, s: &str, kind: &str) -> Option<FileName> {
 }
 
 /// The name that a text is, if it is one.
-pub fn name_of(text: &str) -> Option<FileName> {
+pub fn name_of(text: &str) -> Option<FileName>
+    ensures { IfSome result (λ name. file_path name ≡ text.now) }
+{
     let (p, rest) = text.split_once(".")?;
     let (s, kind) = rest.split_once(".")?;
     let name = name_by_parts(p, s, kind)?;

@@ -1,6 +1,7 @@
 //! What is written down of work on a store: as long as it is not finished, and afterwards, for an undo.
-ghost use Rattle.std.specs.Prelude.{◌≡◌, ◌↔◌, IfOk, IsTrue};
+ghost use Rattle.std.specs.Prelude.{◌≡◌, ◌↔◌, IfOk, IfSome, IsTrue};
 ghost use Rattle.cs_folder_work.specs.Changing.{IsNoted, names_of};
+ghost use Rattle.cs_folder_work.specs.Lines.{line_of, word_of};
 
 use crate::names::name_of;
 use cs_schema::{FileName, Loss};
@@ -37,7 +38,9 @@ const LAST_SITE: u8 = 16;
 const ACCEPTED: &str = " accept-loss";
 
 /// The word for what becomes of a name.
-pub fn change_word(change: Change) -> &'static str {
+pub fn change_word(change: Change) -> &'static str
+    ensures { result.now ≡ word_of change }
+{
     match change {
         Change::New => "new",
         Change::Replaces => "replaces",
@@ -86,15 +89,32 @@ fn work_of(text: &str) -> Option<(Work, bool)> {
     Some((Work::Restore(loss_of(lost)?), accepts_loss))
 }
 
-/// What becomes of a name, as `new p0.s0.seg`.
-fn change_of(line: &str) -> Option<(FileName, Change)> {
-    let (word, name) = line.split_once(" ")?;
-    let change = match word {
-        "new" => Change::New,
-        "replaces" => Change::Replaces,
-        _ => return None,
+/// What a word says of a name, if it is one for that.
+fn change_by_word(word: &str) -> Option<Change>
+    ensures { IfSome result (λ change. word.now ≡ word_of change) }
+{
+    match word {
+        "new" => Some(Change::New),
+        "replaces" => Some(Change::Replaces),
+        _ => None,
+    }
+}
+
+/// What becomes of a name, as `new p0.s0.seg`: a line is read only if it would be written so.
+#[tactic(auto, using(crate::proofs::LineLemmas::is_line))]
+fn change_of(line: &str) -> Option<(FileName, Change)>
+    ensures { IfSome result (λ read. line.now ≡ line_of read.1 read.0) }
+{
+    let Some((word, path)) = line.split_once(' ') else {
+        return None;
     };
-    Some((name_of(name)?, change))
+    let Some(change) = change_by_word(word) else {
+        return None;
+    };
+    match name_of(path) {
+        Some(name) => Some((name, change)),
+        None => None,
+    }
 }
 
 /// So many changes, a line for each.
