@@ -1,2 +1,3 @@
 mod Ends
+pub mod UndoLaw
 pub mod Unreadable

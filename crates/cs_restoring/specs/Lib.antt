@@ -1,3 +1,5 @@
 pub mod Doubts
 pub mod Restores
+pub mod Stops
+pub mod UndoLaw
 pub mod Undoes

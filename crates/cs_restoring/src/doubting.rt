@@ -1,5 +1,5 @@
 //! Whether it is doubtful that a store lost just the sites that are named.
-ghost use Rattle.std.specs.Prelude.{◌≡◌, ◌≤◌, true, Some, IfOk, MatchBool, MatchOption};
+ghost use Rattle.std.specs.Prelude.{◌≡◌, ◌≤◌, true, Some, IfErr, IfOk, MatchBool, MatchOption};
 ghost use Rattle.cs_store.specs.FileSet.{contents_of};
 ghost use Rattle.cs_inspection.specs.Laws.{AreAbsent};
 ghost use Rattle.cs_diagnosis.specs.Diagnoses.{IsDiagnosis};
@@ -77,7 +77,8 @@ pub fn find_doubt<R: Threads + Sync, G: Progress + Sync>(
     resumes: bool,
 ) -> Result<Option<Doubt>, VerbError>
     requires { AreAbsent (contents_of read.now.files) read.now.unreadable.items }
-    ensures { IfOk result (λ found. MatchOption found (IsUndoubted catalog.now read.now loss resumes) (λ doubt. IsDoubtBy catalog.now read.now loss resumes doubt.diagnosis)) }
+    ensures ok { IfOk result (λ found. MatchOption found (IsUndoubted catalog.now read.now loss resumes) (λ doubt. IsDoubtBy catalog.now read.now loss resumes doubt.diagnosis)) }
+    ensures memory { IfErr result (λ stop. stop ≡ VerbError.OutOfMemory) }
 {
     let _rules = catalog.projection_count();
     if !catalog.has_sites(loss) || !safe(catalog, loss) {

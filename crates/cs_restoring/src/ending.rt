@@ -1,6 +1,8 @@
 //! How a restore or an undo ends early.
 ghost use Rattle.std.specs.Prelude.{◌≡◌, ◌⊎◌};
+ghost use Rattle.pinepolo_places.specs.Errors.{IsFailure, IsUntakenError};
 ghost use Rattle.pinepolo_places.specs.Status.{status_of, fault_status};
+ghost use Rattle.cs_restoring.specs.Stops.{TellsFault};
 
 use cs_reports::site_of;
 use cs_schema::{Catalog, Loss};
@@ -27,7 +29,9 @@ pub fn lock_error(
     untaken: &Untaken,
     path: &str,
     verb: WorkKind,
-) -> VerbError {
+) -> VerbError
+    ensures { IsUntakenError verb untaken.now result }
+{
     let refusal = match untaken {
         Untaken::Memory => return VerbError::OutOfMemory,
         Untaken::Device => {
@@ -59,7 +63,8 @@ pub fn restore_error(
     fault: &Fault,
     given: GivenBack,
 ) -> VerbError
-    ensures { (status_of result ≡ fault_status fault.now) ⊎ (status_of result ≡ status_of VerbError.OutOfMemory) }
+    ensures status { (status_of result ≡ fault_status fault.now) ⊎ (status_of result ≡ status_of VerbError.OutOfMemory) }
+    ensures tells { TellsFault store.now.verb fault.now given result }
 {
     let error = VerbError::of_store(alloc, store.catalog, store.path, fault);
     if given.is_unfinished {
@@ -75,16 +80,22 @@ pub fn restore_error(
 }
 
 /// The error for a record that could not be removed, or a journal that could not be written.
-pub fn finish_error(alloc: Global, fault: StoreFault, path: &str, verb: WorkKind) -> VerbError {
+pub fn finish_error(alloc: Global, fault: StoreFault, path: &str, verb: WorkKind) -> VerbError
+    ensures { IsFailure result }
+{
     VerbError::of_device(alloc, fault, Failure::RemoveRecord(verb), path)
 }
 
 /// The error for a store that could not be given back: nothing of it had changed.
-pub fn give_back_error(alloc: Global, fault: StoreFault, path: &str, verb: WorkKind) -> VerbError {
+pub fn give_back_error(alloc: Global, fault: StoreFault, path: &str, verb: WorkKind) -> VerbError
+    ensures { IsFailure result }
+{
     VerbError::of_device(alloc, fault, Failure::GiveBack(verb), path)
 }
 
 /// The error for finished work if it is not on the disk that its record is gone.
-pub fn sync_error(alloc: Global, path: &str) -> VerbError {
+pub fn sync_error(alloc: Global, path: &str) -> VerbError
+    ensures { IsFailure result }
+{
     VerbError::of_device(alloc, StoreFault::Device, Failure::SyncEnd, path)
 }

@@ -36,7 +36,7 @@ pub fn restored_of(
     steps: Vec<Step>,
     kept: Option<u32>,
 ) -> Restored
-    ensures { IsRestoredOf catalog lost rows result }
+    ensures { IsRestoredOf catalog lost rows kept result }
 {
     let k = greatest_k(&catalog, Loss::none()).unwrap_or(0);
     Restored {

@@ -1,5 +1,5 @@
 //! What is read of a store before it is restored, and whether that makes it doubtful what was lost.
-ghost use Rattle.std.specs.Prelude.{◌≡◌, ◌≢◌, [], None, Some, false, IfOk};
+ghost use Rattle.std.specs.Prelude.{◌≡◌, ◌≢◌, [], None, Some, false, IfErr, IfOk};
 ghost use Rattle.cs_schema.specs.FileNames.{surviving};
 ghost use Rattle.cs_store.specs.Fault.{CountsFault};
 ghost use Rattle.cs_store.specs.FileSet.{contents_of};
@@ -32,6 +32,8 @@ pub fn read_files<S: Shelf>(
     ensures device { IfOk result (λ read. read.unreadable.items ≢ [] → CountsFault (S.fault_count shelf.old) (S.fault_count shelf.new)) }
     ensures held { IsNoMore (S.holds shelf.old) (S.holds shelf.new) }
     ensures stop { IsNoMore (S.may_leave shelf.old) (S.may_leave shelf.new) }
+    ensures copies { IsNoMore (S.kept shelf.old) (S.kept shelf.new) }
+    ensures memory { IfErr result (λ stop. stop ≡ VerbError.OutOfMemory) }
 {
     match load_readable_held(alloc, catalog, shelf) {
         Ok(read) => Ok(read),
@@ -52,6 +54,7 @@ pub fn doubt_of<R: Threads + Sync, G: Progress + Sync>(
     ensures undoubted { IfOk result (λ found. found ≡ None → accepts_loss ≡ false → IsUndoubted catalog.now read.now lost resumes) }
     ensures unaccepted { IfOk result (λ found. (doubt : DoubtData) → found ≡ Some doubt → accepts_loss ≡ false) }
     ensures doubt { IfOk result (λ found. (doubt : DoubtData) → found ≡ Some doubt → IsDoubtBy catalog.now read.now lost resumes doubt.diagnosis) }
+    ensures memory { IfErr result (λ stop. stop ≡ VerbError.OutOfMemory) }
 {
     if accepts_loss {
         return Ok(None);
@@ -67,7 +70,8 @@ pub fn doubted(
     lost: Loss,
     resumes: bool,
 ) -> Result<Doubted, VerbError>
-    ensures { IfOk result (λ doubted. (doubted.lost ≡ lost) × (doubted.diagnosed.diagnosis ≡ doubt.diagnosis)) }
+    ensures ok { IfOk result (λ doubted. (doubted.lost ≡ lost) × (doubted.diagnosed.diagnosis ≡ doubt.diagnosis)) }
+    ensures memory { IfErr result (λ stop. stop ≡ VerbError.OutOfMemory) }
 {
     let Doubt {
         diagnosis,

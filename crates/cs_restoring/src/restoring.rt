@@ -1,8 +1,9 @@
 //! The verb `restore`.
-ghost use Rattle.std.specs.Prelude.{◌≡◌, ◌||◌, [], IfOk, false};
+ghost use Rattle.std.specs.Prelude.{◌≡◌, ◌||◌, [], IfErr, IfOk, false};
 ghost use Rattle.cs_schema.specs.FileNames.{surviving};
-ghost use Rattle.cs_shelf.specs.Shelf.{IsReadIn};
+ghost use Rattle.cs_shelf.specs.Shelf.{IsReadIn, KeepsNothing};
 ghost use Rattle.cs_restoring.specs.Restores.{DoesRestore, EndsDoubted, EndsRestore, FinishesRestore};
+ghost use Rattle.cs_restoring.specs.Stops.{GivesUpStore, IsNotTaken, StopsRestore, StopsRestoring, StopsWork};
 
 use crate::doubting::Doubt;
 use crate::ending::{LostStore, give_back_error, lock_error};
@@ -48,6 +49,8 @@ fn take<P: Shelves>(
     ensures taken { IfOk result (λ taken. P.takes_store places.old request.now.store.now catalog.now taken.1 taken.0 places.new) }
     ensures lost { IfOk result (λ taken. request.now.resumes ≡ false → taken.1.lost ≡ request.now.lost) }
     ensures accepts { IfOk result (λ taken. request.now.resumes ≡ false → taken.1.accepts_loss ≡ request.now.accepts_loss) }
+    ensures new { IfOk result (λ taken. request.now.resumes ≡ false → KeepsNothing (P.Shelf.kept taken.0)) }
+    ensures err { IfErr result (λ stop. IsNotTaken P.gives_back P.holds_back P.Shelf.gives P.Shelf.refuses P.Shelf.holds P.Shelf.may_leave P.Shelf.kept P.reads P.misses P.opens P.refuses_store WorkKind.Restore places.old request.now.store.now stop places.new) }
 {
     let path = request.store;
     let taken = if request.resumes {
@@ -78,7 +81,9 @@ fn give_up<P: Shelves>(
     shelf: P::Shelf,
     path: &str,
     error: VerbError,
-) -> VerbError {
+) -> VerbError
+    ensures { GivesUpStore P.gives_back P.holds_back places.old shelf error result places.new }
+{
     match places.give_back(shelf, false) {
         Ok(_) => error,
         Err(fault) => give_back_error(alloc, fault, path, WorkKind::Restore),
@@ -94,7 +99,8 @@ fn give_back_doubted<P: Shelves>(
     lost: Loss,
     path: &str,
 ) -> Result<Restoration, VerbError>
-    ensures { IfOk result (EndsDoubted P.gives_back places.old lost found.1.diagnosis shelf places.new) }
+    ensures ok { IfOk result (EndsDoubted P.gives_back places.old lost found.1.diagnosis shelf places.new) }
+    ensures err { IfErr result (λ stop. GivesUpStore P.gives_back P.holds_back places.old shelf VerbError.OutOfMemory stop places.new) }
 {
     let (catalog, doubt) = found;
     match places.give_back(shelf, false) {
@@ -116,7 +122,8 @@ fn restore_read<R: Threads + Sync, G: Progress + Sync, P: Shelves>(
     path: &str,
 ) -> Result<Restoration, VerbError>
     requires { IsReadIn (P.Shelf.holds taken.0) (surviving catalog []) read.files read.unreadable.items }
-    ensures { IfOk result (FinishesRestore P.gives_back P.Shelf.holds P.Shelf.may_leave places.old catalog taken.1 taken.0 places.new) }
+    ensures ok { IfOk result (FinishesRestore P.gives_back P.Shelf.holds P.Shelf.may_leave P.Shelf.kept places.old catalog taken.1 taken.0 places.new) }
+    ensures err { IfErr result (λ stop. StopsWork P.gives_back P.holds_back P.Shelf.gives P.Shelf.refuses P.Shelf.holds P.Shelf.may_leave P.Shelf.kept places.old catalog taken.1 read taken.0 stop places.new) }
 {
     let (shelf, lost) = taken;
     let store = LostStore {
@@ -144,7 +151,8 @@ fn restore_taken<R: Threads + Sync, G: Progress + Sync, P: Shelves>(
     catalog: Catalog,
     request: &RestoreArgs<'_>,
 ) -> Result<Restoration, VerbError>
-    ensures { IfOk result (EndsRestore P.gives_back P.Shelf.gives P.Shelf.refuses P.Shelf.holds P.Shelf.may_leave (request.now.accepts_loss || taken.1.accepts_loss) request.now.resumes places.old catalog taken.1.lost taken.0 places.new) }
+    ensures ok { IfOk result (EndsRestore P.gives_back P.Shelf.gives P.Shelf.refuses P.Shelf.holds P.Shelf.may_leave P.Shelf.kept (request.now.accepts_loss || taken.1.accepts_loss) request.now.resumes places.old catalog taken.1.lost taken.0 places.new) }
+    ensures err { IfErr result (λ stop. StopsRestoring P.gives_back P.holds_back P.Shelf.gives P.Shelf.refuses P.Shelf.holds P.Shelf.may_leave P.Shelf.kept places.old catalog taken.1.lost taken.0 stop places.new) }
 {
     let (shelf, of) = taken;
     let lost = of.lost;
@@ -172,8 +180,10 @@ pub fn restore<R: Threads + Sync, G: Progress + Sync, P: Listings + Shelves>(
     places: &mut P,
     request: &RestoreArgs<'_>,
 ) -> Result<Restoration, VerbError>
-    ensures { IfOk result (λ restoration. DoesRestore P.reads P.opens P.takes_store P.looks_at P.gives_back P.Shelf.gives P.Shelf.refuses P.Shelf.holds P.Shelf.may_leave
+    ensures ok { IfOk result (λ restoration. DoesRestore P.reads P.opens P.takes_store P.looks_at P.gives_back P.Shelf.gives P.Shelf.refuses P.Shelf.holds P.Shelf.may_leave P.Shelf.kept
         request.now.is_dry_run request.now.accepts_loss request.now.resumes request.now.lost places.old request.now.store.now restoration places.new) }
+    ensures err { IfErr result (λ stop. StopsRestore P.gives_back P.holds_back P.Shelf.gives P.Shelf.refuses P.Shelf.holds P.Shelf.may_leave P.Shelf.kept P.reads P.misses P.opens P.refuses_store P.takes_store
+        request.now.is_dry_run places.old request.now.store.now stop places.new) }
 {
     let (catalog, _source) = match find_store(run.alloc, places, request.store) {
         Ok(found) => found,

@@ -1,5 +1,6 @@
 //! The verb `undo`.
-ghost use Rattle.std.specs.Prelude.{◌≡◌, IfOk};
+ghost use Rattle.std.specs.Prelude.{◌≡◌, IfErr, IfOk};
+ghost use Rattle.cs_restoring.specs.Stops.{StopsUndo, StopsUndoing};
 ghost use Rattle.cs_restoring.specs.Undoes.{DoesUndo, EndsUndo, undo_asked};
 
 use crate::ending::{LostStore, lock_error};
@@ -30,8 +31,9 @@ fn undo_taken<P: Shelves>(
     catalog: Catalog,
     path: &str,
 ) -> Result<Undone, VerbError>
-    ensures { IfOk result (EndsUndo P.gives_back P.Shelf.holds P.Shelf.may_leave
-        places.old catalog taken.1.back taken.1.names.items taken.0 places.new) }
+    ensures ok { IfOk result (EndsUndo P.gives_back P.Shelf.holds P.Shelf.may_leave P.Shelf.kept
+        places.old catalog taken.1 taken.0 places.new) }
+    ensures err { IfErr result (λ stop. StopsUndoing P.gives_back P.holds_back P.Shelf.gives P.Shelf.refuses P.Shelf.holds P.Shelf.may_leave P.Shelf.kept places.old taken.1 taken.0 stop places.new) }
 {
     let (shelf, undoable) = taken;
     let mut shelf = shelf;
@@ -63,8 +65,10 @@ pub fn undo<P: Shelves>(
     places: &mut P,
     request: &UndoArgs<'_>,
 ) -> Result<Undone, VerbError>
-    ensures { IfOk result (DoesUndo P.reads P.opens P.takes_undo P.gives_back P.Shelf.holds P.Shelf.may_leave
+    ensures ok { IfOk result (DoesUndo P.reads P.opens P.takes_undo P.gives_back P.Shelf.holds P.Shelf.may_leave P.Shelf.kept
         places.old request.now.store.now (undo_asked request.now.resumes request.now.kept) places.new) }
+    ensures err { IfErr result (λ stop. StopsUndo P.gives_back P.holds_back P.Shelf.gives P.Shelf.refuses P.Shelf.holds P.Shelf.may_leave P.Shelf.kept P.reads P.misses P.opens P.refuses_store P.takes_undo
+        (undo_asked request.now.resumes request.now.kept) places.old request.now.store.now stop places.new) }
 {
     let path = request.store;
     let (catalog, _source) = match find_store(alloc, places, path) {

@@ -1,8 +1,9 @@
 //! Restoring a store that was taken.
-ghost use Rattle.std.specs.Prelude.{[], true, IfOk, OnOk};
+ghost use Rattle.std.specs.Prelude.{[], true, IfErr, IfOk};
 ghost use Rattle.cs_schema.specs.FileNames.{surviving};
 ghost use Rattle.cs_shelf.specs.Shelf.{IsReadIn};
 ghost use Rattle.cs_restoring.specs.Restores.{WorksOnStore};
+ghost use Rattle.cs_restoring.specs.Stops.{EndsUnsure, LeavesStore, StopsWork};
 
 use crate::ending::{LostStore, finish_error, give_back_error, restore_error, sync_error};
 use cs_rebuild::Run;
@@ -21,7 +22,9 @@ pub fn leave<P: Shelves>(
     shelf: P::Shelf,
     store: &LostStore<'_>,
     fault: &Fault,
-) -> VerbError {
+) -> VerbError
+    ensures { LeavesStore P.gives_back P.holds_back store.now.verb fault.now places.old shelf result places.new }
+{
     match places.give_back(shelf, false) {
         Ok(given) => restore_error(alloc, store, fault, given),
         Err(failure) => give_back_error(alloc, failure, store.path, store.verb),
@@ -36,7 +39,8 @@ pub fn finish<P: Shelves>(
     path: &str,
     verb: WorkKind,
 ) -> Result<GivenBack, VerbError>
-    ensures { OnOk result (P.gives_back places.old shelf true places.new) }
+    ensures ok { IfOk result (λ given. P.gives_back places.old shelf true given places.new) }
+    ensures err { IfErr result (λ stop. EndsUnsure P.gives_back P.holds_back places.old shelf stop places.new) }
 {
     match places.give_back(shelf, true) {
         Ok(given) if given.is_synced => Ok(given),
@@ -54,8 +58,10 @@ pub fn work<R: Threads + Sync, G: Progress + Sync, P: Shelves>(
     read: Readable,
 ) -> Result<(Restored, GivenBack), VerbError>
     requires { IsReadIn (P.Shelf.holds shelf) (surviving store.now.catalog.now []) read.files read.unreadable.items }
-    ensures { IfOk result (λ worked. WorksOnStore P.gives_back P.Shelf.holds P.Shelf.may_leave
-        places.old store.now.catalog.now store.now.lost shelf worked.0.rows places.new) }
+    ensures ok { IfOk result (λ worked. WorksOnStore P.gives_back P.Shelf.holds P.Shelf.may_leave P.Shelf.kept
+        places.old store.now.catalog.now store.now.lost shelf worked.0.rows worked.1.kept places.new) }
+    ensures err { IfErr result (λ stop. StopsWork P.gives_back P.holds_back P.Shelf.gives P.Shelf.refuses P.Shelf.holds P.Shelf.may_leave P.Shelf.kept
+        places.old store.now.catalog.now store.now.lost read shelf stop places.new) }
 {
     let mut shelf = shelf;
     let restored = match restore(run, store.catalog, store.lost, read, &mut shelf) {

@@ -88,11 +88,15 @@ impl<R: StoreFiles + Alloc + Clock + Copy + Drop + Sync> Shelves for Folders<R> 
 
     ghost takes_store = { λ s path catalog of store t. ⊤ };
 
-    ghost takes_undo = { λ s path catalog asked back names store t. ⊤ };
+    ghost takes_undo = { λ s path catalog asked undoable store t. ⊤ };
+
+    ghost refuses_store = { λ s path why t. ⊤ };
 
     ghost looks_at = { λ s path catalog store. ⊤ };
 
-    ghost gives_back = { λ s store finished t. ⊤ };
+    ghost gives_back = { λ s store finished given t. ⊤ };
+
+    ghost holds_back = { λ s store finished t. ⊤ };
 
     fn take(
         &mut self,

@@ -1,5 +1,6 @@
 //! Why a verb ends early, and the status that tells it.
 ghost use Rattle.std.specs.Prelude.{◌≡◌, ◌⊎◌};
+ghost use Rattle.pinepolo_places.specs.Errors.{HasStep, IsFailure, IsRefusal, IsStillTold, IsStoreFault};
 ghost use Rattle.pinepolo_places.specs.Status.{status_of, fault_status};
 
 use crate::causes::{Failure, Refusal};
@@ -110,6 +111,37 @@ fn subject_of<T: fmt::Display>(alloc: Global, path: &str, words: &T) -> Option<S
     Some(Subject { path, words })
 }
 
+/// At what work failed that was to go on, if a call failed before it could begin.
+fn still_unfinished(failure: Failure, kind: WorkKind) -> Failure {
+    match failure {
+        Failure::ReadCatalog | Failure::WriteRecord => Failure::GoOn(kind),
+        other => other,
+    }
+}
+
+impl StoreError {
+    /// The same fault with another step, and with all bad files.
+    fn with(self, step: Step, bad: Vec<BadFile>) -> Self
+        ensures fault { result.fault ≡ self.fault }
+        ensures step { result.step ≡ step }
+    {
+        let Self {
+            fault,
+            site,
+            subject,
+            bad: _,
+            step: _,
+        } = self;
+        Self {
+            fault,
+            site,
+            subject,
+            bad,
+            step,
+        }
+    }
+}
+
 impl VerbError {
     /// The status that tells it.
     pub fn status(&self) -> u8
@@ -127,7 +159,8 @@ impl VerbError {
 
     /// A refusal of what is at a path.
     pub fn refused(alloc: Global, refusal: Refusal, path: &str) -> Self
-        ensures { (status_of result ≡ REFUSED) ⊎ (result ≡ VerbError.OutOfMemory) }
+        ensures status { (status_of result ≡ REFUSED) ⊎ (result ≡ VerbError.OutOfMemory) }
+        ensures tells { IsRefusal refusal result }
     {
         Self::refused_by(alloc, refusal, path, &"")
     }
@@ -139,7 +172,8 @@ impl VerbError {
         path: &str,
         words: &T,
     ) -> Self
-        ensures { (status_of result ≡ REFUSED) ⊎ (result ≡ VerbError.OutOfMemory) }
+        ensures status { (status_of result ≡ REFUSED) ⊎ (result ≡ VerbError.OutOfMemory) }
+        ensures tells { IsRefusal refusal result }
     {
         match subject_of(alloc, path, words) {
             Some(subject) => VerbError::Refused(refusal, subject),
@@ -159,7 +193,8 @@ impl VerbError {
 
     /// What failed at a path, by a fault of the device or for lack of memory.
     pub fn of_device(alloc: Global, fault: StoreFault, failure: Failure, path: &str) -> Self
-        ensures { (status_of result ≡ DEVICE) ⊎ (result ≡ VerbError.OutOfMemory) }
+        ensures status { (status_of result ≡ DEVICE) ⊎ (result ≡ VerbError.OutOfMemory) }
+        ensures tells { IsFailure result }
     {
         if let StoreFault::Memory = fault {
             return VerbError::OutOfMemory;
@@ -199,7 +234,8 @@ impl VerbError {
 
     /// A fault of the store at a path, which has this catalog.
     pub fn of_store(alloc: Global, catalog: &Catalog, path: &str, fault: &Fault) -> Self
-        ensures { (status_of result ≡ fault_status fault.now) ⊎ (result ≡ VerbError.OutOfMemory) }
+        ensures status { (status_of result ≡ fault_status fault.now) ⊎ (result ≡ VerbError.OutOfMemory) }
+        ensures tells { IsStoreFault fault.now result }
     {
         let words = FaultWords { catalog, fault };
         let Some(subject) = subject_of(alloc, path, &words) else {
@@ -216,12 +252,12 @@ impl VerbError {
 
     /// The error of work that was to go on: it says that the work is still unfinished, if a call failed before it could begin.
     pub fn still_unfinished(self, kind: WorkKind) -> Self
-        ensures { status_of result ≡ status_of self }
+        ensures status { status_of result ≡ status_of self }
+        ensures tells { IsStillTold self result }
     {
         match self {
-            VerbError::Device(Failure::ReadCatalog, subject)
-            | VerbError::Device(Failure::WriteRecord, subject) => {
-                VerbError::Device(Failure::GoOn(kind), subject)
+            VerbError::Device(failure, subject) => {
+                VerbError::Device(still_unfinished(failure, kind), subject)
             }
             other => other,
         }
@@ -229,24 +265,11 @@ impl VerbError {
 
     /// The error with another step, and with all bad files, if it is a fault of a store.
     pub fn with(self, step: Step, bad: Vec<BadFile>) -> Self
-        ensures { status_of result ≡ status_of self }
+        ensures status { status_of result ≡ status_of self }
+        ensures tells { HasStep step self result }
     {
         match self {
-            VerbError::Store(
-                StoreError {
-                    fault,
-                    site,
-                    subject,
-                    bad: _,
-                    step: _,
-                },
-            ) => VerbError::Store(StoreError {
-                fault,
-                site,
-                subject,
-                bad,
-                step,
-            }),
+            VerbError::Store(told) => VerbError::Store(told.with(step, bad)),
             other => other,
         }
     }

@@ -1,9 +1,11 @@
 //! Stores that can be changed, by path.
-ghost use Rattle.std.specs.Prelude.{ℕ, List, Bool, IfOk, OnOk};
+ghost use Rattle.std.specs.Prelude.{◌≢◌, ℕ, List, Bool, IfOk, IfErr};
 ghost use Rattle.cs_schema.specs.CatalogData.{CatalogData};
-ghost use Rattle.cs_schema.specs.declared.file_name.FileName.{FileName};
-ghost use Rattle.cs_store.specs.FileSet.{Files};
+ghost use Rattle.cs_shelf.specs.Shelf.{KeepsNothing};
 ghost use Rattle.cs_shelf.specs.declared.work.UndoOf.{UndoOf};
+ghost use Rattle.cs_shelf.specs.declared.work.Undoable.{Undoable};
+ghost use Rattle.cs_shelf.specs.declared.work.Untaken.{Untaken};
+ghost use Rattle.pinepolo_places.specs.declared.shelves.GivenBack.{GivenBack};
 ghost use Rattle.pinepolo_places.specs.declared.shelves.RestoreOf.{RestoreOf};
 
 use crate::places::Places;
@@ -42,35 +44,46 @@ pub trait Shelves: Places {
     /// A store that was taken: the state before, the path, the catalog, what is restored, the store, and the state after.
     ghost takes_store: { Self → List ℕ → CatalogData → RestoreOf → Self.Shelf → Self → Type 0 };
 
-    /// A store that was taken for an undo: the state before, the path, the catalog, what is undone, the files that are put
-    /// back, the names that change, the store, and the state after.
-    ghost takes_undo: { Self → List ℕ → CatalogData → UndoOf → Files → List FileName → Self.Shelf → Self → Type 0 };
+    /// A store that was taken for an undo: the state before, the path, the catalog, what is undone, what is put back, the
+    /// store, and the state after.
+    ghost takes_undo: { Self → List ℕ → CatalogData → UndoOf → Undoable → Self.Shelf → Self → Type 0 };
+
+    /// A store that was not taken: the state before, the path, why, and the state after.
+    ghost refuses_store: { Self → List ℕ → Untaken → Self → Type 0 };
 
     /// A store that is only looked at: the state, the path, the catalog, and the store.
     ghost looks_at: { Self → List ℕ → CatalogData → Self.Shelf → Type 0 };
 
-    /// A store that was given back: the state before, the store, whether its work is finished, and the state after.
-    ghost gives_back: { Self → Self.Shelf → Bool → Self → Type 0 };
+    /// A store that was given back: the state before, the store, whether its work is finished, what is left of that, and the
+    /// state after.
+    ghost gives_back: { Self → Self.Shelf → Bool → GivenBack → Self → Type 0 };
 
-    /// Takes the store at this path, which has this catalog, for this restore. While it is taken, and until
-    /// its restore is finished, it is not taken again.
+    /// A store that could not be given back: the state before, the store, whether its work is finished, and the state after.
+    ghost holds_back: { Self → Self.Shelf → Bool → Self → Type 0 };
+
+    /// Takes the store at this path, which has this catalog, for this restore, which keeps nothing yet. While it is taken, and
+    /// until its restore is finished, it is not taken again.
     fn take(&mut self, path: &str, catalog: &Catalog, of: RestoreOf) -> Result<Self::Shelf, Untaken>
-        ensures { IfOk result (λ store. takes_store self.old path.now catalog.now of store self.new) };
+        ensures ok { IfOk result (λ store. takes_store self.old path.now catalog.now of store self.new) }
+        ensures new { IfOk result (λ store. KeepsNothing (Self.Shelf.kept store)) }
+        ensures err { IfErr result (λ why. refuses_store self.old path.now why self.new) };
 
     /// Takes the store at this path to go on with its unfinished restore, and says what that restores.
     fn resume(&mut self, path: &str, catalog: &Catalog) -> Result<(Self::Shelf, RestoreOf), Untaken>
-        ensures { IfOk result (λ found. takes_store self.old path.now catalog.now found.1 found.0 self.new) };
+        ensures ok { IfOk result (λ found. takes_store self.old path.now catalog.now found.1 found.0 self.new) }
+        ensures err { IfErr result (λ why. refuses_store self.old path.now why self.new) };
 
     /// Takes the store at this path for an undo, and says what that puts back: the files that stood under the names that
-    /// change, where something did.
+    /// change, where something did. An undo that does not go on keeps nothing yet.
     fn take_undo(
         &mut self,
         path: &str,
         catalog: &Catalog,
         asked: UndoOf,
     ) -> Result<(Self::Shelf, Undoable), Untaken>
-        ensures { IfOk result (λ taken. takes_undo self.old path.now catalog.now asked
-            taken.1.back taken.1.names.items taken.0 self.new) };
+        ensures ok { IfOk result (λ taken. takes_undo self.old path.now catalog.now asked taken.1 taken.0 self.new) }
+        ensures new { IfOk result (λ taken. asked ≢ UndoOf.Unfinished → KeepsNothing (Self.Shelf.kept taken.0)) }
+        ensures err { IfErr result (λ why. refuses_store self.old path.now why self.new) };
 
     /// The store at this path, to be looked at alone, of which these sites are lost.
     fn look(&self, path: &str, catalog: &Catalog, lost: Loss) -> Result<Self::Shelf, StoreFault>
@@ -78,5 +91,6 @@ pub trait Shelves: Places {
 
     /// Gives a store back whose restore or undo is finished, or ended early.
     fn give_back(&mut self, store: Self::Shelf, is_finished: bool) -> Result<GivenBack, StoreFault>
-        ensures { OnOk result (gives_back self.old store is_finished self.new) };
+        ensures ok { IfOk result (λ given. gives_back self.old store is_finished given self.new) }
+        ensures err { IfErr result (λ fault. holds_back self.old store is_finished self.new) };
 }

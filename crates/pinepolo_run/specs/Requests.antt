@@ -26,9 +26,9 @@ module _ {P S K I N B : Type 0} (w : WorldSays P S K I N B) where
   abbrev pub AnswersRequest : P → Verb → ℕ → P → Type 0
   AnswersRequest s asked status t = (given : Answer) × Performs w s asked given t × IsSaid (answer_status given) status
 
-  -- the verb stopped early, and the status tells why
+  -- the verb stopped early with an error that says why and what was done until then, and the status tells it
   abbrev pub RefusesRequest : P → Verb → ℕ → P → Type 0
-  RefusesRequest s asked status t = StopsEarly w s asked t × ((stop : VerbError) × IsSaid (status_of stop) status)
+  RefusesRequest s asked status t = (stop : VerbError) × StopsEarly w s asked stop t × IsSaid (status_of stop) status
 
   -- A request is answered or refused. Without one the places stay as they were.
   abbrev pub Runs : Result Request ParseExit → P → ℕ → P → Type 0

@@ -48,12 +48,15 @@ pub fn run<R: Threads + Sync, G: Progress + Sync, P: World, W: Write, E: Write>(
       marks_new = P.NewStore.marks;
       takes_store = P.takes_store;
       takes_undo = P.takes_undo;
+      refuses_store = P.refuses_store;
       looks_at = P.looks_at;
       gives_back = P.gives_back;
+      holds_back = P.holds_back;
       gives_held = P.Shelf.gives;
       refuses_held = P.Shelf.refuses;
       holds = P.Shelf.holds;
       may_leave = P.Shelf.may_leave;
+      kept = P.Shelf.kept;
     }) parsed.now places.old result places.new }
 {
     let request = match parsed {

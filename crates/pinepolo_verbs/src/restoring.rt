@@ -1,7 +1,7 @@
 //! The verb `restore`, if it has to find by itself what was lost.
-ghost use Rattle.std.specs.Prelude.{◌≡◌, IfOk};
+ghost use Rattle.std.specs.Prelude.{◌≡◌, IfErr, IfOk};
 ghost use Rattle.cs_parallel_io.specs.Standing.{standing};
-ghost use Rattle.pinepolo_verbs.specs.Found.{RestoresFound, knows_loss};
+ghost use Rattle.pinepolo_verbs.specs.Found.{RestoresFound, StopsRestoreFound, knows_loss};
 
 use crate::diagnosing::diagnose;
 use cs_rebuild::Run;
@@ -30,9 +30,11 @@ pub fn restore_found<R: Threads + Sync, G: Progress + Sync, P: Listings + Tables
     places: &mut P,
     request: &RestoreArgs<'_>,
 ) -> Result<FoundRestore, VerbError>
-    ensures { IfOk result (λ found. RestoresFound P.reads P.opens (standing P.Store.answers) (standing P.Store.fails) P.opens_table P.Input.remaining P.leaves
-        P.takes_store P.looks_at P.gives_back P.Shelf.gives P.Shelf.refuses P.Shelf.holds P.Shelf.may_leave
+    ensures ok { IfOk result (λ found. RestoresFound P.reads P.opens (standing P.Store.answers) (standing P.Store.fails) P.opens_table P.Input.remaining P.leaves
+        P.takes_store P.looks_at P.gives_back P.Shelf.gives P.Shelf.refuses P.Shelf.holds P.Shelf.may_leave P.Shelf.kept
         request.now.is_dry_run places.old request.now.store.now found places.new) }
+    ensures err { IfErr result (λ stop. StopsRestoreFound P.gives_back P.holds_back P.Shelf.gives P.Shelf.refuses P.Shelf.holds P.Shelf.may_leave P.Shelf.kept P.reads P.misses P.opens P.refuses_store P.takes_store
+        (standing P.Store.answers) (standing P.Store.fails) P.opens_table P.Input.remaining P.leaves request.now.is_dry_run places.old request.now.store.now stop places.new) }
 {
     let store = request.store;
     let asked = DiagnoseArgs {

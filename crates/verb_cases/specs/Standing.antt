@@ -1,5 +1,5 @@
 -- What the calls on places in memory come to.
-use Rattle.std.specs.Prelude.{◌≡◌, ◌≢◌, ◌⊎◌, ℕ, Bool, true, false, ◌||◌, if◌then◌else◌, List, [], ◌∷◌, ◌++◌, map, Option, Some, None, MatchOption, codes, string_bytes}
+use Rattle.std.specs.Prelude.{◌≡◌, ◌≢◌, ◌⊎◌, ℕ, Bool, true, false, ◌||◌, if◌then◌else◌, List, [], ◌∷◌, ◌++◌, map, Option, Some, None, MatchOption, codes, slice_get, string_bytes}
 use Rattle.std.specs.Option.{option_map, option_map_or, option_and_then, is_some}
 use Rattle.std.specs.BTreeMap.{get_by_text}
 use Rattle.std.specs.FinMap.{empty, entries}
@@ -11,14 +11,22 @@ use Rattle.cs_schema.specs.FileNames.{file_path}
 use Rattle.cs_store.specs.FileSet.{Files}
 use Rattle.cs_store.specs.declared.fault.StoreFault.{StoreFault}
 use Rattle.cs_store.specs.declared.fault.StoreFault.TheVariants.{Device}
+use Rattle.cs_shelf.specs.MemoryReads.{kept_in}
+use Rattle.cs_shelf.specs.Shelf.{Kept, nothing_kept}
 use Rattle.cs_shelf.specs.declared.memory.MemoryShelf.{MemoryShelf}
+use Rattle.cs_shelf.specs.declared.work.UndoOf.{UndoOf}
+use Rattle.cs_shelf.specs.declared.work.Undoable.{Undoable}
+use Rattle.cs_shelf.specs.declared.work.Untaken.{Untaken}
+use Rattle.cs_shelf.specs.declared.work.Untaken.TheVariants as untaken
 use Rattle.cs_shelf.specs.declared.work.Work.{Work}
 use Rattle.cs_shelf.specs.declared.work.Work.TheVariants.{Restore, Undo}
 use Rattle.cs_shelf.specs.declared.work.WorkKind.{WorkKind}
+use Rattle.pinepolo_places.specs.declared.shelves.GivenBack.{GivenBack}
 use Rattle.pinepolo_places.specs.declared.shelves.RestoreOf.{RestoreOf}
 use Rattle.verb_cases.specs.declared.places.MemoryPlaces.{MemoryPlaces}
 use Rattle.verb_cases.specs.declared.standing.Standing.{Standing}
 use Rattle.verb_cases.specs.declared.outputs.MemoryOutput.{MemoryOutput}
+use Rattle.verb_cases.specs.Undoing.{AddsWork, IsCause, IsFound, asked_number}
 
 -- the bytes of the text at this path
 abbrev pub text_at : MemoryPlaces → List ℕ → Option (List ℕ)
@@ -91,7 +99,15 @@ ListsNames s path names t = (t ≡ s) × MatchOption (get_by_text s.stores path)
 
 -- the shelf holds what stands at this path
 abbrev pub HoldsStore : Option Standing → MemoryShelf → Type 0
-HoldsStore found shelf = (option_map (λ store. store.files) found ≡ Some shelf.files) × (option_map (λ store. store.kept) found ≡ Some shelf.kept)
+HoldsStore found shelf = option_map (λ store. store.files) found ≡ Some shelf.files
+
+-- what unfinished work keeps of the store
+abbrev pub kept_of : Standing → Kept
+kept_of store = record { files = store.kept; names = store.noted.items }
+
+-- the shelf keeps nothing yet, or what unfinished work keeps of the store at this path
+abbrev pub KeepsOf : Option Standing → MemoryShelf → Type 0
+KeepsOf found shelf = (kept_in shelf ≡ nothing_kept) ⊎ (option_map kept_of found ≡ Some (kept_in shelf))
 
 -- no text changed, and no store but that at this path
 pub record ChangesStore (path : List ℕ) (s t : MemoryPlaces) : Type 0 where
@@ -101,24 +117,44 @@ pub record ChangesStore (path : List ℕ) (s t : MemoryPlaces) : Type 0 where
 -- the shelf holds what stands at this path, where this restore is now unfinished; no file changed
 pub record TakesStore (s : MemoryPlaces) (path : List ℕ) (of : RestoreOf) (shelf : MemoryShelf) (t : MemoryPlaces) : Type 0 where
   pub holds : HoldsStore (get_by_text s.stores path) shelf
+  pub keeps : KeepsOf (get_by_text s.stores path) shelf
   pub files : files_at t path ≡ files_at s path
+  pub undoable : option_map (λ store. store.undoable) (get_by_text t.stores path) ≡ option_map (λ store. store.undoable) (get_by_text s.stores path)
   pub restoring : option_and_then (λ store. store.restoring) (get_by_text t.stores path) ≡ Some (Restore of.lost)
   pub accepted : option_map (λ store. store.accepts_loss) (get_by_text t.stores path) ≡ Some of.accepts_loss
   pub taken : option_map string_bytes t.taken ≡ Some path
   pub changes : ChangesStore path s t
 
--- the shelf holds what stands at this path, where an undo is now unfinished; no file changed
-pub record TakesUndo (s : MemoryPlaces) (path : List ℕ) (shelf : MemoryShelf) (t : MemoryPlaces) : Type 0 where
+-- what is put back is what the work that is asked for kept
+abbrev pub IsAsked : Option Standing → UndoOf → Undoable → Type 0
+IsAsked found asked undoable = MatchOption found ⊥ (λ store. (number : ℕ) × (asked_number store asked ≡ Some number) × IsFound store number undoable)
+
+-- The shelf holds what stands at this path, where an undo of what is asked for is now unfinished; no file changed.
+pub record TakesUndo (s : MemoryPlaces) (path : List ℕ) (asked : UndoOf) (undoable : Undoable) (shelf : MemoryShelf) (t : MemoryPlaces) : Type 0 where
   pub holds : HoldsStore (get_by_text s.stores path) shelf
+  pub keeps : KeepsOf (get_by_text s.stores path) shelf
+  pub asks : IsAsked (get_by_text s.stores path) asked undoable
   pub files : files_at t path ≡ files_at s path
   pub taken : option_map string_bytes t.taken ≡ Some path
   pub changes : ChangesStore path s t
 
--- what the shelf holds stands now at the path of the store that was taken, and nothing is taken
-pub record GivesBack (s : MemoryPlaces) (shelf : MemoryShelf) (is_finished : Bool) (t : MemoryPlaces) : Type 0 where
+-- nothing changed, and this is why the store at this path is not taken
+abbrev pub RefusesStore : MemoryPlaces → List ℕ → Untaken → MemoryPlaces → Type 0
+RefusesStore s path why t = (t ≡ s) × MatchOption (get_by_text s.stores path) ((why ≡ untaken.Device) ⊎ (why ≡ untaken.Memory)) (λ store. IsCause store why)
+
+-- What the shelf holds stands now at the path of the store that was taken, and nothing is taken. What finished work kept can be
+-- undone; what unfinished work keeps is kept.
+pub record GivesBack (s : MemoryPlaces) (shelf : MemoryShelf) (is_finished : Bool) (given : GivenBack) (t : MemoryPlaces) : Type 0 where
   pub path : List ℕ
   pub was_taken : option_map string_bytes s.taken ≡ Some path
   pub is_free : t.taken ≡ None
-  pub holds : HoldsStore (get_by_text t.stores path) shelf
-  pub restoring : is_finished ≡ true → option_and_then (λ store. store.restoring) (get_by_text t.stores path) ≡ None
+  pub was : Standing
+  pub is : Standing
+  pub stood : get_by_text s.stores path ≡ Some was
+  pub stands : get_by_text t.stores path ≡ Some is
+  pub files : is.files ≡ shelf.files
+  pub restoring : is_finished ≡ true → is.restoring ≡ None
+  pub undoable : is_finished ≡ true → AddsWork was.undoable.items shelf.kept shelf.noted.items is.undoable.items
+  pub number : is_finished ≡ true → (n : ℕ) → given.kept ≡ Some n → option_map (λ undoable. undoable.number) (slice_get is.undoable.items 0) ≡ Some n
+  pub unfinished : given.is_unfinished ≡ true → kept_of is ≡ kept_in shelf
   pub changes : ChangesStore path s t

@@ -1,6 +1,7 @@
 //! Changes of what stands in memory, and lists of it.
 use crate::names::CATALOG;
 use crate::places::MemoryPlaces;
+use crate::undos::next_number;
 use anyhow::{Result, anyhow};
 use cs_store::FileSet;
 use pinepolo_places::RESTORING;
@@ -54,7 +55,13 @@ pub fn list<R: Print>(rt: &R, places: &MemoryPlaces, path: &str) -> Result<()> {
             println!(rt; "{CATALOG} {size}")?;
         }
         list_files(rt, "", &store.files)?;
-        list_files(rt, "replaced/", &store.kept)?;
+        for undoable in store.undoable.iter().rev() {
+            let folder = format!(in places.alloc; "replaced/{}/", undoable.number)?;
+            list_files(rt, folder.as_str(), &undoable.back)?;
+        }
+        let number = next_number(store.undoable.as_slice());
+        let folder = format!(in places.alloc; "replaced/{number}/")?;
+        list_files(rt, folder.as_str(), &store.kept)?;
     }
     Ok(())
 }

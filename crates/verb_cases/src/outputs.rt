@@ -58,9 +58,9 @@ impl MemoryOutput {
             catalog,
             files: copy_files(self.alloc, &self.sink.files)?,
             kept: FileSet::new(self.alloc)?,
+            noted: Vec::new(self.alloc),
             restoring: None,
             accepts_loss: false,
-            begun: None,
             undoable: Vec::new(self.alloc),
         };
         let path = self.path.clone()?;

@@ -1,8 +1,7 @@
 //! Stores in memory that are listed, taken for a restore and given back.
 use crate::names::sorted_names;
 use crate::places::MemoryPlaces;
-use crate::standing::copy_files;
-use crate::undos::{number_of, put_shelf, undoable_of};
+use crate::undos::{begun, begun_undo, put_shelf};
 use cs_schema::{Catalog, Loss};
 use cs_shelf::MemoryShelf;
 use cs_store::StoreFault;
@@ -57,18 +56,23 @@ impl Listings for MemoryPlaces {
 }
 
 impl Shelves for MemoryPlaces {
+    ghost use Rattle.std.specs.Prelude.{◌≡◌};
     ghost use Rattle.std.specs.BTreeMap.{get_by_text};
-    ghost use Rattle.verb_cases.specs.Standing.{GivesBack, HoldsStore, TakesStore, TakesUndo};
+    ghost use Rattle.verb_cases.specs.Standing.{GivesBack, HoldsStore, RefusesStore, TakesStore, TakesUndo};
 
     type Shelf = MemoryShelf;
 
     ghost takes_store = { λ s path catalog of store t. TakesStore s path of store t };
 
-    ghost takes_undo = { λ s path catalog asked back names store t. TakesUndo s path store t };
+    ghost takes_undo = { λ s path catalog asked undoable store t. TakesUndo s path asked undoable store t };
+
+    ghost refuses_store = { RefusesStore };
 
     ghost looks_at = { λ s path catalog store. HoldsStore (get_by_text s.stores path) store };
 
     ghost gives_back = { GivesBack };
+
+    ghost holds_back = { λ s store finished t. t.texts ≡ s.texts };
 
     #[tactic(auto, using(std::proofs::lemmas::Map::Text::text_keys))]
     fn take(
@@ -80,21 +84,13 @@ impl Shelves for MemoryPlaces {
         let Ok(name) = String::from_str(self.alloc, path) else {
             return Err(Untaken::Memory);
         };
+        let shelf = match self.stores.get(path) {
+            Some(store) => begun(self.alloc, store, self.stop)?,
+            None => return Err(Untaken::Device),
+        };
         let Some(store) = self.stores.get_mut(path) else {
             return Err(Untaken::Device);
         };
-        match store.restoring {
-            None => {}
-            Some(Work::Restore(_)) => return Err(Untaken::Unfinished),
-            Some(Work::Undo(_)) => return Err(Untaken::UnfinishedUndo),
-        }
-        let Ok(shelf) = store.shelf(self.alloc, self.stop) else {
-            return Err(Untaken::Memory);
-        };
-        let Ok(begun) = copy_files(self.alloc, &store.files) else {
-            return Err(Untaken::Memory);
-        };
-        store.begun = Some(begun);
         store.restoring = Some(Work::Restore(of.lost));
         store.accepts_loss = of.accepts_loss;
         self.stop = None;
@@ -139,26 +135,14 @@ impl Shelves for MemoryPlaces {
         let Ok(name) = String::from_str(self.alloc, path) else {
             return Err(Untaken::Memory);
         };
+        let (shelf, undoable) = match self.stores.get(path) {
+            Some(store) => begun_undo(self.alloc, store, asked, self.stop)?,
+            None => return Err(Untaken::Device),
+        };
+        let number = undoable.number;
         let Some(store) = self.stores.get_mut(path) else {
             return Err(Untaken::Device);
         };
-        let number = match number_of(store, asked) {
-            Ok(number) => number,
-            Err(untaken) => return Err(untaken),
-        };
-        let undoable = match undoable_of(self.alloc, store, number) {
-            Ok(undoable) => undoable,
-            Err(untaken) => return Err(untaken),
-        };
-        let Ok(shelf) = store.shelf(self.alloc, self.stop) else {
-            return Err(Untaken::Memory);
-        };
-        if store.begun.is_none() {
-            let Ok(begun) = copy_files(self.alloc, &store.files) else {
-                return Err(Untaken::Memory);
-            };
-            store.begun = Some(begun);
-        }
         store.restoring = Some(Work::Undo(number));
         self.stop = None;
         self.taken = Some(name);
@@ -167,7 +151,7 @@ impl Shelves for MemoryPlaces {
 
     fn look(&self, path: &str, _catalog: &Catalog, _lost: Loss) -> Result<MemoryShelf, StoreFault> {
         match self.stores.get(path) {
-            Some(store) => match store.shelf(self.alloc, None) {
+            Some(store) => match store.new_shelf(self.alloc, None) {
                 Ok(shelf) => Ok(shelf),
                 Err(_) => Err(StoreFault::Memory),
             },

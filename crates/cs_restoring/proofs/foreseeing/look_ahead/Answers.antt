@@ -14,8 +14,8 @@ returns-in-Ok-Some g c =
           (record {
             store = c.in-Ok.shelf;
             looked = c.in-Ok.ensures;
-            sites = w.in-Ok-doubted.ensures.0;
-            doubt = subst (IsDoubtOf g.P.Shelf.Source.gives g.P.Shelf.Source.refuses c.args.catalog c.in-Ok.shelf request.lost request.resumes) (sym w.in-Ok-doubted.ensures.1)
+            sites = w.in-Ok-doubted.ensures.ok.0;
+            doubt = subst (IsDoubtOf g.P.Shelf.Source.gives g.P.Shelf.Source.refuses c.args.catalog c.in-Ok.shelf request.lost request.resumes) (sym w.in-Ok-doubted.ensures.ok.1)
                 (record { read = c.in-Ok-read_files.read; seen = c.read_files.new.shelf; from = c.in-Ok-read_files.ensures.from; doubt = c.in-Ok-Some.ensures.doubt c.in-Ok-Some.doubt c.in-Ok-Some.field-0-is });
           })
       | in-Err-doubted w ↦ subst (λ r. IfOk r foresees) (sym w.result-is) tt

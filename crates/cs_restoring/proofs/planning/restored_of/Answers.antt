@@ -7,5 +7,6 @@ returns c = record {
   catalog = refl;
   lost = refl;
   counted = refl;
+  number = refl;
   safe = (c.greatest_k.result, subst (λ (L : List ℕ). IsGreatestK c.args.catalog L c.greatest_k.result) c.none.ensures c.greatest_k.ensures, c.unwrap_or-k.ensures);
 }

@@ -1,9 +1,11 @@
-use Rattle.std.proofs.Common.{subst}
+use Rattle.std.proofs.Common.{◌≢◌, subst}
 use Rattle.std.proofs.lemmas.Result.{IfOk-weaker}
+use Rattle.cs_shelf.specs.Shelf.{KeepsNothing}
+use Rattle.cs_shelf.specs.declared.work.UndoOf.TheVariants.{Unfinished}
 use Rattle.cs_restoring.proofs.undoing.undo.Goals as goal
 
-pub returns-in-Ok-take_undo : goal.returns-in-Ok-take_undo
-returns-in-Ok-take_undo g c =
+pub returns-in-Ok-take_undo-clause-ok : goal.returns-in-Ok-take_undo-clause-ok
+returns-in-Ok-take_undo-clause-ok g c =
     let found = c.in-Ok.found in
     let undoable = c.in-Ok-take_undo.taken in
     let taken = c.take_undo.new.self in
@@ -12,10 +14,10 @@ returns-in-Ok-take_undo g c =
       found = c.find_store.new.places;
       source = found.1;
       finds = c.in-Ok.ensures.ok;
-      back = undoable.1.back;
-      names = undoable.1.names.items;
+      undoable = undoable.1;
       store = undoable.0;
       taken = taken;
-      takes = subst (λ asked. g.P.Shelves.takes_undo c.find_store.new.places c.args.request.now.store.now found.0 asked undoable.1.back undoable.1.names.items undoable.0 taken) c.undo_of.ensures c.in-Ok-take_undo.ensures;
+      takes = subst (λ asked. g.P.Shelves.takes_undo c.find_store.new.places c.args.request.now.store.now found.0 asked undoable.1 undoable.0 taken) c.undo_of.ensures c.in-Ok-take_undo.ensures.ok;
+      new = subst (λ asked. asked ≢ Unfinished → KeepsNothing (g.P.Shelf.Shelf.kept undoable.0)) c.undo_of.ensures c.in-Ok-take_undo.ensures.new;
       ends = ends;
-    }) c.undo_taken.ensures
+    }) c.undo_taken.ensures.ok
