@@ -1,8 +1,8 @@
 # Completions of pinepolo for fish. Written by tools/write-reference.
 complete -c pinepolo -n __fish_use_subcommand -f -a check -d 'Say whether a store is sound, and how many of its sites may fail'
 complete -c pinepolo -n __fish_use_subcommand -f -a show -d 'Show what a store holds, or decode one of its files'
-complete -c pinepolo -n __fish_use_subcommand -f -a diagnose -d 'Say which files are bad, and the loss of which sites explains the store'
-complete -c pinepolo -n __fish_use_subcommand -f -a drill -d 'Test restores: rebuild each loss of a few sites in memory, and compare the result with the stored files'
+complete -c pinepolo -n __fish_use_subcommand -f -a diagnose -d 'Say which files are bad, and which loss of sites explains the store'
+complete -c pinepolo -n __fish_use_subcommand -f -a drill -d 'Test restores: rebuild losses of a few sites in memory, and compare'
 complete -c pinepolo -n __fish_use_subcommand -f -a recover -d 'Rebuild the files of lost sites into a new folder'
 complete -c pinepolo -n __fish_use_subcommand -f -a restore -d 'Rebuild the files of lost sites in place'
 complete -c pinepolo -n __fish_use_subcommand -f -a undo -d 'Put back what a restore or an undo replaced'

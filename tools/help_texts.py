@@ -25,7 +25,9 @@ class Verb:
             elif head in ("Example:", "Examples:"):
                 self.examples = lines
             elif head == "Statuses:":
-                self.statuses = [tuple(re.split(r" {2,}", it, maxsplit=1)) for it in lines]
+                # (what a status means goes on in lines that are indented further)
+                whole = re.sub(r"\n {5}", " ", rest).split("\n")
+                self.statuses = [tuple(re.split(r" {2,}", it.strip(), maxsplit=1)) for it in whole]
             elif head != "Commands:":
                 paragraphs.append(" ".join(part.split()))
         self.about, self.prose = paragraphs[0], paragraphs[1:]

@@ -103,6 +103,7 @@ no-fault columns header (fault.Twice c) h e =
     let here : i.0 < length columns = omega (arith, i.1) in
     let same : i.0 ≡ e.place = h.once i.0 e.place here there i.2 in
     absurd (omega (arith, i.1))
+no-fault columns header (fault.Unclosed n) h e = absurd e
 no-fault columns header fault.TooMany h e = absurd e
 no-fault columns header (fault.Width n cells) h e = absurd e
 no-fault columns header (fault.NotInt n c cell) h e = absurd e

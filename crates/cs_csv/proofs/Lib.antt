@@ -7,6 +7,6 @@ pub mod WriteLemmas
 pub mod HeaderLemmas
 pub mod RowsLemmas
 pub mod ColumnLemmas
-pub mod TextLemmas
+pub mod MarkLemmas
 pub mod ReadLemmas
 pub mod CatalogNames

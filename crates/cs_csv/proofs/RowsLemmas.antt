@@ -1,12 +1,12 @@
 -- What holds after so many rows.
-use Rattle.std.proofs.Common.{◌≡◌, ◌≢◌, ℕ, ◌+◌, ◌<◌, ◌≤◌, List, [], ◌∷◌, ◌++◌, length, map, refl, sym, ap, ◌∙◌, subst, arith, below_more, Some, None, inl, inr}
+use Rattle.std.proofs.Common.{◌≡◌, ◌≢◌, ℕ, ◌+◌, ◌<◌, ◌≤◌, Bool, true, false, List, [], ◌∷◌, ◌++◌, length, map, refl, sym, ap, ◌∙◌, subst, arith, below_more, Some, None, inl, inr}
 use Rattle.std.specs.Prelude.{Option, slice_index}
 use Rattle.std.proofs.lemmas.List.{length-map, map-append, get_or-map, get_or_append_left, get_or_push, length_push, length-append}
 use Rattle.csv.specs.declared.reader.Reader.{Reader}
 use Rattle.cs_csv.specs.Columns.{column}
 use Rattle.cs_schema.specs.CatalogData.{ColumnData, no_column}
 use Rattle.cs_csv.specs.Fields.{IsCellOf, Record, field, kind_at}
-use Rattle.cs_csv.specs.Faults.{AddsField, AreRows, FitsBefore, HoldsRows, IsFieldFault, IsFirstFault, IsFirstRefused, IsRowOf, Refuses, cells_at, column_values, kinds_of, most_rows, row}
+use Rattle.cs_csv.specs.Faults.{AddsField, AreRows, FitsBefore, HoldsRows, IsFieldFault, IsFirstFault, IsFirstRefused, IsRowOf, IsUnclosedFault, Refuses, cells_at, column_values, kinds_of, most_rows, row}
 use Rattle.cs_csv.specs.FaultOf.{IsOutside, fault_of}
 use Rattle.cs_csv.specs.Headers.{IsHeader, IsHeaderFault}
 use Rattle.cs_csv.specs.Places.{ArePlaces}
@@ -37,16 +37,16 @@ row-before rows r m h = get_or_append_left rows (r ∷ []) [] m h
 row-here : (rows : List Record) (r : Record) → row (rows ++ r ∷ []) (length rows) ≡ r
 row-here rows r = get_or_push rows r [] (length rows) refl
 
-pub map-known : (known : Option (List ℕ)) (P Q : List Record → Type 0) → ((all : List Record) → P all → Q all) → IfKnown known P → IfKnown known Q
+pub map-known : (known : Option (List ℕ)) (P Q : List Record → Bool → Type 0) → ((all : List Record) (unclosed : Bool) → P all unclosed → Q all unclosed) → IfKnown known P → IfKnown known Q
 map-known None P Q f p = tt
-map-known (Some text) P Q f p = f (text_records text) p
+map-known (Some text) P Q f p = f (text_records text).0 (text_records text).1 p
 
-pub for-all : (known : Option (List ℕ)) (P : List Record → Type 0) → ((all : List Record) → P all) → IfKnown known P
+pub for-all : (known : Option (List ℕ)) (P : List Record → Bool → Type 0) → ((all : List Record) (unclosed : Bool) → P all unclosed) → IfKnown known P
 for-all None P f = tt
-for-all (Some text) P f = f (text_records text)
+for-all (Some text) P f = f (text_records text).0 (text_records text).1
 
-pub outside-fault : (known : Option (List ℕ)) (columns : List ColumnData) (f : CsvFault) → IsOutside f → IfKnown known (λ all. IsFirstFault columns all f)
-outside-fault known columns f o = for-all known (λ all. IsFirstFault columns all f) (λ all. inl o)
+pub outside-fault : (known : Option (List ℕ)) (columns : List ColumnData) (f : CsvFault) → IsOutside f → IfKnown known (λ all unclosed. IsFirstFault columns all unclosed f)
+outside-fault known columns f o = for-all known (λ all unclosed. IsFirstFault columns all unclosed f) (λ all unclosed. inl o)
 
 module _ (columns : List ColumnData) (header : Record) (rows : List Record) (places : List ℕ) (cells : List Cells) (h : HoldsSoFar columns header rows places cells) where
   -- as many columns as the table has
@@ -85,7 +85,7 @@ module _ (columns : List ColumnData) (header : Record) (rows : List Record) (pla
             (adds c here).1 ∙ rw (h.held c l, kind-is c l) (sym (map-append _ rows (r ∷ [])));
       }
 
-  module _ (r : Record) (rest : List Record) where
+  module _ (r : Record) (rest : List Record) (unclosed : Bool) where
     all-before : (m : ℕ) → m < length rows → row ((rows ++ r ∷ []) ++ rest) m ≡ row rows m
     all-before m l = get_or_append_left (rows ++ r ∷ []) rest [] m (omega (arith, length_push rows r)) ∙ row-before rows r m l
 
@@ -98,10 +98,10 @@ module _ (columns : List ColumnData) (header : Record) (rows : List Record) (pla
     earlier-rows : AreRows columns header ((rows ++ r ∷ []) ++ rest) (length rows)
     earlier-rows m l = rw (all-before m l) (h.are_rows m l)
 
-    many-fault : most_rows ≤ length rows → IsFirstFault columns (header ∷ ((rows ++ r ∷ []) ++ rest)) fault.TooMany
+    many-fault : most_rows ≤ length rows → IsFirstFault columns (header ∷ ((rows ++ r ∷ []) ++ rest)) unclosed fault.TooMany
     many-fault e = inr (inr (h.is_header, (omega (arith, here-within), λ m l. earlier-rows m (omega arith))))
 
-    width-fault : length rows < most_rows → length r ≢ length columns → IsFirstFault columns (header ∷ ((rows ++ r ∷ []) ++ rest)) (fault.Width (length rows) (length r))
+    width-fault : length rows < most_rows → length r ≢ length columns → IsFirstFault columns (header ∷ ((rows ++ r ∷ []) ++ rest)) unclosed (fault.Width (length rows) (length r))
     width-fault low ne = inr (inr (h.is_header, record { there = here-within; few = low; earlier = earlier-rows; is = sym (ap length all-here); other = ne }))
 
     field-fault : (c : ℕ) (w : FieldFault) → length rows < most_rows → length r ≡ length columns → IsFirstRefused cells places r c w
@@ -123,35 +123,35 @@ module _ (columns : List ColumnData) (header : Record) (rows : List Record) (pla
         }
 
     some-fault : (c : ℕ) (w : FieldFault) → length rows < most_rows → length r ≡ length columns → IsFirstRefused cells places r c w
-        → IsFirstFault columns (header ∷ ((rows ++ r ∷ []) ++ rest)) (fault_of (length rows) c w)
+        → IsFirstFault columns (header ∷ ((rows ++ r ∷ []) ++ rest)) unclosed (fault_of (length rows) c w)
     some-fault c why.Memory low e f = inl tt
     some-fault c (why.NotInt cell) low e f = inr (inr (h.is_header, field-fault c (why.NotInt cell) low e f))
     some-fault c why.NotText low e f = inr (inr (h.is_header, field-fault c why.NotText low e f))
     some-fault c (why.TooLong bytes) low e f = inr (inr (h.is_header, field-fault c (why.TooLong bytes) low e f))
 
 -- the records that were read stand first in the text
-first-of : {R : Type 0} (rem : R → Option (List ℕ)) (known : Option (List ℕ)) (rdr : Reader R) (read : List Record) (P : List Record → Type 0) → HasRead rem known rdr read
-    → ((rest : List Record) → P (read ++ rest)) → IfKnown known P
-first-of rem known rdr read P h f = map-known known (λ all. (rest : List Record) × (all ≡ read ++ rest)) P (λ all s. rw s.1 (f s.0)) (read-first rem known rdr read h)
+first-of : {R : Type 0} (rem : R → Option (List ℕ)) (known : Option (List ℕ)) (rdr : Reader R) (ahead : Record) (read : List Record) (P : List Record → Bool → Type 0) → HasRead rem known rdr ahead read
+    → ((rest : List Record) (unclosed : Bool) → P (read ++ rest) unclosed) → IfKnown known P
+first-of rem known rdr ahead read P h f = map-known known (λ all unclosed. (rest : List Record) × (all ≡ read ++ rest)) P (λ all unclosed s. rw s.1 (f s.0 unclosed)) (read-first rem known rdr ahead read h)
 
-module _ {R : Type 0} (rem : R → Option (List ℕ)) (known : Option (List ℕ)) (rdr new : Reader R) (columns : List ColumnData) (places : List ℕ) (cells : List Cells) (n : ℕ) (header : Record) (rows : List Record) (r : Record)
-    (old : RowsRead rem known rdr columns places cells n header rows) (more : HasRead rem known new ((header ∷ rows) ++ r ∷ [])) where
-  pub read-many : most_rows ≤ n → IfKnown known (λ all. IsFirstFault columns all fault.TooMany)
-  read-many e = first-of rem known new _ _ more (λ rest. many-fault columns header rows places cells old.holds r rest (omega (arith, old.size)))
+module _ {R : Type 0} (rem : R → Option (List ℕ)) (known : Option (List ℕ)) (rdr new : Reader R) (before ahead : Record) (columns : List ColumnData) (places : List ℕ) (cells : List Cells) (n : ℕ) (header : Record) (rows : List Record) (r : Record)
+    (old : RowsRead rem known rdr before columns places cells n header rows) (more : HasRead rem known new ahead ((header ∷ rows) ++ r ∷ [])) where
+  pub read-many : most_rows ≤ n → IfKnown known (λ all unclosed. IsFirstFault columns all unclosed fault.TooMany)
+  read-many e = first-of rem known new _ _ _ more (λ rest unclosed. many-fault columns header rows places cells old.holds r rest unclosed (omega (arith, old.size)))
 
-  pub read-width : n < most_rows → length r ≢ length columns → IfKnown known (λ all. IsFirstFault columns all (fault.Width n (length r)))
-  read-width low ne = first-of rem known new _ _ more (λ rest. rw (sym old.size) (width-fault columns header rows places cells old.holds r rest (omega (arith, old.size)) ne))
+  pub read-width : n < most_rows → length r ≢ length columns → IfKnown known (λ all unclosed. IsFirstFault columns all unclosed (fault.Width n (length r)))
+  read-width low ne = first-of rem known new _ _ _ more (λ rest unclosed. rw (sym old.size) (width-fault columns header rows places cells old.holds r rest unclosed (omega (arith, old.size)) ne))
 
   pub read-fault : (c : ℕ) (w : FieldFault) (f : CsvFault) → n < most_rows → length r ≡ length columns → IsFirstRefused cells places r c w → f ≡ fault_of n c w
-      → IfKnown known (λ all. IsFirstFault columns all f)
+      → IfKnown known (λ all unclosed. IsFirstFault columns all unclosed f)
   read-fault c w f low e refused is =
       let full : f ≡ fault_of (length rows) c w = is ∙ ap (λ (m : ℕ). fault_of m c w) (sym old.size) in
-      first-of rem known new _ _ more (λ rest.
-      let P : CsvFault → Type 0 = λ g. IsFirstFault columns (header ∷ ((rows ++ r ∷ []) ++ rest)) g in
-      subst P (sym full) (some-fault columns header rows places cells old.holds r rest c w (omega (arith, old.size)) e refused))
+      first-of rem known new _ _ _ more (λ rest unclosed.
+      let P : CsvFault → Type 0 = λ g. IsFirstFault columns (header ∷ ((rows ++ r ∷ []) ++ rest)) unclosed g in
+      subst P (sym full) (some-fault columns header rows places cells old.holds r rest unclosed c w (omega (arith, old.size)) e refused))
 
   pub read-row : (more_cells : List Cells) → length r ≡ length columns → kinds_of more_cells ≡ kinds_of cells → ((c : ℕ) → c < length places → AddsField cells more_cells (field r (slice_index places c)) c)
-      → RowsRead rem known new columns places more_cells (n + 1) header (rows ++ r ∷ [])
+      → RowsRead rem known new ahead columns places more_cells (n + 1) header (rows ++ r ∷ [])
   read-row more_cells e kinds adds = record {
     read = more;
     size = length_push rows r ∙ ap (λ (m : ℕ). m + 1) old.size;
@@ -168,12 +168,12 @@ rows-held columns header rows places cells h few = record {
   cells_hold = λ c i lc li e. h.held c lc ∙ ap (λ (p : ℕ). column_values (column columns c) p rows) (place-is columns header rows places cells h c i lc li e);
 }
 
-pub header-fault : {R : Type 0} (rem : R → Option (List ℕ)) (known : Option (List ℕ)) (rdr : Reader R) (columns : List ColumnData) (header : Record) (f : CsvFault) → HasRead rem known rdr (header ∷ []) → IsHeaderFault columns header f
-    → IfKnown known (λ all. IsFirstFault columns all f)
-header-fault rem known rdr columns header f h bad = first-of rem known rdr (header ∷ []) (λ all. IsFirstFault columns all f) h (λ rest. inr (inl bad))
+pub header-fault : {R : Type 0} (rem : R → Option (List ℕ)) (known : Option (List ℕ)) (rdr : Reader R) (ahead : Record) (columns : List ColumnData) (header : Record) (f : CsvFault) → HasRead rem known rdr ahead (header ∷ []) → IsHeaderFault columns header f
+    → IfKnown known (λ all unclosed. IsFirstFault columns all unclosed f)
+header-fault rem known rdr ahead columns header f h bad = first-of rem known rdr ahead (header ∷ []) (λ all unclosed. IsFirstFault columns all unclosed f) h (λ rest unclosed. inr (inl bad))
 
 -- a text with no record has no field that names the first column
-pub no-header : (columns : List ColumnData) → 0 < length columns → IsFirstFault columns [] (fault.Missing 0)
+pub no-header : (columns : List ColumnData) → 0 < length columns → IsFirstFault columns [] false (fault.Missing 0)
 no-header columns some = inr (record {
   known = some;
   names = record { named = λ i l. absurd (omega arith); once = λ i j l k. absurd (omega arith) };
@@ -181,5 +181,16 @@ no-header columns some = inr (record {
   none = λ i l. absurd (omega arith);
 })
 
-pub empty-fault : (known : Option (List ℕ)) (columns : List ColumnData) → 0 < length columns → IfKnown known (λ all. all ≡ []) → IfKnown known (λ all. IsFirstFault columns all (fault.Missing 0))
-empty-fault known columns some e = map-known known (λ all. all ≡ []) (λ all. IsFirstFault columns all (fault.Missing 0)) (λ all s. rw s (no-header columns some)) e
+pub empty-fault : (known : Option (List ℕ)) (columns : List ColumnData) → 0 < length columns → IfKnown known (λ all unclosed. (all ≡ []) × (unclosed ≡ false)) → IfKnown known (λ all unclosed. IsFirstFault columns all unclosed (fault.Missing 0))
+empty-fault known columns some e = map-known known (λ all unclosed. (all ≡ []) × (unclosed ≡ false)) (λ all unclosed. IsFirstFault columns all unclosed (fault.Missing 0)) (λ all unclosed s. rw (s.0, s.1) (no-header columns some)) e
+
+-- a text that ends within a quoted cell of its header
+pub unclosed-header : (known : Option (List ℕ)) (columns : List ColumnData) (f : CsvFault) → f ≡ fault.Unclosed 0 → IfKnown known (λ all unclosed. (all ≡ []) × (unclosed ≡ true)) → IfKnown known (λ all unclosed. IsFirstFault columns all unclosed f)
+unclosed-header known columns f is e = map-known known (λ all unclosed. (all ≡ []) × (unclosed ≡ true)) (λ all unclosed. IsFirstFault columns all unclosed f) (λ all unclosed s. rw (s.0, s.1) (inr is)) e
+
+-- one that ends so after rows
+pub unclosed-row : {R : Type 0} (rem : R → Option (List ℕ)) (known : Option (List ℕ)) (rdr : Reader R) (ahead : Record) (columns : List ColumnData) (places : List ℕ) (cells : List Cells) (n : ℕ) (header : Record) (rows : List Record) (f : CsvFault)
+    → RowsRead rem known rdr ahead columns places cells n header rows → n ≤ most_rows → f ≡ fault.Unclosed (n + 1) → IfKnown known (λ all unclosed. (all ≡ header ∷ rows) × (unclosed ≡ true)) → IfKnown known (λ all unclosed. IsFirstFault columns all unclosed f)
+unclosed-row rem known rdr ahead columns places cells n header rows f old few is e =
+    let fault_is : IsUnclosedFault columns header rows true (n + 1) = record { is_open = refl; few = omega (arith, old.size); earlier = old.holds.are_rows; is = omega (arith, old.size) } in
+    map-known known (λ all unclosed. (all ≡ header ∷ rows) × (unclosed ≡ true)) (λ all unclosed. IsFirstFault columns all unclosed f) (λ all unclosed s. rw (s.0, s.1, is) (inr (inr (old.holds.is_header, fault_is)))) e

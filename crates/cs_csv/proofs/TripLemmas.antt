@@ -1,15 +1,19 @@
 -- The text of a table reads as the table.
-use Rattle.std.proofs.Common.{◌≡◌, ◌≢◌, ℕ, zero, suc, ◌<◌, List, [], ◌∷◌, ◌++◌, length, map, refl, sym, ap, ◌∙◌, subst, arith, None, inl, inr, zero-add}
+use Rattle.std.proofs.Common.{◌≡◌, ◌≢◌, ℕ, zero, suc, ◌<◌, List, [], ◌∷◌, ◌++◌, length, map, refl, sym, ap, ◌∙◌, subst, arith, false, Some, append_assoc, inl, inr, zero-add}
 use Rattle.std.specs.Prelude.{slice_index, ⊤}
 use Rattle.std.specs.List.{list_any}
 use Rattle.std.proofs.lemmas.Bool.{cases_Bool, ne_eqb}
-use Rattle.std.proofs.lemmas.List.{get_or-map, get_or_default, length-map, same_lists}
+use Rattle.std.proofs.lemmas.List.{get_or-map, append_cancel_right, get_or_default, length-append, length-map, same_lists}
+use Rattle.std.proofs.lemmas.Option.{same_Some}
+use Rattle.std.proofs.lemmas.Bool.{false≢true}
 use Rattle.std.proofs.lemmas.List.FromFn.{get_or-map-range_with_len, length-map-range_with_len}
-use Rattle.csv.specs.Machine.{next_record}
-use Rattle.csv.specs.Reading.{Reached, default_config, records, strip_bom}
+use Rattle.csv.specs.Machine.{Read, next_record}
+use Rattle.csv.specs.Reading.{default_config, strip_bom}
 use Rattle.csv.specs.Writing.{default_writer, fields_text, is_blank, needs_byte, read_back, row_text}
 use Rattle.csv.specs.declared.parser.State.TheVariants as st
 use Rattle.csv.proofs.RoundTrip.{read-write}
+use Rattle.cs_csv.specs.Ahead.{IsAhead, mark}
+use Rattle.cs_csv.specs.Closed.{closed_from, with_first}
 use Rattle.cs_csv.specs.Columns.{NamesDiffer, column}
 use Rattle.cs_schema.specs.CatalogData.{ColumnData}
 use Rattle.cs_schema.specs.Values.{values}
@@ -26,7 +30,7 @@ use Rattle.cs_csv.specs.declared.fault.FieldFault.TheVariants as why
 use Rattle.cs_csv.specs.declared.fault.CsvFault.{CsvFault}
 use Rattle.cs_csv.specs.declared.fault.CsvFault.TheVariants as fault
 use Rattle.cs_csv.proofs.HeaderLemmas.{no-fault}
-use Rattle.cs_csv.proofs.TextLemmas.{are-all}
+use Rattle.cs_csv.proofs.MarkLemmas.{ahead-from}
 use Rattle.cs_csv.proofs.ValueLemmas.{not-int, not-text, too-long, value-back, value-fits}
 
 -- ---- the records of the text
@@ -44,18 +48,26 @@ same-back : (r : Record) → 0 < length r → read_back r ≡ r
 same-back [] h = absurd (omega arith)
 same-back (x ∷ rest) h = refl
 
-reads-all : (rs : List Record) → HaveFields rs → Reached default_config st.StartRecord (records_text rs) rs st.StartRecord []
-unfolding Reached records_text
-reads-all [] h = (refl, refl)
-reads-all (r ∷ rest) h = ((read_back r, st.StartRecord, records_text rest), read-write r (records_text rest), sym (same-back r h.0), reads-all rest h.1)
+-- a record that the machine reads before more text is the first closed one
+first-closed : (r : Record) (more left : List ℕ) → next_record default_config st.StartRecord [] [] (more ++ mark) ≡ Some (r, st.StartRecord, left ++ mark)
+    → closed_from st.StartRecord [] [] more ≡ with_first r (closed_from st.StartRecord [] [] left)
+first-closed r more left e =
+    let (p, same, ahead) = ahead-from st.StartRecord [] [] more (refl, refl) in
+    let is : p ≡ (r, st.StartRecord, left ++ mark) = same_Some p (r, st.StartRecord, left ++ mark) (sym same ∙ e) in
+    elim (subst (λ (q : Read). IsAhead q.0 q.1 q.2 (closed_from st.StartRecord [] [] more)) is ahead) [
+      | inl (after, c, inl (text, l, fits, is_after)) ↦ c ∙ ap (with_first r) (is_after ∙ ap (closed_from st.StartRecord [] []) (sym (append_cancel_right left text mark l)))
+      | inl (after, c, inr (s, l, is_after)) ↦ absurd (omega (arith, ap length l, length-append left mark))
+      | inr (s, l, last) ↦ absurd (omega (arith, ap length l, length-append left mark))
+    ]
 
--- the end of the text has no record
-at-the-end : next_record default_config st.StartRecord [] [] [] ≡ None
-unfolding next_record
-at-the-end = refl
-
-pub records-back : (rs : List Record) → HaveFields rs → records default_config (records_text rs) ≡ rs
-records-back rs h = are-all default_config st.StartRecord (records_text rs) [] rs (reads-all rs h) at-the-end
+pub records-back : (rs : List Record) → HaveFields rs → closed_from st.StartRecord [] [] (records_text rs) ≡ (rs, false)
+unfolding records_text closed_from
+records-back [] h = refl
+records-back (r ∷ rest) h =
+    let text = records_text rest in
+    let next : next_record default_config st.StartRecord [] [] ((row_text default_writer r ++ text) ++ mark) ≡ Some (r, st.StartRecord, text ++ mark) =
+    ap (next_record default_config st.StartRecord [] []) (append_assoc (row_text default_writer r) text mark) ∙ read-write r (text ++ mark) ∙ ap (λ (q : Record). Some (q, st.StartRecord, text ++ mark)) (same-back r h.0) in
+    first-closed r (row_text default_writer r ++ text) text next ∙ ap (with_first r) (records-back rest h.1)
 
 -- ---- no byte order mark
 
@@ -145,12 +157,13 @@ module _ (columns : List ColumnData) (cells : List Cells) (differ : NamesDiffer 
       let P : ℕ → Type 0 = λ p. Refuses (column columns c).kind (field (row (rows_records cells (row_count cells)) n) p) w in
       never (column columns c).kind (field (row (rows_records cells (row_count cells)) n) c) (field-fits c n f.known ln) (subst P same f.refused)
 
-  row-faults : (f : CsvFault) → IsRowFault columns (names_record columns) (rows_records cells (row_count cells)) f → IsTripFault (row_count cells) f
+  row-faults : (f : CsvFault) → IsRowFault columns (names_record columns) (rows_records cells (row_count cells)) false f → IsTripFault (row_count cells) f
   row-faults fault.Memory h = absurd h
   row-faults fault.Device h = absurd h
   row-faults (fault.Missing c) h = absurd h
   row-faults (fault.Unknown name) h = absurd h
   row-faults (fault.Twice c) h = absurd h
+  row-faults (fault.Unclosed n) h = absurd (false≢true h.is_open)
   row-faults fault.TooMany h =
       let rows = length-map-range_with_len (row_record cells) 0 (row_count cells) in
       inr (refl, omega (arith, rows, h.0))
@@ -162,7 +175,7 @@ module _ (columns : List ColumnData) (cells : List Cells) (differ : NamesDiffer 
   row-faults (fault.NotText n c) h = absurd (fault-column n c why.NotText h not-text)
   row-faults (fault.TooLong n c bytes) h = absurd (fault-column n c (why.TooLong bytes) h (too-long bytes))
 
-  pub no-faults : (f : CsvFault) → IsFirstFault columns (table_records columns cells) f → IsTripFault (row_count cells) f
+  pub no-faults : (f : CsvFault) → IsFirstFault columns (table_records columns cells) false f → IsTripFault (row_count cells) f
   no-faults f (inl o) = inl o
   no-faults f (inr (inl h)) = inl (no-fault columns (names_record columns) f names-header h)
   no-faults f (inr (inr h)) = row-faults f h.1
@@ -173,9 +186,9 @@ no-mark-of [] cells some h = absurd (omega arith)
 no-mark-of (x ∷ rest) cells some h = no-mark _ (begins x.name (names_record rest) (records_text (rows_records cells (row_count cells))) h)
 
 -- the records of the text are the header and the rows
-pub table-back : (columns : List ColumnData) (cells : List Cells) → HasNoMark columns → CellsFit columns cells → text_records (table_text columns cells) ≡ table_records columns cells
+pub table-back : (columns : List ColumnData) (cells : List Cells) → HasNoMark columns → CellsFit columns cells → text_records (table_text columns cells) ≡ (table_records columns cells, false)
 table-back columns cells h fit =
-    ap (records default_config) (no-mark-of columns cells fit.some h)
+    ap (closed_from st.StartRecord [] []) (no-mark-of columns cells fit.some h)
     ∙ records-back (table_records columns cells) (omega (arith, names-length columns, fit.some), have-fields (row_record cells) _ (λ k. omega (arith, row-length cells k, fit.count, fit.some)))
 
 -- a list's head and rest

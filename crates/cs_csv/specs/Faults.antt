@@ -1,5 +1,5 @@
 -- What the records of a text must be, and where one is not.
-use Rattle.std.specs.Prelude.{◌≡◌, ◌≢◌, ◌⊎◌, ℕ, ◌<◌, ◌≤◌, List, [], ◌∷◌, map, length, slice_index, slice_index_or, IsUtf8, ⊤, ◌++◌}
+use Rattle.std.specs.Prelude.{◌≡◌, ◌≢◌, ◌⊎◌, ℕ, ◌+◌, ◌<◌, ◌≤◌, Bool, true, false, List, [], ◌∷◌, map, length, slice_index, slice_index_or, IsUtf8, ⊤, ◌++◌}
 use Rattle.cs_csv.specs.Columns.{column}
 use Rattle.cs_csv.specs.Headers.{IsHeader, IsHeaderFault}
 use Rattle.cs_csv.specs.Shown.{shown}
@@ -65,23 +65,33 @@ pub record IsWidthFault (columns : List ColumnData) (header : Record) (rows : Li
   pub is : cells ≡ length (row rows n)
   pub other : cells ≢ length columns
 
--- what a fault says of the records after a header
-abbrev pub IsRowFault : List ColumnData → Record → List Record → CsvFault → Type 0
-IsRowFault columns header rows fault.TooMany = (most_rows < length rows) × AreRows columns header rows most_rows
-IsRowFault columns header rows (fault.Width n cells) = IsWidthFault columns header rows n cells
-IsRowFault columns header rows (fault.NotInt n c cell) = IsFieldFault columns header rows n c (why.NotInt cell)
-IsRowFault columns header rows (fault.NotText n c) = IsFieldFault columns header rows n c why.NotText
-IsRowFault columns header rows (fault.TooLong n c bytes) = IsFieldFault columns header rows n c (why.TooLong bytes)
-IsRowFault columns header rows _ = ⊥
+-- the text ends within a quoted cell, after so many records: a header and rows
+pub record IsUnclosedFault (columns : List ColumnData) (header : Record) (rows : List Record) (unclosed : Bool) (n : ℕ) : Type 0 where
+  pub is_open : unclosed ≡ true
+  pub few : length rows ≤ most_rows
+  pub earlier : AreRows columns header rows (length rows)
+  pub is : n ≡ length rows + 1
 
--- what a fault says of the records of a text, of which the first is the header: a text with none has an empty one
-abbrev pub IsTextFault : List ColumnData → List Record → CsvFault → Type 0
-IsTextFault columns [] f = IsHeaderFault columns [] f
-IsTextFault columns (header ∷ rows) f = IsHeaderFault columns header f ⊎ (IsHeader columns header × IsRowFault columns header rows f)
+-- what a fault says of the records after a header, and of whether the text ends within a quoted cell after them
+abbrev pub IsRowFault : List ColumnData → Record → List Record → Bool → CsvFault → Type 0
+IsRowFault columns header rows unclosed fault.TooMany = (most_rows < length rows) × AreRows columns header rows most_rows
+IsRowFault columns header rows unclosed (fault.Width n cells) = IsWidthFault columns header rows n cells
+IsRowFault columns header rows unclosed (fault.NotInt n c cell) = IsFieldFault columns header rows n c (why.NotInt cell)
+IsRowFault columns header rows unclosed (fault.NotText n c) = IsFieldFault columns header rows n c why.NotText
+IsRowFault columns header rows unclosed (fault.TooLong n c bytes) = IsFieldFault columns header rows n c (why.TooLong bytes)
+IsRowFault columns header rows unclosed (fault.Unclosed n) = IsUnclosedFault columns header rows unclosed n
+IsRowFault columns header rows unclosed _ = ⊥
+
+-- what a fault says of the closed records of a text, of which the first is the header, and of whether the text ends
+-- within a quoted cell after them: a text with no record has an empty header, unless it ends within a quoted cell of it
+abbrev pub IsTextFault : List ColumnData → List Record → Bool → CsvFault → Type 0
+IsTextFault columns [] false f = IsHeaderFault columns [] f
+IsTextFault columns [] true f = f ≡ fault.Unclosed 0
+IsTextFault columns (header ∷ rows) unclosed f = IsHeaderFault columns header f ⊎ (IsHeader columns header × IsRowFault columns header rows unclosed f)
 
 -- memory ran out, the reader failed, or it is the first fault of the text
-abbrev pub IsFirstFault : List ColumnData → List Record → CsvFault → Type 0
-IsFirstFault columns records f = IsOutside f ⊎ IsTextFault columns records f
+abbrev pub IsFirstFault : List ColumnData → List Record → Bool → CsvFault → Type 0
+IsFirstFault columns records unclosed f = IsOutside f ⊎ IsTextFault columns records unclosed f
 
 -- the cells of a column, of which the header names the field at place `i`
 abbrev pub column_values : ColumnData → ℕ → List Record → List Value

@@ -18,8 +18,8 @@ pub record HoldsSoFar (columns : List ColumnData) (header : Record) (rows : List
   pub are_rows : AreRows columns header rows (length rows)
   pub held : (c : ℕ) → c < length columns → cells_at cells c ≡ column_values (column columns c) (slice_index places c) rows
 
--- the reader has read them
-pub record RowsRead {R : Type 0} (rem : R → Option (List ℕ)) (known : Option (List ℕ)) (rdr : Reader R) (columns : List ColumnData) (places : List ℕ) (cells : List Cells) (n : ℕ) (header : Record) (rows : List Record) : Type 0 where
-  pub read : HasRead rem known rdr (header ∷ rows)
+-- the reader has read them, and a record ahead
+pub record RowsRead {R : Type 0} (rem : R → Option (List ℕ)) (known : Option (List ℕ)) (rdr : Reader R) (ahead : Record) (columns : List ColumnData) (places : List ℕ) (cells : List Cells) (n : ℕ) (header : Record) (rows : List Record) : Type 0 where
+  pub read : HasRead rem known rdr ahead (header ∷ rows)
   pub size : length rows ≡ n
   pub holds : HoldsSoFar columns header rows places cells

@@ -82,6 +82,10 @@ impl fmt::Display for CsvWords<'_> {
             CsvFault::TooMany => f.write_str(
                 "record 16777217: more rows than any catalog has room for",
             ),
+            CsvFault::Unclosed { before } => write!(
+                f,
+                "record {before}: a quoted cell is not closed: close it, or get the rest of the text"
+            ),
             CsvFault::Width { record, cells } => self.write_width(f, *record, *cells),
             CsvFault::NotInt { record, column, .. }
             | CsvFault::NotText { record, column }

@@ -2,7 +2,9 @@
 ghost use Rattle.std.specs.Prelude.{OnOk};
 ghost use Rattle.cs_file_system.specs.System.{system_locked};
 
-use std::fs::{File, TryLockError};
+use crate::failed_calls::Operation;
+use crate::noted_files::NotedFile;
+use std::fs::TryLockError;
 use std::io;
 use std::io::ErrorKind;
 
@@ -30,28 +32,28 @@ fn lock_error(tried: Result<(), TryLockError>) -> io::Result<()> {
 }
 
 /// Whether another program has a file locked, by a lock that is let go at once.
-pub fn is_held(file: &File) -> io::Result<bool> {
-    match lock_error(file.try_lock_shared()) {
+pub fn is_held(file: &NotedFile) -> io::Result<bool> {
+    match lock_error(file.file.try_lock_shared()) {
         Ok(()) => {
-            file.unlock()?;
+            file.noted(Operation::Lock, file.file.unlock())?;
             Ok(false)
         }
         Err(e) if e.kind() == ErrorKind::WouldBlock => Ok(true),
-        Err(e) => Err(e),
+        Err(e) => file.noted(Operation::Lock, Err(e)),
     }
 }
 
 #[tactic(auto, using(crate::specs::System::trusted_locked))]
-impl TryLock for File {
+impl TryLock for NotedFile {
     ghost is_locked = { system_locked };
 
     fn take_lock(&self) -> io::Result<()> {
         for _ in 1..TRIES {
-            match lock_error(self.try_lock()) {
+            match lock_error(self.file.try_lock()) {
                 Err(e) if e.kind() == ErrorKind::WouldBlock => {}
-                done => return done,
+                done => return self.noted(Operation::Lock, done),
             }
         }
-        lock_error(self.try_lock())
+        self.noted(Operation::Lock, lock_error(self.file.try_lock()))
     }
 }

@@ -1,5 +1,7 @@
 //! Whose a new file is, and who may read it.
-use std::fs::{File, OpenFile, Permissions};
+use crate::failed_calls::Operation;
+use crate::noted_files::NotedFile;
+use std::fs::{OpenFile, Permissions};
 use std::io::ErrorKind;
 use std::os::unix::fs::{MetadataExt, PermissionsExt, fchown};
 use std::rt::Files;
@@ -32,11 +34,12 @@ pub trait SetOwner {
     fn set_owner(&self, owner: Owner) -> io::Result<()>;
 }
 
-impl SetOwner for File {
+impl SetOwner for NotedFile {
     fn set_owner(&self, owner: Owner) -> io::Result<()> {
         let made = OpenFile::metadata(self)?;
         if made.uid() != owner.user || made.gid() != owner.group {
-            fchown(self, Some(owner.user), Some(owner.group))?;
+            let given = fchown(&self.file, Some(owner.user), Some(owner.group));
+            self.noted(Operation::SetOwner, given)?;
         }
         OpenFile::set_permissions(self, Permissions::from_mode(owner.mode))
     }

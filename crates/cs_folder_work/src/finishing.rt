@@ -5,16 +5,17 @@ use crate::replaced::kept_record;
 use crate::store_folders::StoreFolders;
 use crate::syncing::folders_of;
 use crate::taking::Taken;
-use cs_file_system::{EndOfWork, FileSystem, SystemFiles, end_recorded, end_work, unmark};
+use cs_file_system::{
+    EndOfWork, FileSystem, StoreFiles, SystemFiles, end_recorded, end_work, unmark,
+};
 use cs_shelf::{JOURNAL, RESTORING};
 use std::alloc::Global;
-use std::fs::File;
 use std::rt::Files;
 use std::time::Clock;
 use std::{fs, io};
 
 /// Ends work that is finished: its line joins the journal, and its record what it keeps. Whether that is on the disk.
-pub fn finish<R: Files<File = File> + Clock>(
+pub fn finish<R: StoreFiles + Clock>(
     alloc: Global,
     rt: &R,
     folders: &StoreFolders,
@@ -44,7 +45,7 @@ fn end_of(alloc: Global, store: &str, number: u32, changed: Vec<String>) -> io::
 
 /// Ends work that changed the store. If its record is with what it keeps already, its line is in the journal; but a run that
 /// was stopped may not have synced the record's name.
-fn end_changes<R: Files<File = File> + Clock>(
+fn end_changes<R: StoreFiles + Clock>(
     alloc: Global,
     rt: &R,
     folders: &StoreFolders,

@@ -1,10 +1,9 @@
 //! Giving a store back.
 use crate::finishing::{finish, remove_record};
 use crate::shelf::FolderShelf;
+use cs_file_system::StoreFiles;
 use cs_store::StoreFault;
-use std::fs::File;
 use std::io::ErrorKind;
-use std::rt::Files;
 use std::time::Clock;
 
 /// How a store was given back.
@@ -18,7 +17,7 @@ pub struct Ended {
     pub is_synced: bool,
 }
 
-impl<R: Files<File = File> + Clock + Copy + Drop> FolderShelf<R> {
+impl<R: StoreFiles + Clock + Copy + Drop> FolderShelf<R> {
     /// Gives the store back: its work is finished, or ended early. Work that ended early after the store may have changed
     /// stays unfinished.
     pub fn give_back(self, is_finished: bool) -> Result<Ended, StoreFault> {

@@ -5,11 +5,10 @@ use crate::keeping::{keep_names, make_kept_folder};
 use crate::record::Change;
 use crate::shelf::{FolderShelf, only_looked_at};
 use crate::store_folders::Part;
-use cs_file_system::SystemFiles;
+use cs_file_system::{StoreFiles, SystemFiles};
 use cs_schema::FileName;
 use std::alloc::{AllocError, Global};
 use std::collections::BTreeMap;
-use std::fs::File;
 use std::io;
 use std::rt::Files;
 
@@ -86,7 +85,7 @@ impl<R: Files + Copy + Drop> FolderShelf<R> {
     }
 }
 
-impl<R: Files<File = File> + Copy + Drop> FolderShelf<R> {
+impl<R: StoreFiles + Copy + Drop> FolderShelf<R> {
     /// Keeps what stands under these names, and then writes down what becomes of each.
     pub fn keep_all(&mut self, names: &[FileName]) -> io::Result<()>
         ensures { self.new.faults ≡ self.old.faults }

@@ -1,16 +1,14 @@
 //! Whether there is work on a store, and a run is at it.
 use crate::recording::read_record;
 use crate::taking::failed;
-use cs_file_system::{is_held, is_named, open_unlinked};
+use cs_file_system::{NotedFile, StoreFiles, is_held, is_named, open_unlinked};
 use cs_shelf::{Pending, RESTORING, Untaken, WorkKind};
 use std::alloc::{AllocError, Global};
-use std::fs::File;
 use std::io;
 use std::io::ErrorKind;
-use std::rt::Files;
 
 /// The file of a record that was opened; none if nothing is there. What is no regular file is no record.
-pub fn opened(tried: io::Result<File>) -> Result<Option<File>, Untaken> {
+pub fn opened(tried: io::Result<NotedFile>) -> Result<Option<NotedFile>, Untaken> {
     match tried {
         Ok(file) => Ok(Some(file)),
         Err(e) if e.kind() == ErrorKind::NotFound => Ok(None),
@@ -23,10 +21,10 @@ pub fn opened(tried: io::Result<File>) -> Result<Option<File>, Untaken> {
 const LOOKS: u32 = 16;
 
 /// The work that an open record tells of, and whether a run is at it; none if the record has no name any more.
-fn pending_by<R: Files<File = File>>(
+fn pending_by<R: StoreFiles>(
     rt: &R,
     path: &str,
-    file: &File,
+    file: &NotedFile,
     kind: WorkKind,
 ) -> Option<Pending> {
     match is_held(file) {
@@ -41,7 +39,7 @@ fn pending_by<R: Files<File = File>>(
 }
 
 /// The work of which the record stands at a path, if there is one, and whether a run is at it.
-fn pending_at<R: Files<File = File>>(
+fn pending_at<R: StoreFiles>(
     alloc: Global,
     rt: &R,
     path: &str,
@@ -62,7 +60,7 @@ fn pending_at<R: Files<File = File>>(
 
 /// The work on the store in this folder that is not finished, if any, and whether a run is at it. If its record can't be read it
 /// is a restore.
-pub fn pending_work<R: Files<File = File>>(
+pub fn pending_work<R: StoreFiles>(
     alloc: Global,
     rt: &R,
     store: &str,
@@ -87,11 +85,7 @@ fn untaken_by(pending: Pending) -> Untaken {
 }
 
 /// Sees that there is no work on the store with the record at this path.
-pub fn require_idle<R: Files<File = File>>(
-    alloc: Global,
-    rt: &R,
-    path: &str,
-) -> Result<(), Untaken> {
+pub fn require_idle<R: StoreFiles>(alloc: Global, rt: &R, path: &str) -> Result<(), Untaken> {
     match pending_at(alloc, rt, path)? {
         Some(pending) => Err(untaken_by(pending)),
         None => Ok(()),

@@ -8,14 +8,13 @@ use crate::sealing::is_long_and_damaged;
 use crate::store_folders::StoreFolders;
 use crate::syncing::sync_folders_of;
 use crate::taking::Taken;
-use cs_file_system::{FileSystem, SystemFiles};
+use cs_file_system::{FileSystem, StoreFiles, SystemFiles};
 use cs_folders::{FileLimits, StoreFolder, file_in};
 use cs_schema::FileName;
 use cs_shelf::Shelf;
 use cs_sites::SitedSource;
 use cs_store::{Source, StoreFault};
 use std::alloc::Global;
-use std::fs::File;
 use std::io;
 use std::io::ErrorKind;
 use std::rt::Files;
@@ -206,7 +205,7 @@ impl<R: Files + Copy + Drop> Source for FolderShelf<R> {
     }
 }
 
-impl<R: Files<File = File> + Copy + Drop> FolderShelf<R> {
+impl<R: StoreFiles + Copy + Drop> FolderShelf<R> {
     /// Puts the bytes under the name: what stood there stays until the rename, which is one step.
     fn replace_file(&mut self, name: FileName, bytes: &[u8]) -> io::Result<()>
         ensures { self.new.faults ≡ self.old.faults }
@@ -226,7 +225,7 @@ impl<R: Files<File = File> + Copy + Drop> FolderShelf<R> {
     }
 }
 
-impl<R: Files<File = File> + Copy + Drop> Shelf for FolderShelf<R> {
+impl<R: StoreFiles + Copy + Drop> Shelf for FolderShelf<R> {
     ghost use Rattle.cs_folder_work.specs.Claims.{no_claim};
 
     ghost holds = { λ s c. ⊥ };

@@ -7,12 +7,13 @@ use crate::record::{Change, Record};
 use crate::recording::read_record;
 use crate::replaced::last_number;
 use crate::store_folders::StoreFolders;
-use cs_file_system::{SystemFiles, begin_record, lock_at, open_to_lock, rewrite_record, sweep};
+use cs_file_system::{
+    NotedFile, StoreFiles, SystemFiles, begin_record, lock_at, open_to_lock, rewrite_record, sweep,
+};
 use cs_schema::FileName;
 use cs_shelf::{RESTORING, Untaken, Work};
 use std::alloc::Global;
 use std::collections::BTreeMap;
-use std::fs::File;
 use std::io::ErrorKind;
 use std::rt::Files;
 use std::{fs, io};
@@ -26,7 +27,7 @@ pub struct Taken {
     /// Whether an earlier run may have kept, moved or replaced anything.
     pub has_changed: bool,
     /// The file of the record.
-    lock: File,
+    lock: NotedFile,
     ghost is_locked: { system_locked lock } by { system_locked-prop lock },
 }
 
@@ -48,7 +49,7 @@ impl Taken {
     }
 
     /// Writes the record anew, in the place of the one that stands: whole or not at all.
-    fn write_record<R: Files<File = File>>(
+    fn write_record<R: StoreFiles>(
         &mut self,
         alloc: Global,
         rt: &R,
@@ -67,7 +68,7 @@ impl Taken {
     }
 
     /// Writes down what becomes of each name.
-    pub fn note<R: Files<File = File>>(
+    pub fn note<R: StoreFiles>(
         &mut self,
         alloc: Global,
         rt: &R,
@@ -79,7 +80,7 @@ impl Taken {
     }
 
     /// Takes the next number of `replaced/N` and writes it down. The store is locked, so that no other work takes it too.
-    fn take_number<R: Files<File = File> + Alloc + Clone + Drop>(
+    fn take_number<R: StoreFiles + Alloc + Clone + Drop>(
         &mut self,
         alloc: Global,
         rt: &R,
@@ -103,7 +104,7 @@ pub fn failed(error: io::Error) -> Untaken {
 
 /// Takes the store in these folders for this work, unless other work is unfinished, and writes down whether a restore's loss
 /// is accepted. The record is there whole or not at all, and locked as long as it is taken.
-pub fn take<R: Files<File = File> + Alloc + Clone + Drop>(
+pub fn take<R: StoreFiles + Alloc + Clone + Drop>(
     alloc: Global,
     rt: &R,
     folders: &StoreFolders,
@@ -137,7 +138,7 @@ pub fn take<R: Files<File = File> + Alloc + Clone + Drop>(
 }
 
 /// Writes the record of new work, locked; none if another program has taken the folder meanwhile.
-fn write_new<R: Files<File = File>>(
+fn write_new<R: StoreFiles>(
     alloc: Global,
     rt: &R,
     store: &str,
@@ -181,7 +182,7 @@ fn moved_name<R: Files>(
 }
 
 /// Locks the record at a path, to go on with the work that it tells of.
-fn lock_record<R: Files<File = File>>(alloc: Global, rt: &R, path: &str) -> Result<Taken, Untaken> {
+fn lock_record<R: StoreFiles>(alloc: Global, rt: &R, path: &str) -> Result<Taken, Untaken> {
     let Some(mut file) = opened(open_to_lock(rt, path))? else {
         return Err(Untaken::Finished);
     };
@@ -201,7 +202,7 @@ fn lock_record<R: Files<File = File>>(alloc: Global, rt: &R, path: &str) -> Resu
 
 /// Takes the store in these folders to go on with its unfinished restore or undo. Work that was stopped before it had a number
 /// gets one.
-pub fn resume<R: Files<File = File> + Alloc + Clone + Drop>(
+pub fn resume<R: StoreFiles + Alloc + Clone + Drop>(
     alloc: Global,
     rt: &R,
     folders: &StoreFolders,

@@ -3,10 +3,10 @@ use crate::finishing::remove_record;
 use crate::replaced::{last_finished, read_replaced};
 use crate::store_folders::StoreFolders;
 use crate::taking::{Taken, failed, resume, take};
+use cs_file_system::StoreFiles;
 use cs_folders::FileLimits;
 use cs_shelf::{UndoOf, Undoable, Untaken, Work, WorkKind};
 use std::alloc::Global;
-use std::fs::File;
 use std::rt::Files;
 
 /// The number of the last work that was finished.
@@ -35,7 +35,7 @@ fn taken_with(
 }
 
 /// Takes the store in these folders to go on with its unfinished undo.
-fn go_on<R: Files<File = File> + Alloc + Clone + Drop>(
+fn go_on<R: StoreFiles + Alloc + Clone + Drop>(
     alloc: Global,
     rt: &R,
     folders: &StoreFolders,
@@ -69,7 +69,7 @@ fn kept_by<R: Files + Alloc + Clone + Drop>(
 
 /// Takes the store in these folders for an undo, and reads what that puts back. What is refused then leaves the store free,
 /// unless the undo was unfinished.
-pub fn take_undo<R: Files<File = File> + Alloc + Clone + Drop>(
+pub fn take_undo<R: StoreFiles + Alloc + Clone + Drop>(
     alloc: Global,
     rt: &R,
     folders: &StoreFolders,

@@ -2,11 +2,10 @@
 use crate::new_store::{check_written, is_there, partial_path, write_checked};
 use crate::output::failed;
 use crate::paths::{file_in, no_memory, path_in};
-use cs_file_system::{FileSystem, SystemFiles, begin_mark};
+use cs_file_system::{FileSystem, NotedFile, StoreFiles, SystemFiles, begin_mark};
 use cs_schema::FileName;
 use cs_store::StoreFault;
 use std::alloc::{AllocError, Global};
-use std::fs::File;
 use std::rt::Files;
 
 /// The copy of the catalog in the folder of a site, before it has its name: it is written first and named last. So a folder
@@ -21,16 +20,16 @@ pub struct NewSite {
     /// The files that were written into it.
     pub names: Vec<FileName>,
     /// Its copy of the catalog, locked as long as the store is made.
-    mark: File,
+    mark: NotedFile,
 }
 
 /// Makes the folder unless it is there, and writes its copy of the catalog, which is locked.
-fn begin_folder<R: Files<File = File>>(
+fn begin_folder<R: StoreFiles>(
     alloc: Global,
     rt: &R,
     path: &str,
     catalog: &[u8],
-) -> Result<File, StoreFault> {
+) -> Result<NotedFile, StoreFault> {
     let files = &mut SystemFiles(rt);
     if !is_there(rt, path)? {
         let parent = path_in(alloc, path, "..").map_err(no_memory)?;
@@ -46,7 +45,7 @@ fn begin_folder<R: Files<File = File>>(
 
 impl NewSite {
     /// Begins the folder at this path, which is made unless it is there, with its copy of the catalog.
-    pub fn begin<R: Files<File = File>>(
+    pub fn begin<R: StoreFiles>(
         alloc: Global,
         rt: &R,
         path: &str,

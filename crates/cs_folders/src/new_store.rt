@@ -5,11 +5,12 @@ use crate::output::failed;
 use crate::paths::{file_in, no_memory, path_in};
 use crate::reading::read_file;
 use crate::unfinished::{LOADING, LOADING_TEXT, remove_unfinished, way_beside};
-use cs_file_system::{FileSystem, SystemFiles, begin_mark, new_folder_beside, write_synced};
+use cs_file_system::{
+    FileSystem, NotedFile, StoreFiles, SystemFiles, begin_mark, new_folder_beside, write_synced,
+};
 use cs_schema::FileName;
 use cs_store::StoreFault;
 use std::alloc::{AllocError, Global};
-use std::fs::File;
 use std::io::ErrorKind;
 use std::rt::Files;
 use std::{fs, io};
@@ -72,7 +73,7 @@ pub(crate) fn is_there<R: Files>(rt: &R, path: &str) -> Result<bool, StoreFault>
 }
 
 /// What stands where something new is to be made. Nothing is changed.
-pub fn way_to<R: Files<File = File>>(alloc: Global, rt: &R, path: &str) -> Result<Way, StoreFault> {
+pub fn way_to<R: StoreFiles>(alloc: Global, rt: &R, path: &str) -> Result<Way, StoreFault> {
     let name = path.trim_end_matches('/');
     if name.is_empty() || is_there(rt, name)? {
         return Ok(Way::Taken);
@@ -93,16 +94,16 @@ pub struct NewStoreFolder<R> {
     partial: String,
     catalog: Vec<u8>,
     /// The mark in the folder, locked as long as the store is made.
-    mark: File,
+    mark: NotedFile,
 }
 
 /// Makes a folder with the mark of a new store, which is locked, and gives it a name that nothing has.
-fn name_begun<R: Files<File = File>>(
+fn name_begun<R: StoreFiles>(
     alloc: Global,
     rt: &R,
     own: &str,
     partial: &str,
-) -> io::Result<File> {
+) -> io::Result<NotedFile> {
     let files = &mut SystemFiles(rt);
     let mark = path_in(alloc, own, LOADING)?;
     let mark = begin_mark(files, mark.as_str(), LOADING_TEXT)?;
@@ -117,13 +118,13 @@ fn name_begun<R: Files<File = File>>(
 
 /// Makes the folder of a new store, which has its mark when it gets the name `partial`; if `replaces`, in the place of one that
 /// a run left which was stopped. An error of the kind `AlreadyExists` if the store is there.
-fn begin<R: Files<File = File>>(
+fn begin<R: StoreFiles>(
     alloc: Global,
     rt: &R,
     path: &str,
     partial: &str,
     replaces: bool,
-) -> io::Result<File> {
+) -> io::Result<NotedFile> {
     let files = &mut SystemFiles(rt);
     if replaces && fs::exists(rt, partial)? {
         remove_unfinished(alloc, rt, partial)?;
@@ -144,7 +145,7 @@ fn begin<R: Files<File = File>>(
     begun
 }
 
-impl<R: Files<File = File> + Drop> NewStoreFolder<R> {
+impl<R: StoreFiles + Drop> NewStoreFolder<R> {
     /// Makes the folder beside the path of the store, if `replaces` in the place of one that a run left which was stopped; its
     /// catalog is written last.
     pub fn make(

@@ -5,12 +5,11 @@ use crate::new_store::Way;
 use crate::paths::path_in;
 use crate::reading::{read_bounded, unless_missing};
 use cs_file_system::{
-    FileSystem, SystemFiles, is_held, lock_at, new_folder_beside, open_regular, open_to_lock,
+    FileSystem, NotedFile, StoreFiles, SystemFiles, is_held, lock_at, new_folder_beside,
+    open_regular, open_to_lock,
 };
 use std::alloc::Global;
-use std::fs::File;
 use std::io::ErrorKind;
-use std::rt::Files;
 use std::{fs, io};
 
 /// The mark in the folder of a new store as long as it is made. It is locked by the run that makes the store.
@@ -22,13 +21,13 @@ pub const LOADING_TEXT: &[u8] = b"pinepolo makes a store here\n";
 /// The mark of something new that a run left which was stopped. This run has it locked.
 #[derive(Drop)]
 pub struct LeftMark {
-    file: File,
+    file: NotedFile,
     ghost is_locked: { system_locked file } by { system_locked-prop file },
 }
 
 impl LeftMark {
     /// Locks the mark at a path. An error of the kind `WouldBlock` if the run that made it is at work.
-    pub fn lock<R: Files<File = File>>(rt: &R, path: &str) -> io::Result<Self> {
+    pub fn lock<R: StoreFiles>(rt: &R, path: &str) -> io::Result<Self> {
         let file = open_to_lock(rt, path)?;
         lock_at(&mut SystemFiles(rt), path, &file)?;
         Ok(Self { file })
@@ -37,7 +36,7 @@ impl LeftMark {
 
 /// Whether the bytes of a file are those of the mark of a new store, or their first: a run may have been stopped while it wrote
 /// them.
-fn is_mark(alloc: Global, file: &mut File) -> bool {
+fn is_mark(alloc: Global, file: &mut NotedFile) -> bool {
     match read_bounded(alloc, file, LOADING_TEXT.len() as u64) {
         Ok(bytes) => LOADING_TEXT.starts_with(bytes.as_slice()),
         Err(_) => false,
@@ -46,7 +45,7 @@ fn is_mark(alloc: Global, file: &mut File) -> bool {
 
 /// What stands beside the path of a new store: what a run makes there that is at work or was stopped, or something that no run
 /// makes.
-fn way_of_folder<R: Files<File = File>>(alloc: Global, rt: &R, partial: &str) -> io::Result<Way> {
+fn way_of_folder<R: StoreFiles>(alloc: Global, rt: &R, partial: &str) -> io::Result<Way> {
     if !fs::symlink_metadata(rt, partial)?.is_dir() {
         return Ok(Way::Foreign);
     }
@@ -61,7 +60,7 @@ fn way_of_folder<R: Files<File = File>>(alloc: Global, rt: &R, partial: &str) ->
 }
 
 /// Whether the run that made a mark is at work, or was stopped.
-pub fn way_of_mark(mark: &File) -> io::Result<Way> {
+pub fn way_of_mark(mark: &NotedFile) -> io::Result<Way> {
     if is_held(mark)? {
         Ok(Way::Busy)
     } else {
@@ -70,7 +69,7 @@ pub fn way_of_mark(mark: &File) -> io::Result<Way> {
 }
 
 /// What stands beside the path of a new store, if anything does.
-pub fn way_beside<R: Files<File = File>>(alloc: Global, rt: &R, partial: &str) -> io::Result<Way> {
+pub fn way_beside<R: StoreFiles>(alloc: Global, rt: &R, partial: &str) -> io::Result<Way> {
     match way_of_folder(alloc, rt, partial) {
         Err(e) if e.kind() == ErrorKind::NotFound => Ok(Way::Free),
         Err(e) if e.kind() == ErrorKind::InvalidInput => Ok(Way::Foreign),
@@ -80,7 +79,7 @@ pub fn way_beside<R: Files<File = File>>(alloc: Global, rt: &R, partial: &str) -
 
 /// Removes the folder of a new store that a run left which was stopped: it gets a name of this run's own first, and goes if its
 /// mark is the one that is locked.
-fn remove_marked<R: Files<File = File>>(
+fn remove_marked<R: StoreFiles>(
     alloc: Global,
     rt: &R,
     partial: &str,
@@ -98,11 +97,7 @@ fn remove_marked<R: Files<File = File>>(
 
 /// Removes what a run left beside the path of a new store that was stopped. An error of the kind `WouldBlock` if that run is at
 /// work.
-pub fn remove_unfinished<R: Files<File = File>>(
-    alloc: Global,
-    rt: &R,
-    partial: &str,
-) -> io::Result<()> {
+pub fn remove_unfinished<R: StoreFiles>(alloc: Global, rt: &R, partial: &str) -> io::Result<()> {
     let mark = path_in(alloc, partial, LOADING)?;
     let mark = LeftMark::lock(rt, mark.as_str())?;
     remove_marked(alloc, rt, partial, &mark)

@@ -11,15 +11,15 @@ use Rattle.cs_schema.proofs.Lists.{in_at}
 use Rattle.cs_jix.specs.JoinIndex.{Place, no_place, placed_entry}
 use Rattle.cs_rebuild.specs.Verifying.{entry_or_zero}
 
-both : (a b : Bool) → a ≡ true → b ≡ true → (a && b) ≡ true
+pub both : (a b : Bool) → a ≡ true → b ≡ true → (a && b) ≡ true
 both true b e f = f
 both false b e f = absurd (false≢true e)
 
-first_of : (a b : Bool) → (a && b) ≡ true → a ≡ true
+pub first_of : (a b : Bool) → (a && b) ≡ true → a ≡ true
 first_of true b e = refl
 first_of false b e = e
 
-rest_of : (a b : Bool) → (a && b) ≡ true → b ≡ true
+pub rest_of : (a b : Bool) → (a && b) ≡ true → b ≡ true
 rest_of true b e = e
 rest_of false b e = absurd (false≢true e)
 

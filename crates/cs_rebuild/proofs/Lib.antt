@@ -21,7 +21,7 @@ pub mod SoundFacts
 pub mod SurveySteps
 pub mod Verdicts
 pub mod VerifiedStores
-pub mod ListedFiles
+pub mod FilesToWrite
 pub mod WalkPieces
 pub mod WrittenFiles
 pub mod BuiltFiles

@@ -8,8 +8,16 @@ use Rattle.std.proofs.Math.Seq.{take-suc}
 use Rattle.cs_schema.specs.CatalogData.{CatalogData, has_join, segments}
 use Rattle.cs_schema.specs.Lists.{numbers_below}
 use Rattle.cs_schema.specs.Losses.{lost, Sites}
-use Rattle.cs_rebuild.specs.Surveys.{survivors_of, survivors_below, joins_at, joins_among}
+use Rattle.cs_rebuild.specs.Surveys.{joins_at, joins_among}
 use Rattle.cs_rebuild.proofs.Names.{below_one_more}
+
+-- the surviving segments among the first n of a projection
+abbrev pub survivors_of : CatalogData → Sites → ℕ → ℕ → List (ℕ × ℕ)
+survivors_of C L p n = filter (λ (a : ℕ × ℕ). not (lost C L a.0 a.1)) (map (λ s. (p, s)) (numbers_below n))
+
+-- the surviving segments of the first n projections
+abbrev pub survivors_below : CatalogData → Sites → ℕ → List (ℕ × ℕ)
+survivors_below C L n = filter (λ (a : ℕ × ℕ). not (lost C L a.0 a.1)) (flat_map (λ p. map (λ s. (p, s)) (numbers_below (segments C p))) (numbers_below n))
 
 module _ (C : CatalogData) (L : Sites) where
   more : (p s : ℕ) → survivors_of C L p (s + 1) ≡ survivors_of C L p s ++ cond (not (lost C L p s)) ((p, s) ∷ []) []

@@ -78,20 +78,3 @@ module _ (all : FileContents) where
 
   pub one_put : (out new : Files) (n : FileName) (bytes : List ℕ) → all n ≡ Some bytes → new ≡ insert out n bytes → KeepsWritten all out new × HasWritten all new n
   one_put out new n bytes is e = (subst (KeepsWritten all out) (sym e) (put_kept out n bytes is), subst (λ f. HasWritten all f n) (sym e) (put_there out n bytes is))
-
--- ---- names under which nothing has to be
-
-module _ (C : CatalogData) (L : Sites) (S : Contents) (T : List Row) where
-  abbrev all : FileContents
-  all = written C L S T
-
-  -- a segment that survives, and its delta
-  pub kept_base : (p s : ℕ) → is_lost C L p s ≡ false → all (FileName.Seg p s) ≡ None
-  kept_base p s e = ap (λ b. when b (segment_text C p s (base_of C p (map (project C p) (rows_of C T p s))))) e
-
-  pub kept_delta : (p s : ℕ) → is_lost C L p s ≡ false → all (FileName.Del p s) ≡ None
-  kept_delta p s e = ap (λ b. when b (delta_text (no_changes p s (length (rows_of C T p s))))) e
-
-  -- a join index that the loss does not affect
-  pub kept_join : (p s q : ℕ) → is_affected C L p s q ≡ false → all (FileName.Jix p s q) ≡ None
-  kept_join p s q e = ap (λ b. when b (join_index_text p s q (entries_for C L S T p s q))) e

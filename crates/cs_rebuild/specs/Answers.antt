@@ -7,11 +7,9 @@ use Rattle.cs_schema.specs.Rows.{Row}
 use Rattle.cs_store.specs.declared.fault.Fault.{Fault}
 use Rattle.cs_store.specs.Fault.{MemoryOr}
 use Rattle.cs_store.specs.FileSet.{contents_of}
-use Rattle.cs_rows.specs.Survivors.{SurvivorsData}
 use Rattle.cs_recovery.specs.Columns.{AreColumnsOf}
 use Rattle.cs_recovery.specs.Expected.{AreExpected}
 use Rattle.cs_recovery.specs.Verdicts.{IsVerdict}
-use Rattle.cs_rebuild.specs.Steps.{AreRead, IsBadFile}
 use Rattle.cs_rebuild.specs.declared.wanted.Answer.{Answer}
 use Rattle.cs_rebuild.specs.declared.wanted.Wanted.{Wanted}
 
@@ -27,7 +25,9 @@ abbrev pub IsAnswer : Wanted → CatalogData → FileContents → Sites → Resu
 IsAnswer wanted C F L (Ok answer) = (T : List Row) × IsVerdict C F L (Ok T) × Gives wanted C F L T answer
 IsAnswer wanted C F L (Err f) = MemoryOr f (IsVerdict C F L (Err f))
 
--- the answer about the survivors that were read, or the fault of the first bad file
-abbrev pub IsAnswerOfRead : Wanted → CatalogData → FileContents → Sites → Result (Result Answer Fault) Fault → Type 0
-IsAnswerOfRead wanted C F L (Ok answer) = (v : SurvivorsData) × AreRead C F L v × ((G : FileContents) → AreRead C G L v → IsAnswer wanted C G L answer)
-IsAnswerOfRead wanted C F L (Err f) = MemoryOr f (IsBadFile C F L f)
+-- the fault of a file, which may be missing or damaged, or out of memory
+abbrev pub IsOfFiles : Fault → Type 0
+IsOfFiles Fault.Memory = Unit {0}
+IsOfFiles (Fault.Missing n) = Unit {0}
+IsOfFiles (Fault.Damaged n) = Unit {0}
+IsOfFiles _ = ⊥

@@ -13,6 +13,6 @@ pub mod Surveys
 pub mod Reading
 pub mod Rounds
 pub mod Writing
-pub mod LostFiles
+pub mod FilesToWrite
 pub mod OnStore
 pub mod SegmentSources

@@ -2,7 +2,7 @@
 ghost use Rattle.std.specs.Prelude.{◌≡◌, Some, IfOk};
 ghost use Rattle.cs_store.specs.FileSet.{Files, contents_of};
 ghost use Rattle.cs_safety.specs.Safety.{IsSafe};
-ghost use Rattle.cs_rebuild.specs.Answers.{IsAnswer, IsAnswerOfRead};
+ghost use Rattle.cs_rebuild.specs.Answers.{IsAnswer};
 ghost use Rattle.cs_rebuild.specs.SharedFiles.{shared_files};
 ghost use Rattle.cs_rebuild.specs.Reading.{AreDigests, resealed};
 
@@ -35,29 +35,29 @@ fn compare_digests<R: Threads + Sync, G>(
     unsealed
 }
 
-/// The answer, given the bodies of the files that survive, or the fault of the first bad one by name. Releases the
-/// files once they are read.
+/// The answer from the bodies of the files that survive, whatever their digests are. Releases the files once they are
+/// read.
 fn answer_bodies<R: Threads + Sync, G: Gate + Sync>(
     run: &Run<'_, R, G>,
     catalog: &Catalog,
     loss: Loss,
     files: &mut SharedFiles<'_>,
     wanted: Wanted,
-) -> Result<Result<Answer, Fault>, Fault>
+) -> Result<Answer, Fault>
     requires safe { IsSafe catalog.now loss }
     requires held { (F : Files) × shared_files files.old ≡ Some F }
-    ensures { (F : Files) → shared_files files.old ≡ Some F → IsAnswerOfRead wanted catalog.now (resealed (contents_of F)) loss result }
+    ensures { (F : Files) → shared_files files.old ≡ Some F → IsAnswer wanted catalog.now (resealed (contents_of F)) loss result }
 {
     let read = read_bodies(run, catalog, loss, files.files());
     files.release();
     match read {
-        Ok(survivors) => Ok(answer_survivors(run, catalog, loss, &survivors, wanted)),
+        Ok(survivors) => answer_survivors(run, catalog, loss, &survivors, wanted),
         Err(fault) => Err(fault),
     }
 }
 
-/// The first file with a wrong digest and, in parallel, the answer. Hashing a file is sequential and takes longer than
-/// reading it.
+/// The first file with a wrong digest and, in parallel, the answer from the bodies. Hashing a file is sequential and
+/// takes longer than reading it.
 fn answer_beside<R: Threads + Sync, G: Gate + Sync>(
     run: &Run<'_, R, G>,
     catalog: &Catalog,
@@ -65,16 +65,13 @@ fn answer_beside<R: Threads + Sync, G: Gate + Sync>(
     files: &mut SharedFiles<'_>,
     shared: &mut SharedFiles<'_>,
     wanted: Wanted,
-) -> (
-    Result<Option<FileName>, AllocError>,
-    Result<Result<Answer, Fault>, Fault>,
-)
+) -> (Result<Option<FileName>, AllocError>, Result<Answer, Fault>)
     requires safe { IsSafe catalog.now loss }
     requires held { (F : Files) × (shared_files files.old ≡ Some F) × (shared_files shared.old ≡ Some F) }
     ensures digests { IfOk result.0 (λ unsealed. (F : Files) → shared_files files.old ≡ Some F
         → AreDigests catalog.now loss (contents_of F) unsealed) }
     ensures answer { (F : Files) → shared_files shared.old ≡ Some F
-        → IsAnswerOfRead wanted catalog.now (resealed (contents_of F)) loss result.1 }
+        → IsAnswer wanted catalog.now (resealed (contents_of F)) loss result.1 }
 {
     // `join` guarantees nothing for a closure over a struct of references
     join_mut(
@@ -84,10 +81,10 @@ fn answer_beside<R: Threads + Sync, G: Gate + Sync>(
             ensures { IfOk result (λ unsealed. (F : Files) → shared_files files.entry.now ≡ Some F
                 → AreDigests catalog.entry.now loss (contents_of F) unsealed) }
         { compare_digests(run, catalog, loss, files) },
-        &mut || -> Result<Result<Answer, Fault>, Fault>
+        &mut || -> Result<Answer, Fault>
             requires { IsSafe catalog.now loss × ((F : Files) × shared_files shared.now ≡ Some F) }
             ensures { (F : Files) → shared_files shared.entry.now ≡ Some F
-                → IsAnswerOfRead wanted catalog.entry.now (resealed (contents_of F)) loss result }
+                → IsAnswer wanted catalog.entry.now (resealed (contents_of F)) loss result }
         { answer_bodies(run, catalog, loss, shared, wanted) },
     )
 }
@@ -108,8 +105,5 @@ pub fn answer<R: Threads + Sync, G: Gate + Sync>(
 {
     let _rules = catalog.projection_count();
     let (unsealed, answered) = answer_beside(run, catalog, loss, files, shared, wanted);
-    match unless_bad(unsealed, answered) {
-        Ok(answer) => answer,
-        Err(fault) => Err(fault),
-    }
+    unless_bad(unsealed, answered)
 }

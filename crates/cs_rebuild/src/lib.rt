@@ -10,7 +10,6 @@
 //! `is_placed`, `places`, and rounds of `Tasks`.
 #![tactic(auto)]
 
-mod affected_joins;
 mod answering;
 mod api;
 mod building;
@@ -21,10 +20,11 @@ mod comparing;
 mod cutting;
 mod digests;
 mod endings;
+mod file_bytes;
 mod files_of;
+mod files_to_write;
 mod gathering;
 mod hash_batches;
-mod lost_files;
 mod ordered_store;
 mod ordering;
 pub mod places;

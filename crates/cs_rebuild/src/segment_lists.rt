@@ -1,35 +1,13 @@
 //! The segments that survive a loss, and their join indexes, in the order of names.
-ghost use Rattle.std.specs.Prelude.{◌≡◌, ◌<◌, ◌≤◌, ◌+◌, ◌*◌, ◌^◌, ◌++◌, ℕ, length, map, not, IfOk, OnOk};
-ghost use Rattle.std.specs.List.{filter};
-ghost use Rattle.cs_schema.specs.CatalogData.{has_join, segments, HasSegment};
+ghost use Rattle.std.specs.Prelude.{◌≡◌, ◌≤◌, ℕ, length, IfOk};
+ghost use Rattle.cs_schema.specs.CatalogData.{HasSegment};
 ghost use Rattle.cs_schema.specs.CatalogRules.{IsCatalog};
-ghost use Rattle.cs_schema.specs.Lists.{IsIn, numbers_below};
-ghost use Rattle.cs_schema.specs.Losses.{lost};
+ghost use Rattle.cs_schema.specs.Lists.{IsIn};
 ghost use Rattle.cs_recovery.specs.Verdicts.{surviving_segments};
-ghost use Rattle.cs_rebuild.specs.Surveys.{survivors_of, joins_at, joins_among};
+ghost use Rattle.cs_rebuild.specs.Surveys.{joins_among};
 
 use cs_schema::{Catalog, Loss};
 use std::alloc::{AllocError, Global};
-
-/// Appends the surviving segments of a projection.
-fn push_segments(
-    found: &mut Vec<(u16, u16)>,
-    catalog: &Catalog,
-    p: u16,
-    loss: Loss,
-) -> Result<(), AllocError>
-    requires { p < length catalog.now.projections }
-    ensures few { OnOk result (length found.new.items ≤ length found.old.items + 16) }
-    ensures all { OnOk result (found.new.items ≡ found.old.items ++ survivors_of catalog.now loss p (segments catalog.now p)) }
-{
-    for s in 0..catalog.segments(p) {
-        if catalog.lost(p, s, loss) {
-            continue;
-        }
-        found.push((p, s))?;
-    }
-    Ok(())
-}
 
 /// The segments that survive a loss.
 pub fn surviving_segments(
@@ -43,29 +21,14 @@ pub fn surviving_segments(
 {
     let mut segments = Vec::new(alloc);
     for p in 0..catalog.projection_count() {
-        push_segments(&mut segments, catalog, p, loss)?;
+        for s in 0..catalog.segments(p) {
+            if catalog.lost(p, s, loss) {
+                continue;
+            }
+            segments.push((p, s))?;
+        }
     }
     Ok(segments)
-}
-
-/// Appends the join indexes of a segment.
-fn push_joins(
-    joins: &mut Vec<(u16, u16, u16)>,
-    catalog: &Catalog,
-    p: u16,
-    s: u16,
-) -> Result<(), AllocError>
-    requires { p < length catalog.now.projections }
-    ensures few { OnOk result (length joins.new.items ≤ length joins.old.items + 8) }
-    ensures all { OnOk result (joins.new.items ≡ joins.old.items ++ joins_at catalog.now p s (length catalog.now.projections)) }
-{
-    for q in 0..catalog.projection_count() {
-        if !catalog.has_join(p, q) {
-            continue;
-        }
-        joins.push((p, s, q))?;
-    }
-    Ok(())
 }
 
 /// The join indexes of some segments.
@@ -82,7 +45,12 @@ pub fn joins_of(
     let mut joins = Vec::new(alloc);
     for i in 0..segments.len() {
         let (p, s) = segments[i];
-        push_joins(&mut joins, catalog, p, s)?;
+        for q in 0..catalog.projection_count() {
+            if !catalog.has_join(p, q) {
+                continue;
+            }
+            joins.push((p, s, q))?;
+        }
     }
     Ok(joins)
 }

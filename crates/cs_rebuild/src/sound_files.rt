@@ -1,5 +1,5 @@
 //! The surviving files of a store: what they hold, or the first bad one.
-ghost use Rattle.std.specs.Prelude.{◌≡◌, ◌↔◌, Some, None, Ok, Err, IsTrue, IfOk, IfErr};
+ghost use Rattle.std.specs.Prelude.{◌≡◌, ◌↔◌, ◌⊎◌, Some, None, Ok, Err, IsTrue, IfSome, IfOk, IfErr};
 ghost use Rattle.std.specs.declared.cmp.Ordering.TheVariants.{Less};
 ghost use Rattle.cs_schema.specs.CatalogData.{CatalogData};
 ghost use Rattle.cs_schema.specs.CatalogRules.{IsCatalog};
@@ -8,8 +8,8 @@ ghost use Rattle.cs_schema.specs.Losses.{Sites};
 ghost use Rattle.cs_schema.specs.declared.file_name.FileName.{FileName as NameData};
 ghost use Rattle.cs_store.specs.FileSet.{contents_of};
 ghost use Rattle.cs_store.specs.Fault.{MemoryOr};
-ghost use Rattle.cs_store.specs.declared.fault.Fault.{Fault as FaultData};
 ghost use Rattle.cs_recovery.specs.Verdicts.{FileFault, IsVerdict};
+ghost use Rattle.cs_rebuild.specs.Answers.{IsOfFiles};
 ghost use Rattle.cs_rebuild.specs.Reading.{AreDigests, IsFirstUnsealed, resealed};
 ghost use Rattle.cs_rebuild.specs.Steps.{AreBodiesSound, AreRead, IsBadFile};
 
@@ -27,7 +27,7 @@ use std::thread::{Threads, join_mut};
 /// The name of the file that a fault refuses.
 fn refused_name(fault: &Fault) -> Option<FileName>
     ensures named { (F : FileContents) (n : NameData) → FileFault F n fault.now → result ≡ Some n }
-    ensures memory { fault.now ≡ FaultData.Memory → result ≡ None }
+    ensures file { IfSome result (λ _. IsOfFiles fault.now) }
 {
     match fault {
         Fault::Missing(name) | Fault::Damaged(name) => Some(*name),
@@ -42,15 +42,20 @@ fn is_before(name: FileName, other: FileName) -> bool
     name < other
 }
 
-/// The fault of the first name: that of the first bad body, or of the first wrong digest.
+/// The fault of the first bad file by name, given the fault of a store whose digests are taken for right, and the first
+/// file with a wrong digest.
 fn lesser(fault: Fault, unsealed: FileName) -> Fault
     ensures { (C : CatalogData) (L : Sites) (F : FileContents) → IsCatalog C
-        → IsFirstUnsealed F (surviving C L) unsealed → MemoryOr fault (IsBadFile C (resealed F) L fault)
+        → IsFirstUnsealed F (surviving C L) unsealed → MemoryOr fault (IsVerdict C (resealed F) L (Err fault))
         → MemoryOr result (IsBadFile C F L result) }
 {
+    if let Fault::Memory = fault {
+        return fault;
+    }
     let bad = match refused_name(&fault) {
         Some(bad) => bad,
-        None => return fault,
+        // a fault of rows: all bodies are sound
+        None => return Fault::Damaged(unsealed),
     };
     if is_before(bad, unsealed) {
         return fault;
@@ -58,16 +63,17 @@ fn lesser(fault: Fault, unsealed: FileName) -> Fault
     Fault::Damaged(unsealed)
 }
 
-/// What was read of the bodies of surviving files if all digests are right, otherwise the fault of the first bad file
+/// What was found in a store whose digests are taken for right, if they are, otherwise the fault of the first bad file
 /// by name.
 pub fn unless_bad<T: Drop>(
     unsealed: Result<Option<FileName>, AllocError>,
-    read: Result<T, Fault>,
+    found: Result<T, Fault>,
 ) -> Result<T, Fault>
-    ensures ok { IfOk result (λ made. (read ≡ Ok made) × (unsealed ≡ Ok None)) }
-    ensures err { IfErr result (λ fault. (C : CatalogData) (L : Sites) (F : FileContents) → IsCatalog C
-        → IfOk unsealed (AreDigests C L F) → IfOk read (λ _. AreBodiesSound C L F)
-        → IfErr read (λ f. MemoryOr f (IsBadFile C (resealed F) L f)) → MemoryOr fault (IsBadFile C F L fault)) }
+    ensures ok { IfOk result (λ made. (found ≡ Ok made) × (unsealed ≡ Ok None)) }
+    ensures err { IfErr result (λ fault. ((found ≡ Err fault) × (unsealed ≡ Ok None))
+        ⊎ ((C : CatalogData) (L : Sites) (F : FileContents) → IsCatalog C
+        → IfOk unsealed (AreDigests C L F) → IfOk found (λ _. AreBodiesSound C L F)
+        → IfErr found (λ f. MemoryOr f (IsVerdict C (resealed F) L (Err f))) → MemoryOr fault (IsBadFile C F L fault))) }
 {
     let unsealed = match unsealed {
         Ok(unsealed) => unsealed,
@@ -75,13 +81,12 @@ pub fn unless_bad<T: Drop>(
     };
     let name = match unsealed {
         Some(name) => name,
-        None => return read,
+        None => return found,
     };
-    let fault = match read {
-        Ok(_made) => return Err(Fault::Damaged(name)),
-        Err(fault) => fault,
-    };
-    Err(lesser(fault, name))
+    match found {
+        Ok(_found) => Err(Fault::Damaged(name)),
+        Err(fault) => Err(lesser(fault, name)),
+    }
 }
 
 /// The first file with a wrong digest and, in parallel, what the bodies of the surviving files hold.

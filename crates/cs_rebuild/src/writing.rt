@@ -1,76 +1,105 @@
 //! Writing the files that a loss took.
-ghost use Rattle.std.specs.Prelude.{◌≡◌, ◌⊎◌, ◌++◌, All, Some, map, IfOk, IfErr};
+ghost use Rattle.std.specs.Prelude.{◌≡◌, true, false, IfOk, IfErr};
 ghost use Rattle.cs_schema.specs.declared.file_name.FileName.{FileName as NameData};
 ghost use Rattle.cs_store.specs.FileSet.{contents_of};
 ghost use Rattle.cs_store.specs.declared.fault.Fault.{Fault as FaultData};
 ghost use Rattle.cs_rebuild.specs.OnStore.{IsSound, written_on};
-ghost use Rattle.cs_rebuild.specs.LostFiles.{affected_joins, join_name, lost_names};
+ghost use Rattle.cs_rebuild.specs.FilesToWrite.{AreMade, IsFileOf, all_files, files_to_write, is_written};
 
-use crate::affected_joins::joins_after;
-use crate::lost_files::lost_files;
+use crate::file_bytes::file_bytes;
+use crate::files_to_write::files_to_write;
 use crate::ordered_store::OrderedStore;
 use crate::run::Run;
 use crate::sound_store::SoundStore;
+use crate::thresholds::LEAST_ENTRIES;
 use cs_board::Gate;
 use cs_schema::FileName;
 use cs_store::{Fault, FileSet};
+use rayon::prelude::*;
 use std::alloc::{AllocError, Global};
 use std::marker::Sync;
 use std::thread::{Threads, join_mut};
 
-/// One set of the files of the lost segments and of the affected join indexes.
+/// The minimum number of entries that one thread makes. If there are as many join indexes as workers, one thread makes
+/// all entries of each.
+fn least_entries(workers: u32, joins: usize) -> usize {
+    if joins < workers as usize {
+        LEAST_ENTRIES
+    } else {
+        usize::MAX
+    }
+}
+
+/// The join indexes that a recovery writes, or the other files, made in parallel: hashing a file is sequential, and most
+/// of the work.
+fn make_files<R: Threads + Sync, G: Gate + Sync>(
+    run: &Run<'_, R, G>,
+    store: &OrderedStore<'_>,
+    joins: bool,
+) -> Result<Vec<(FileName, Vec<u8>)>, AllocError>
+    requires { IsSound store.now }
+    ensures { IfOk result (λ made. AreMade store.now (files_to_write store.now.catalog.now store.now.loss joins) made.items) }
+{
+    let names = files_to_write(run.alloc, store.catalog, store.loss, joins)?;
+    let least = least_entries(run.workers, names.len());
+    names
+        .into_par_iter()
+        // each file is worth a thread
+        .with_min_len(1)
+        .map(
+            |name: FileName| -> Result<(FileName, Vec<u8>), AllocError>
+                requires written { is_written store.now.catalog.now store.now.loss name ≡ true }
+                requires sound { IsSound store.now }
+                ensures { IfOk result (IsFileOf store.entry.now name) }
+            { Ok((name, file_bytes(run, store, name, least)?)) },
+        )
+        .collect::<Result<Vec<(FileName, Vec<u8>)>, AllocError>>(run.rt, run.alloc)?
+}
+
+/// All files that a recovery writes, the join indexes in parallel with the others. In one list the segments would fall
+/// to few threads, since each thread takes neighbours.
+fn make_all<R: Threads + Sync, G: Gate + Sync>(
+    run: &Run<'_, R, G>,
+    store: &OrderedStore<'_>,
+) -> Result<Vec<(FileName, Vec<u8>)>, AllocError>
+    requires { IsSound store.now }
+    ensures { IfOk result (λ made. AreMade store.now (all_files store.now.catalog.now store.now.loss) made.items) }
+{
+    // `join` guarantees nothing for a closure over a struct of references
+    let (joins, others) = join_mut(
+        run.rt,
+        &mut || -> Result<Vec<(FileName, Vec<u8>)>, AllocError>
+            requires { IsSound store.now }
+            ensures { IfOk result (λ made. AreMade store.entry.now (files_to_write store.entry.now.catalog.now store.entry.now.loss true) made.items) }
+        { make_files(run, store, true) },
+        &mut || -> Result<Vec<(FileName, Vec<u8>)>, AllocError>
+            requires { IsSound store.now }
+            ensures { IfOk result (λ made. AreMade store.entry.now (files_to_write store.entry.now.catalog.now store.entry.now.loss false) made.items) }
+        { make_files(run, store, false) },
+    );
+    let mut made = others?;
+    let mut joins = joins?;
+    made.append(&mut joins)?;
+    Ok(made)
+}
+
+/// The set of all files that a recovery writes.
 fn collect_files(
     alloc: Global,
     store: &OrderedStore<'_>,
-    lost: Vec<(FileName, Vec<u8>)>,
-    joins: Vec<(FileName, Vec<u8>)>,
+    made: Vec<(FileName, Vec<u8>)>,
 ) -> Result<FileSet, AllocError>
-    requires lost_names { map (λ file. file.0) lost.items ≡ lost_names store.now.catalog.now store.now.loss }
-    requires lost_texts { All (λ file. written_on store.now file.0 ≡ Some file.1.items) lost.items }
-    requires join_names { map (λ file. file.0) joins.items ≡ map join_name (affected_joins store.now.catalog.now store.now.loss) }
-    requires join_texts { All (λ file. written_on store.now file.0 ≡ Some file.1.items) joins.items }
+    requires { AreMade store.now (all_files store.now.catalog.now store.now.loss) made.items }
     ensures { IfOk result (λ out. (n : NameData) → contents_of out n ≡ written_on store.now n) }
 {
+    // for its clause on the targets of join indexes
     let _rules = store.catalog.projection_count();
-    let mut made = lost;
-    let mut joins = joins;
-    made.append(&mut joins)?;
+    let mut made = made;
     let mut files = FileSet::new(alloc)?;
     while let Some((name, bytes)) = made.pop() {
         files.put(name, bytes)?;
     }
     Ok(files)
-}
-
-/// The join indexes that the loss affects and, in parallel, the files of the lost segments. Neither needs the other.
-fn make_files<R: Threads + Sync, G: Gate + Sync>(
-    run: &Run<'_, R, G>,
-    store: &OrderedStore<'_>,
-) -> (
-    Result<Vec<(FileName, Vec<u8>)>, AllocError>,
-    Result<Vec<(FileName, Vec<u8>)>, AllocError>,
-)
-    requires { IsSound store.now }
-    ensures join_names { IfOk result.0 (λ made. map (λ file. file.0) made.items
-        ≡ map join_name (affected_joins store.now.catalog.now store.now.loss)) }
-    ensures join_texts { IfOk result.0 (λ made. All (λ file. written_on store.now file.0 ≡ Some file.1.items) made.items) }
-    ensures lost_names { IfOk result.1 (λ made. map (λ file. file.0) made.items ≡ lost_names store.now.catalog.now store.now.loss) }
-    ensures lost_texts { IfOk result.1 (λ made. All (λ file. written_on store.now file.0 ≡ Some file.1.items) made.items) }
-{
-    // `join` guarantees nothing for a closure over a struct of references
-    join_mut(
-        run.rt,
-        &mut || -> Result<Vec<(FileName, Vec<u8>)>, AllocError>
-            requires { IsSound store.now }
-            ensures names { IfOk result (λ made. map (λ file. file.0) made.items
-                ≡ map join_name (affected_joins store.entry.now.catalog.now store.entry.now.loss)) }
-            ensures texts { IfOk result (λ made. All (λ file. written_on store.entry.now file.0 ≡ Some file.1.items) made.items) }
-        { joins_after(run, store) },
-        &mut || -> Result<Vec<(FileName, Vec<u8>)>, AllocError>
-            ensures names { IfOk result (λ made. map (λ file. file.0) made.items ≡ lost_names store.entry.now.catalog.now store.entry.now.loss) }
-            ensures texts { IfOk result (λ made. All (λ file. written_on store.entry.now file.0 ≡ Some file.1.items) made.items) }
-        { lost_files(run, store) },
-    )
 }
 
 /// The files that a recovery writes. Fails only if memory is refused.
@@ -82,16 +111,11 @@ pub fn write_files<R: Threads + Sync, G: Gate + Sync>(
     ensures err { IfErr result (λ fault. fault ≡ FaultData.Memory) }
 {
     let store = store.ordered();
-    let (joins, lost) = make_files(run, store);
-    let joins = match joins {
-        Ok(joins) => joins,
+    let made = match make_all(run, store) {
+        Ok(made) => made,
         Err(_) => return Err(Fault::Memory),
     };
-    let lost = match lost {
-        Ok(lost) => lost,
-        Err(_) => return Err(Fault::Memory),
-    };
-    match collect_files(run.alloc, store, lost, joins) {
+    match collect_files(run.alloc, store, made) {
         Ok(files) => Ok(files),
         Err(_) => Err(Fault::Memory),
     }

@@ -35,10 +35,10 @@ built C rows files b = record {
   holds = b.holds;
 }
 
-pub text-refused : (C : CatalogData) (known : Option (List ℕ)) (f : CsvFault) (g : LoadFault) → IsSafe C [] → IfKnown known (λ records. IsFirstFault C.columns records f) → IsTextFaultOf f g → LoadsTable C known (Err g)
+pub text-refused : (C : CatalogData) (known : Option (List ℕ)) (f : CsvFault) (g : LoadFault) → IsSafe C [] → IfKnown known (λ records unclosed. IsFirstFault C.columns records unclosed f) → IsTextFaultOf f g → LoadsTable C known (Err g)
 text-refused C known f fault.Memory safe h e = tt
 text-refused C known f fault.Unsafe safe h e = absurd e
-text-refused C known f (fault.Text g) safe h e = (safe, subst (λ x. IfKnown known (λ records. IsFirstFault C.columns records x)) e h)
+text-refused C known f (fault.Text g) safe h e = (safe, subst (λ x. IfKnown known (λ records unclosed. IsFirstFault C.columns records unclosed x)) e h)
 text-refused C known f (fault.Twice r) safe h e = absurd e
 text-refused C known f (fault.Full p s n) safe h e = absurd e
 

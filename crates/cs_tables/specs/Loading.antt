@@ -1,5 +1,5 @@
 -- What `load` answers: the files of a store that holds the table of a text, or why there is none.
-use Rattle.std.specs.Prelude.{◌≡◌, ◌==◌, ℕ, ⊤, List, [], ◌∷◌, length, Option, Some, Result, Ok, Err}
+use Rattle.std.specs.Prelude.{◌≡◌, ◌==◌, ℕ, false, ⊤, List, [], ◌∷◌, length, Option, Some, Result, Ok, Err}
 use Rattle.std.specs.List.{filter}
 use Rattle.cs_schema.specs.CatalogData.{CatalogData}
 use Rattle.cs_schema.specs.FileNames.{FileContents}
@@ -54,7 +54,7 @@ pub record ReadsRows (C : CatalogData) (known : Option (List ℕ)) (cells : List
   pub header : Record
   pub rows : List Record
   pub holds : HoldsRows C.columns header rows cells
-  pub text : IfKnown known (λ records. records ≡ header ∷ rows)
+  pub text : IfKnown known (λ records unclosed. (records ≡ header ∷ rows) × (unclosed ≡ false))
 
 -- a text was read, and its rows make this
 pub record BuildsRows (C : CatalogData) (known : Option (List ℕ)) (r : Result Files LoadFault) : Type 0 where
@@ -76,7 +76,7 @@ abbrev pub LoadsTable : CatalogData → Option (List ℕ) → Result Loaded Load
 LoadsTable C known (Ok loaded) = LoadsRows C known loaded
 LoadsTable C known (Err fault.Memory) = ⊤
 LoadsTable C known (Err fault.Unsafe) = ¬ IsSafe C []
-LoadsTable C known (Err (fault.Text f)) = IsSafe C [] × IfKnown known (λ records. IsFirstFault C.columns records f)
+LoadsTable C known (Err (fault.Text f)) = IsSafe C [] × IfKnown known (λ records unclosed. IsFirstFault C.columns records unclosed f)
 LoadsTable C known (Err (fault.Twice repeat)) = BuildsRows C known (Err (fault.Twice repeat))
 LoadsTable C known (Err (fault.Full p s n)) = BuildsRows C known (Err (fault.Full p s n))
 

@@ -9,8 +9,10 @@ mod verbs;
 
 use anyhow::Result;
 use changes::changed;
+use cs_file_system::{FailedCalls, NotedFiles};
 use pinepolo_args::parse;
 use pinepolo_folders::Folders;
+use std::sync::Arc;
 use verbs::{Asked, answer, refuse};
 
 /// How many processors there are.
@@ -18,8 +20,10 @@ const PROCESSORS: u32 = 2;
 
 fn main(rt: HostRuntime) -> Result<()> {
     let alloc = rt.alloc();
-    let mut places = Folders::new(alloc, rt);
     for line in rt.lines(alloc) {
+        let calls = Arc::new(alloc, FailedCalls::new(alloc)?)?;
+        let files = NotedFiles { rt, calls: &calls };
+        let mut places = Folders::new(alloc, files);
         let line = line?;
         let words: Vec<&str> = line.split_whitespace().collect(alloc)?;
         println!(rt; "$ {line}")?;
@@ -28,8 +32,8 @@ fn main(rt: HostRuntime) -> Result<()> {
         }
         let asked = Asked::new(alloc, words.as_slice())?;
         match places.find_sites_of(parse(alloc, asked.words.as_slice(), PROCESSORS)) {
-            Ok(sited) => answer(&rt, &mut places, &sited, asked.is_full)?,
-            Err(error) => refuse(&rt, &error)?,
+            Ok(sited) => answer(&rt, &mut places, &sited, &calls, asked.is_full)?,
+            Err(refusal) => refuse(&rt, &refusal, &calls)?,
         }
     }
     Ok(())

@@ -1,8 +1,9 @@
 //! Verbs, with what they print.
 use anyhow::Result;
-use pinepolo_folders::{SitedRequest, SitesError, report_sites};
+use cs_file_system::FailedCalls;
+use pinepolo_folders::{SitedRequest, SitesRefusal};
 use pinepolo_progress::OpenGate;
-use pinepolo_run::{Host, World, run};
+use pinepolo_run::{Host, World, run, say_error};
 use std::alloc::Global;
 use std::io;
 use std::io::Write;
@@ -61,6 +62,7 @@ pub fn answer<R: Threads + Sync + AllocGlobal + Print, P: World>(
     rt: &R,
     places: &mut P,
     sited: &SitedRequest<'_>,
+    calls: &FailedCalls,
     is_full: bool,
 ) -> Result<()> {
     let alloc = rt.alloc();
@@ -69,6 +71,7 @@ pub fn answer<R: Threads + Sync + AllocGlobal + Print, P: World>(
         alloc,
         gate: &OpenGate,
         sites: sited.sites(),
+        calls,
     };
     let mut out = Vec::new(alloc);
     let mut err = Vec::new(alloc);
@@ -81,8 +84,14 @@ pub fn answer<R: Threads + Sync + AllocGlobal + Print, P: World>(
 }
 
 /// Prints why the folders of a store's sites are refused, and the status.
-pub fn refuse<R: AllocGlobal + Print>(rt: &R, error: &SitesError) -> Result<()> {
-    let mut err = Vec::new(rt.alloc());
-    let status = report_sites(error, &mut err);
-    print_answer(rt, &[], err.as_slice(), status)
+pub fn refuse<R: AllocGlobal + Print>(
+    rt: &R,
+    refusal: &SitesRefusal<'_>,
+    calls: &FailedCalls,
+) -> Result<()> {
+    let alloc = rt.alloc();
+    let (mut out, mut err) = (Vec::new(alloc), Vec::new(alloc));
+    let (error, request) = (&refusal.error, &refusal.request);
+    let status = say_error(alloc, calls, error, request, &mut out, &mut err);
+    print_answer(rt, out.as_slice(), err.as_slice(), status)
 }

@@ -52,12 +52,17 @@ fn read(rt: &HostRuntime, text: &[u8]) -> Result<String, Fail> {
 }
 
 /// Texts, and the columns that are read from them.
-const READ: [(&str, &str); 15] = [
+const READ: [(&str, &str); 19] = [
     ("id,city,v\n", "|||"),
     ("id,city,v", "|||"),
     ("id,city,v\n1,a,2\n3,b,4\n", "1,3,|<a><b>|2,4,|"),
     ("id,city,v\n1,a,2", "1,|<a>|2,|"),
+    ("id,city,v\n1,a,2\r", "1,|<a>|2,|"),
+    ("id,city,v\n1,a,\"2\"", "1,|<a>|2,|"),
     ("v,id,city\n2,1,a\n", "1,|<a>|2,|"),
+    // a quote within a cell that begins with none
+    ("id,v,city\n1,2,a\"b", "1,|<a\"b>|2,|"),
+    ("id,v,city\n1,2,\"a\nx\"", "1,|<a\nx>|2,|"),
     ("id,city,v\r\n1,a,2\r\n", "1,|<a>|2,|"),
     ("\u{feff}id,city,v\n1,a,2\n", "1,|<a>|2,|"),
     ("\"id\",\"city\",\"v\"\n\"1\",\"a\",\"2\"\n", "1,|<a>|2,|"),
@@ -82,7 +87,7 @@ fn reads_rows_with_ample_memory(rt: HostRuntime) -> Result<(), Fail> {
 }
 
 /// Texts, and their first faults in words.
-const REFUSED: [(&str, &str); 17] = [
+const REFUSED: [(&str, &str); 24] = [
     ("", "record 0: id is missing"),
     ("id,city\n", "record 0: v is missing"),
     ("id,city,zz\n", "record 0: zz is not a column"),
@@ -99,6 +104,36 @@ const REFUSED: [(&str, &str); 17] = [
     ),
     (
         "id,city,v\n1,\"a,2\n",
+        "record 1: a quoted cell is not closed: close it, or get the rest of the text",
+    ),
+    (
+        "id,city,v\n1,a,2\n2,b,\"3",
+        "record 2: a quoted cell is not closed: close it, or get the rest of the text",
+    ),
+    (
+        "id,city,v\n1,a,2\n2,b,\"",
+        "record 2: a quoted cell is not closed: close it, or get the rest of the text",
+    ),
+    (
+        "id,\"city,v\n1,a,2\n",
+        "record 0: a quoted cell is not closed: close it, or get the rest of the text",
+    ),
+    (
+        "\"",
+        "record 0: a quoted cell is not closed: close it, or get the rest of the text",
+    ),
+    // no mark of the end is taken for what a text itself has there
+    (
+        "id,city,v\n1,a,2\nx",
+        "record 2: 1 cells, but the catalog has 3 columns",
+    ),
+    (
+        "id,city,v\n1,a,2\nx\n",
+        "record 2: 1 cells, but the catalog has 3 columns",
+    ),
+    // the record before it has the first fault
+    (
+        "id,city,v\n1,a\n2,\"b",
         "record 1: 2 cells, but the catalog has 3 columns",
     ),
     (

@@ -3,16 +3,27 @@
 //! `pinepolo_run` has the verbs; here they get the system's arguments, folders and streams.
 #![tactic(auto)]
 
+use cs_file_system::{FailedCalls, NotedFiles};
 use pinepolo_args::parse;
-use pinepolo_folders::{Folders, report_sites};
+use pinepolo_folders::Folders;
 use pinepolo_progress::ProgressLine;
-use pinepolo_run::{CUT, Host, VerbError, report, run};
+use pinepolo_run::{CUT, Host, VerbError, run, say_early, say_error};
+use std::alloc::{AllocError, Global};
 use std::io::IsTerminal;
 use std::process::ExitCode;
+use std::sync::Arc;
 use std::{env, io, thread};
 
 /// The number of processors if the system does not say.
 const ONE_PROCESSOR: u32 = 1;
+
+/// No call on a file failed so far.
+fn no_failed_calls(alloc: Global) -> Result<Arc<FailedCalls>, AllocError> {
+    match Arc::new(alloc, FailedCalls::new(alloc)?) {
+        Ok(calls) => Ok(calls),
+        Err(_) => Err(AllocError),
+    }
+}
 
 fn main(rt: HostRuntime) -> ExitCode {
     let alloc = rt.alloc();
@@ -23,7 +34,11 @@ fn main(rt: HostRuntime) -> ExitCode {
     let mut out = rt.stdout();
     let mut err = rt.stderr();
     let gate = ProgressLine::new(rt, err, err.is_terminal(), u64::from(CUT));
-    let mut places = Folders::new(alloc, rt);
+    let Ok(calls) = no_failed_calls(alloc) else {
+        return ExitCode::from(say_early(&VerbError::OutOfMemory, &mut err));
+    };
+    let files = NotedFiles { rt, calls: &calls };
+    let mut places = Folders::new(alloc, files);
     let status = match env::args(&rt) {
         Ok(args) => match args.skip(1).collect::<Vec<String>>(alloc) {
             Ok(words) => {
@@ -34,18 +49,26 @@ fn main(rt: HostRuntime) -> ExitCode {
                             alloc,
                             gate: &gate,
                             sites: sited.sites(),
+                            calls: &calls,
                         };
                         run(&host, &sited.parsed, &mut places, &mut out, &mut err)
                     }
-                    Err(error) => report_sites(&error, &mut err),
+                    Err(refusal) => say_error(
+                        alloc,
+                        &calls,
+                        &refusal.error,
+                        &refusal.request,
+                        &mut out,
+                        &mut err,
+                    ),
                 }
             }
-            Err(_) => report(&VerbError::OutOfMemory, None, &mut err),
+            Err(_) => say_early(&VerbError::OutOfMemory, &mut err),
         },
         Err(e) if e.kind() == io::ErrorKind::OutOfMemory => {
-            report(&VerbError::OutOfMemory, None, &mut err)
+            say_early(&VerbError::OutOfMemory, &mut err)
         }
-        Err(_) => report(&VerbError::NotUtf8, None, &mut err),
+        Err(_) => say_early(&VerbError::NotUtf8, &mut err),
     };
     ExitCode::from(status)
 }

@@ -37,7 +37,7 @@ pub enum Answer {
     Restored(Restoration),
     /// A store was diagnosed, and restored if one table explains it.
     RestoredFound(FoundRestore),
-    /// The files of a store were listed with their digests. Its text is what of them is for standard error.
+    /// The files of a store were listed with their digests.
     Listed(Listed),
     /// A store was compared with a manifest.
     Verified(Verified),

@@ -1,2 +1,4 @@
 pub mod Exits
+pub mod Meanings
+pub mod NewFolders
 pub mod Paths

@@ -14,10 +14,11 @@ mod parsing;
 mod paths;
 mod request;
 mod sites;
+mod values;
 mod verbs;
 
 pub use new_folders::NewFolders;
-pub use parsing::{ParseExit, parse};
+pub use parsing::{ParseExit, parse, parse_found};
 pub use request::{
     CheckArgs, DesignArgs, DiagnoseArgs, DrillArgs, DumpArgs, LoadArgs, ManifestArgs, RecoverArgs,
     RelayoutArgs, Request, RestoreArgs, ShowArgs, UndoArgs, Verb, VerifyArgs,

@@ -1,10 +1,11 @@
 //! The values of a verb's arguments.
-ghost use Rattle.std.specs.Prelude.{◌≡◌, ◌≤◌, IfSome};
+ghost use Rattle.std.specs.Prelude.{◌≡◌, ◌≤◌, IfSome, max, min, option_map};
 ghost use Rattle.std.proofs.Props.{props};
 
 use crate::new_folders::{NewFolders, new_folders_of};
 use crate::paths::{file_path_of, path_of};
 use crate::sites::sites_of;
+use crate::values::{flag_of, number_of, small_number_of};
 use clap::ArgMatches;
 use cs_schema::Loss;
 
@@ -52,34 +53,34 @@ pub struct Options<'a> {
     pub ghost workers_in_limits: { (1 ≤ workers) × (workers ≤ 64) },
 }
 
-/// The workers that are asked for, or as many as there are processors, within the limit.
-fn workers_of(found: &ArgMatches<'_>, processors: u32) -> u32
-    ensures { (1 ≤ result) × (result ≤ 64) }
+/// A number of workers, within the limit.
+fn within_limit(workers: u32) -> u32
+    ensures { result ≡ max (min workers 64) 1 }
 {
-    found
-        .get_one::<u32>("workers")
-        .unwrap_or(processors)
-        .min(WORKER_LIMIT)
-        .max(1)
+    workers.min(WORKER_LIMIT).max(1)
 }
 
-/// The greatest number of sites of a loss that is tried, which `diagnose` and `drill` call by these names, within the limit.
-fn at_most_of(found: &ArgMatches<'_>) -> Option<u8>
-    ensures { IfSome result (λ n. n ≤ 16) }
+/// The greatest number of sites of a loss that is tried, within the limit.
+fn within_sites(sites: Option<u8>) -> Option<u8>
+    ensures value { result ≡ option_map (λ n. min n 16) sites }
+    ensures limit { IfSome result (λ n. n ≤ 16) }
 {
-    match found
-        .get_one::<u8>("at-most")
-        .or(found.get_one::<u8>("lose"))
-    {
+    match sites {
         Some(sites) => Some(sites.min(SITE_LIMIT)),
         None => None,
     }
 }
 
 impl<'a> Options<'a> {
+    ghost use Rattle.std.specs.Prelude.{IfOk};
+    ghost use Rattle.clap.specs.Words.{found_of, rows_of};
+    ghost use Rattle.pinepolo_args.specs.Meanings.{AreOptionsOf};
+
     /// Reads the arguments of a verb, or says what is wrong with them. Without a number of workers there are as many as
     /// processors, within the limit.
-    pub fn read(found: &ArgMatches<'a>, processors: u32) -> Result<Options<'a>, &'static str> {
+    pub fn read(found: &ArgMatches<'a>, processors: u32) -> Result<Options<'a>, &'static str>
+        ensures { IfOk result (AreOptionsOf (rows_of (found_of found.now)) processors) }
+    {
         let Some(lost) = sites_of(found, "lost") else {
             return Err("error: a SITE is a number from 1 to 16\n");
         };
@@ -87,30 +88,33 @@ impl<'a> Options<'a> {
             return Err(NEW_FOLDERS);
         };
         Ok(Options {
-            accepts_loss: found.get_flag("accept-loss"),
-            at_most: at_most_of(found),
+            accepts_loss: flag_of(found, "accept-loss"),
+            // `diagnose` and `drill` call it by these names
+            at_most: within_sites(small_number_of(found, "at-most")?.or(small_number_of(
+                found, "lose",
+            )?)),
             catalog: path_of(found, "catalog")?,
-            disputes: found.get_one::<u32>("disputes").unwrap_or(DISPUTES),
+            disputes: number_of(found, "disputes")?.unwrap_or(DISPUTES),
             file: path_of(found, "file")?,
-            is_dry_run: found.get_flag("dry-run"),
-            json: found.get_flag("json"),
-            k: found.get_one::<u8>("k"),
-            kept: found.get_one::<u32>("kept"),
+            is_dry_run: flag_of(found, "dry-run"),
+            json: flag_of(found, "json"),
+            k: small_number_of(found, "k")?,
+            kept: number_of(found, "kept")?,
             lost,
             manifest: path_of(found, "manifest")?,
             new: path_of(found, "new")?,
             new_sites: path_of(found, "new-sites")?,
             output: path_of(found, "output")?,
-            quiet: found.get_flag("quiet"),
-            replaces: found.get_flag("replace-partial"),
-            resumes: found.get_flag("resume"),
-            site: found.get_one::<u8>("site"),
+            quiet: flag_of(found, "quiet"),
+            replaces: flag_of(found, "replace-partial"),
+            resumes: flag_of(found, "resume"),
+            site: small_number_of(found, "site")?,
             sites: path_of(found, "sites")?,
             store: path_of(found, "store")?,
             svg: file_path_of(found, "svg")?,
             table: file_path_of(found, "table")?,
             to,
-            workers: workers_of(found, processors),
+            workers: within_limit(number_of(found, "workers")?.unwrap_or(processors)),
         })
     }
 }

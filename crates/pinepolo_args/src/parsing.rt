@@ -1,7 +1,9 @@
 //! From words to a request.
-ghost use Rattle.std.specs.Prelude.{IfErr, IsErrAnd};
+ghost use Rattle.std.specs.Prelude.{IfErr, IfOk, IsErrAnd, IsOkAnd};
 ghost use Rattle.clap.specs.Values.{kind_of};
+ghost use Rattle.clap.specs.Words.{subcommand_rows_of};
 ghost use Rattle.pinepolo_args.specs.Exits.{AsksForHelp, IsHelp};
+ghost use Rattle.pinepolo_args.specs.Meanings.{Asks};
 
 use crate::commands;
 use crate::options::{NEW_FOLDERS, Options};
@@ -41,13 +43,14 @@ fn find<'a>(alloc: Global, words: &'a [String]) -> Result<ArgMatches<'a>, Error>
 }
 
 /// The request of what clap found in the words, or why there is none.
-fn parse_found<'a>(
+pub fn parse_found<'a>(
     alloc: Global,
     words: &[String],
     found: Result<ArgMatches<'a>, Error>,
     processors: u32,
 ) -> Result<Request<'a>, ParseExit>
-    ensures { IfErr result (λ exit. IsHelp exit → IsErrAnd found.entry (λ error. AsksForHelp (kind_of error))) }
+    ensures request { IfOk result (λ request. IsOkAnd found.entry (λ matches. Asks processors (subcommand_rows_of matches) request)) }
+    ensures help { IfErr result (λ exit. IsHelp exit → IsErrAnd found.entry (λ error. AsksForHelp (kind_of error))) }
 {
     match found {
         Ok(matches) => match request_of(alloc, &matches, processors) {
@@ -64,7 +67,8 @@ fn request_of<'a>(
     matches: &ArgMatches<'a>,
     processors: u32,
 ) -> Result<Request<'a>, ParseExit>
-    ensures { IfErr result (λ exit. ¬ IsHelp exit) }
+    ensures request { IfOk result (Asks processors (subcommand_rows_of matches.now)) }
+    ensures help { IfErr result (λ exit. ¬ IsHelp exit) }
 {
     match requested(matches, processors) {
         Ok(request) => Ok(request),
@@ -73,7 +77,9 @@ fn request_of<'a>(
 }
 
 /// The request of the matches, or what is wrong with them.
-fn requested<'a>(matches: &ArgMatches<'a>, processors: u32) -> Result<Request<'a>, &'static str> {
+fn requested<'a>(matches: &ArgMatches<'a>, processors: u32) -> Result<Request<'a>, &'static str>
+    ensures { IfOk result (Asks processors (subcommand_rows_of matches.now)) }
+{
     let Some((name, found)) = matches.subcommand() else {
         return Err(NO_COMMAND);
     };

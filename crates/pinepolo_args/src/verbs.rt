@@ -1,4 +1,8 @@
 //! A verb with the arguments that were found.
+ghost use Rattle.std.specs.Prelude.{◌≡◌, ℕ, IfSome, List, Some, codes};
+ghost use Rattle.clap.specs.Words.{Row};
+ghost use Rattle.pinepolo_args.specs.Meanings.{AreOptionsOf, MeansVerb, text};
+
 use crate::options::Options;
 use crate::request::{
     CheckArgs, DesignArgs, DiagnoseArgs, DrillArgs, DumpArgs, LoadArgs, ManifestArgs, RecoverArgs,
@@ -6,7 +10,9 @@ use crate::request::{
 };
 
 /// The verb of this name, if there is one and its arguments are there.
-pub fn verb_of<'a>(name: &str, options: &Options<'a>) -> Option<Verb<'a>> {
+pub fn verb_of<'a>(name: &str, options: &Options<'a>) -> Option<Verb<'a>>
+    ensures { (rows : List Row) (processors : ℕ) → AreOptionsOf rows processors options.now → IfSome result (MeansVerb name.now rows) }
+{
     match name {
         "design" => Some(Verb::Design(DesignArgs {
             lost: options.lost,
@@ -36,7 +42,9 @@ pub fn verb_of<'a>(name: &str, options: &Options<'a>) -> Option<Verb<'a>> {
 }
 
 /// The verb of this name that takes a store alone.
-fn verb_on_store<'a>(name: &str, options: &Options<'a>) -> Option<Verb<'a>> {
+fn verb_on_store<'a>(name: &str, options: &Options<'a>) -> Option<Verb<'a>>
+    ensures { (rows : List Row) (processors : ℕ) → AreOptionsOf rows processors options.now → IfSome result (MeansVerb name.now rows) }
+{
     let Options { lost, store, .. } = *options;
     let store = store?;
     match name {
@@ -78,7 +86,9 @@ fn verb_on_store<'a>(name: &str, options: &Options<'a>) -> Option<Verb<'a>> {
 }
 
 /// The verb of this name that changes a store in place.
-fn verb_in_place<'a>(name: &str, options: &Options<'a>, store: &'a str) -> Option<Verb<'a>> {
+fn verb_in_place<'a>(name: &str, options: &Options<'a>, store: &'a str) -> Option<Verb<'a>>
+    ensures { (rows : List Row) (processors : ℕ) → AreOptionsOf rows processors options.now → Some store.now ≡ text rows (codes "store") → IfSome result (MeansVerb name.now rows) }
+{
     match name {
         "restore" => Some(Verb::Restore(RestoreArgs {
             is_dry_run: options.is_dry_run,

@@ -1,10 +1,10 @@
 //! The copies of a store's catalog.
-use crate::sites_error::{CatalogCopy, SitesError};
 use cs_folders::{FileLimits, StoreFolder, read_catalog_file};
 use cs_manifest::digest_of;
 use cs_schema::Loss;
 use cs_sites::SiteFolder;
 use cs_store::StoreFault;
+use pinepolo_places::{CatalogCopy, SitesError, VerbError};
 use std::alloc::{AllocError, Global};
 use std::rt::Files;
 
@@ -76,13 +76,15 @@ fn digested(alloc: Global, copy: &ReadCopy) -> Option<CatalogCopy> {
 }
 
 /// The error for copies of the catalog that differ, if two do.
-pub fn differing(alloc: Global, copies: &[ReadCopy]) -> Option<SitesError> {
+pub fn differing(alloc: Global, copies: &[ReadCopy]) -> Option<VerbError> {
     let first = copies.first()?;
     for copy in copies {
         if copy.bytes.as_slice() != first.bytes.as_slice() {
             return match (digested(alloc, first), digested(alloc, copy)) {
-                (Some(one), Some(other)) => Some(SitesError::CatalogsDiffer(one, other)),
-                _ => Some(SitesError::OutOfMemory),
+                (Some(one), Some(other)) => Some(VerbError::Sites(SitesError::CatalogsDiffer(
+                    one, other,
+                ))),
+                _ => Some(VerbError::OutOfMemory),
             };
         }
     }

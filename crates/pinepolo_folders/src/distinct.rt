@@ -1,6 +1,6 @@
 //! Whether sites have folders of their own.
-use crate::sites_error::SitesError;
 use cs_sites::SiteFolder;
+use pinepolo_places::{SitesError, VerbError};
 use std::alloc::Global;
 use std::fs;
 use std::os::unix::fs::MetadataExt;
@@ -48,7 +48,7 @@ pub fn one_folder<R: Files>(
     rt: &R,
     file: &str,
     sites: &[SiteFolder],
-) -> Option<SitesError> {
+) -> Option<VerbError> {
     for (at, site) in sites.iter().enumerate() {
         let folder = site.folder.as_str();
         let Some(found) = identity(rt, folder) else {
@@ -60,8 +60,10 @@ pub fn one_folder<R: Files>(
                 String::from_str(alloc, file),
                 String::from_str(alloc, folder),
             ) {
-                (Ok(file), Ok(folder)) => Some(SitesError::OneFolder(file, numbers, folder)),
-                _ => Some(SitesError::OutOfMemory),
+                (Ok(file), Ok(folder)) => Some(VerbError::Sites(SitesError::OneFolder(
+                    file, numbers, folder,
+                ))),
+                _ => Some(VerbError::OutOfMemory),
             };
         }
     }

@@ -5,6 +5,7 @@ ghost use Rattle.cs_store.specs.Fault.{CountsFault};
 use crate::listing::names_in_all;
 use crate::sites::SiteFolders;
 use crate::stamps::{StoreStamp, stamp_of};
+use cs_file_system::StoreFiles;
 use cs_folder_work::pending_work;
 use cs_folders::{FileLimits, OutputFolder, StoreFolder, read_catalog_file, write_new};
 use cs_schema::Catalog;
@@ -12,7 +13,6 @@ use cs_sites::SitedSource;
 use cs_store::StoreFault;
 use pinepolo_places::{Listings, Pending, Places, WorkKind, World};
 use std::alloc::{AllocError, Global};
-use std::fs::File;
 use std::marker::Sync;
 use std::rt::Files;
 use std::time::Clock;
@@ -151,7 +151,7 @@ impl<R: Files + Copy + Sync> Places for Folders<R> {
     }
 }
 
-impl<R: Files<File = File> + Alloc + Copy + Drop + Sync> Listings for Folders<R> {
+impl<R: StoreFiles + Alloc + Copy + Drop + Sync> Listings for Folders<R> {
     type Stamp = StoreStamp;
 
     ghost lists = { λ s path names t. ⊤ };
@@ -164,7 +164,12 @@ impl<R: Files<File = File> + Alloc + Copy + Drop + Sync> Listings for Folders<R>
     }
 
     fn unfinished(&self, path: &str) -> Result<Option<WorkKind>, AllocError> {
-        Ok(match self.pending(path)? {
+        // that could be told when the store was first looked at, so a look that fails now is made again
+        let pending = match self.pending(path)? {
+            Some(Pending::Unknown(_)) => self.pending(path)?,
+            found => found,
+        };
+        Ok(match pending {
             Some(Pending::Stopped(kind) | Pending::Unknown(kind)) => Some(kind),
             Some(Pending::AtWork(_)) | None => None,
         })
@@ -183,4 +188,4 @@ impl<R: Files<File = File> + Alloc + Copy + Drop + Sync> Listings for Folders<R>
     }
 }
 
-impl<R: Files<File = File> + Alloc + Clock + Copy + Drop + Sync> World for Folders<R> {}
+impl<R: StoreFiles + Alloc + Clock + Copy + Drop + Sync> World for Folders<R> {}

@@ -13,12 +13,10 @@ mod rebuilt;
 mod replacing;
 mod shelves;
 mod sites;
-mod sites_error;
 mod siting;
 mod stamps;
 mod store_folders;
 mod tables;
 
 pub use folders::Folders;
-pub use sites_error::{CatalogCopy, SitesError, report_sites};
-pub use siting::SitedRequest;
+pub use siting::{SitedRequest, SitesRefusal};

@@ -4,16 +4,15 @@ use crate::folders::Folders;
 use crate::listing::names_in;
 use crate::replacing::LOST_AND_FOUND;
 use crate::sites::{named_sites, placed};
-use crate::sites_error::SitesError;
-use cs_file_system::{FileSystem, SystemFiles, new_folder_beside, open_regular};
+use cs_file_system::{FileSystem, StoreFiles, SystemFiles, new_folder_beside, open_regular};
 use cs_folders::{
     BEGUN, LeftMark, Way, partial_path, read_catalog_file, unless_missing, way_of_mark,
 };
 use cs_sites::SiteFolder;
 use cs_store::StoreFault;
 use pinepolo_args::{NewFolders, Verb};
+use pinepolo_places::{Failure, SitesError, VerbError};
 use std::alloc::Global;
-use std::fs::File;
 use std::io::ErrorKind;
 use std::rt::Files;
 use std::{fs, io};
@@ -85,7 +84,7 @@ fn way_among(names: &[String]) -> Way {
 }
 
 /// Whether the run that began a site's folder is at work, or was stopped.
-fn way_of_begun<R: Files<File = File>>(alloc: Global, rt: &R, folder: &str) -> io::Result<Way> {
+fn way_of_begun<R: StoreFiles>(alloc: Global, rt: &R, folder: &str) -> io::Result<Way> {
     let mark = format!(in alloc; "{folder}/{BEGUN}")?;
     match unless_missing(open_regular(rt, mark.as_str()))? {
         Some(mark) => way_of_mark(&mark),
@@ -94,7 +93,7 @@ fn way_of_begun<R: Files<File = File>>(alloc: Global, rt: &R, folder: &str) -> i
 }
 
 /// What stands where a site of a new store is to have its folder; a fault if a folder cannot be listed.
-fn way_to_folder<R: Files<File = File> + Alloc + Clone + Drop>(
+fn way_to_folder<R: StoreFiles + Alloc + Clone + Drop>(
     alloc: Global,
     rt: &R,
     folder: &str,
@@ -115,7 +114,7 @@ fn way_to_folder<R: Files<File = File> + Alloc + Clone + Drop>(
 }
 
 /// Moves what a run left in a folder that was stopped into a new folder there, its mark last, and removes that.
-fn remove_left<R: Files<File = File> + Alloc + Clone + Drop>(
+fn remove_left<R: StoreFiles + Alloc + Clone + Drop>(
     alloc: Global,
     rt: &R,
     folder: &str,
@@ -150,7 +149,7 @@ fn listing_error(fault: StoreFault) -> io::Error {
 
 /// Makes room for the files of a site in its folder, in which nothing may stand but, if `replaces`, what a run left that was
 /// stopped.
-pub fn clear_folder<R: Files<File = File> + Alloc + Clone + Drop>(
+pub fn clear_folder<R: StoreFiles + Alloc + Clone + Drop>(
     alloc: Global,
     rt: &R,
     folder: &str,
@@ -168,24 +167,24 @@ pub fn clear_folder<R: Files<File = File> + Alloc + Clone + Drop>(
 }
 
 /// The error for a folder that a site of a new store can't have, if it is one.
-fn not_free<R: Files<File = File> + Alloc + Clone + Drop>(
+fn not_free<R: StoreFiles + Alloc + Clone + Drop>(
     alloc: Global,
     rt: &R,
     folder: &str,
     replaces: bool,
-) -> Option<SitesError> {
+) -> Option<VerbError> {
     let way = way_to_folder(alloc, rt, folder);
     let Ok(path) = String::from_str(alloc, folder) else {
-        return Some(SitesError::OutOfMemory);
+        return Some(VerbError::OutOfMemory);
     };
     match way {
         Ok(Way::Free) if identity(rt, folder).is_some() => None,
         Ok(Way::Begun) if replaces => None,
-        Ok(Way::Begun) => Some(SitesError::Begun(path)),
-        Ok(Way::Busy) => Some(SitesError::Busy(path)),
-        Ok(_) => Some(SitesError::NotFree(path)),
-        Err(StoreFault::Device) => Some(SitesError::NoFolder(path)),
-        Err(StoreFault::Memory) => Some(SitesError::OutOfMemory),
+        Ok(Way::Begun) => Some(VerbError::Sites(SitesError::Begun(path))),
+        Ok(Way::Busy) => Some(VerbError::Sites(SitesError::Busy(path))),
+        Ok(_) => Some(VerbError::Sites(SitesError::NotFree(path))),
+        Err(StoreFault::Device) => Some(VerbError::of_path(alloc, Failure::ListSite, path)),
+        Err(StoreFault::Memory) => Some(VerbError::OutOfMemory),
     }
 }
 
@@ -196,9 +195,9 @@ fn store_folder<R: Files>(
     file: &str,
     sites: &[SiteFolder],
     store: &str,
-) -> Option<SitesError> {
+) -> Option<VerbError> {
     let Ok(partial) = partial_path(alloc, store) else {
-        return Some(SitesError::OutOfMemory);
+        return Some(VerbError::OutOfMemory);
     };
     for path in [store, partial.as_str()] {
         let Some(wanted) = identity(rt, path) else {
@@ -206,8 +205,10 @@ fn store_folder<R: Files>(
         };
         if let Some(site) = owner_of(rt, sites, wanted) {
             return match (String::from_str(alloc, file), String::from_str(alloc, path)) {
-                (Ok(file), Ok(path)) => Some(SitesError::StoreFolder(file, site, path)),
-                _ => Some(SitesError::OutOfMemory),
+                (Ok(file), Ok(path)) => Some(VerbError::Sites(SitesError::StoreFolder(
+                    file, site, path,
+                ))),
+                _ => Some(VerbError::OutOfMemory),
             };
         }
     }
@@ -216,12 +217,12 @@ fn store_folder<R: Files>(
 
 /// The paths of the folders that a SITES file names for the sites of a new store, in the order of their numbers. Nothing is
 /// changed. None are found if there is no catalog, which whoever asks for it is told.
-fn find_new_sites<R: Files<File = File> + Alloc + Copy + Drop>(
+fn find_new_sites<R: StoreFiles + Alloc + Copy + Drop>(
     alloc: Global,
     rt: &R,
     file: &str,
     making: &Making<'_>,
-) -> Result<Vec<String>, SitesError> {
+) -> Result<Vec<String>, VerbError> {
     let (sites, _adoption) = named_sites(alloc, rt, file, &NewFolders::none(), false)?;
     let sites = sites.as_slice();
     if let Some(error) = one_folder(alloc, rt, file, sites) {
@@ -232,7 +233,7 @@ fn find_new_sites<R: Files<File = File> + Alloc + Copy + Drop>(
     }
     let folders = match read_catalog_file(alloc, rt, making.catalog) {
         Ok(Some(bytes)) => placed(alloc, file, sites, bytes.as_slice())?,
-        Err(StoreFault::Memory) => return Err(SitesError::OutOfMemory),
+        Err(StoreFault::Memory) => return Err(VerbError::OutOfMemory),
         _ => Vec::new(alloc),
     };
     for folder in &folders {
@@ -243,9 +244,9 @@ fn find_new_sites<R: Files<File = File> + Alloc + Copy + Drop>(
     Ok(folders)
 }
 
-impl<R: Files<File = File> + Alloc + Copy + Drop> Folders<R> {
+impl<R: StoreFiles + Alloc + Copy + Drop> Folders<R> {
     /// From now on each site of a store that this verb makes gets the folder that a SITES file names for it.
-    pub(crate) fn use_new_sites(&mut self, file: &str, verb: &Verb<'_>) -> Result<(), SitesError> {
+    pub(crate) fn use_new_sites(&mut self, file: &str, verb: &Verb<'_>) -> Result<(), VerbError> {
         let Some(making) = making_of(verb) else {
             return Ok(());
         };

@@ -4,13 +4,13 @@ ghost use Rattle.cs_store.specs.Fault.{CountsFault};
 
 use crate::new_sites::clear_folder;
 use cs_catalog::{CatalogFault, read_catalog};
+use cs_file_system::StoreFiles;
 use cs_folders::{NewSite, NewStoreFolder, file_in, partial_path};
 use cs_schema::FileName;
 use cs_sites::Routes;
 use cs_store::{Sink, StoreFault};
 use pinepolo_places::NewFiles;
 use std::alloc::{AllocError, Global};
-use std::fs::File;
 use std::rt::Files;
 
 /// The folders of the sites of a new store.
@@ -51,7 +51,7 @@ fn routes_of(alloc: Global, catalog: &[u8], sites: usize) -> Result<Routes, Stor
     }
 }
 
-impl<R: Files<File = File> + Alloc + Copy + Drop> NewSites<R> {
+impl<R: StoreFiles + Alloc + Copy + Drop> NewSites<R> {
     /// Begins the folders of the sites of a store with this catalog.
     fn begin(
         alloc: Global,
@@ -118,7 +118,7 @@ impl<R: Files> NewSites<R> {
     }
 }
 
-impl<R: Files<File = File> + Alloc + Copy + Drop> SystemStore<R> {
+impl<R: StoreFiles + Alloc + Copy + Drop> SystemStore<R> {
     /// Begins the store, if `replaces` in the place of one that a run left which was stopped: beside its path, and in the
     /// folders of its sites if there are any.
     pub fn make(

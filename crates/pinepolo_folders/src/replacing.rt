@@ -1,15 +1,14 @@
 //! Folders that take the places of those of sites.
 use crate::folders::Folders;
 use crate::listing::names_in;
-use crate::sites_error::SitesError;
-use cs_file_system::{FileSystem, SystemFiles, put_owned};
+use cs_file_system::{FileSystem, StoreFiles, SystemFiles, put_owned};
 use cs_folder_work::StoreFolders;
 use cs_schema::Loss;
 use cs_sites::{SiteFolder, with_folders};
 use cs_store::StoreFault;
 use pinepolo_args::NewFolders;
+use pinepolo_places::{Failure, SitesError, VerbError};
 use std::alloc::Global;
-use std::fs::File;
 use std::io;
 use std::io::ErrorKind;
 use std::rt::Files;
@@ -45,10 +44,10 @@ fn is_free(names: &[String], resumes: bool) -> bool {
 }
 
 /// A text of its own.
-fn owned(alloc: Global, text: &str) -> Result<String, SitesError> {
+fn owned(alloc: Global, text: &str) -> Result<String, VerbError> {
     match String::from_str(alloc, text) {
         Ok(text) => Ok(text),
-        Err(_) => Err(SitesError::OutOfMemory),
+        Err(_) => Err(VerbError::OutOfMemory),
     }
 }
 
@@ -58,18 +57,22 @@ fn free_folder<R: Files + Alloc + Clone + Drop>(
     rt: &R,
     folder: &str,
     resumes: bool,
-) -> Result<String, SitesError> {
+) -> Result<String, VerbError> {
     let names = match names_in(alloc, rt, folder) {
         Ok(names) => names,
-        Err(StoreFault::Memory) => return Err(SitesError::OutOfMemory),
-        Err(StoreFault::Device) => return Err(SitesError::NoFolder(owned(alloc, folder)?)),
+        Err(StoreFault::Memory) => return Err(VerbError::OutOfMemory),
+        Err(StoreFault::Device) => return Err(VerbError::of_path(
+            alloc,
+            Failure::ListSite,
+            owned(alloc, folder)?,
+        )),
     };
     if !is_free(names.as_slice(), resumes) {
-        return Err(SitesError::NotEmpty(owned(alloc, folder)?));
+        return Err(VerbError::Sites(SitesError::NotEmpty(owned(alloc, folder)?)));
     }
     match rt.canonicalize(alloc, folder) {
         Ok(path) => owned(alloc, path.as_str()),
-        Err(_) => Err(SitesError::NoFolder(owned(alloc, folder)?)),
+        Err(_) => Err(VerbError::of_path(alloc, Failure::ListSite, owned(alloc, folder)?)),
     }
 }
 
@@ -80,7 +83,7 @@ pub fn with_new_folders<R: Files + Alloc + Clone + Drop>(
     named: &[SiteFolder],
     to: &NewFolders<'_>,
     resumes: bool,
-) -> Result<Vec<SiteFolder>, SitesError> {
+) -> Result<Vec<SiteFolder>, VerbError> {
     let mut sites = Vec::new(alloc);
     for site in named {
         let number = site.number;
@@ -89,21 +92,21 @@ pub fn with_new_folders<R: Files + Alloc + Clone + Drop>(
             None => owned(alloc, site.folder.as_str())?,
         };
         if sites.push(SiteFolder { number, folder }).is_err() {
-            return Err(SitesError::OutOfMemory);
+            return Err(VerbError::OutOfMemory);
         }
     }
     Ok(sites)
 }
 
 /// The sites that get new folders, each of which has to be among these.
-fn adopted_sites(sites: &[SiteFolder], to: &NewFolders<'_>) -> Result<Loss, SitesError> {
+fn adopted_sites(sites: &[SiteFolder], to: &NewFolders<'_>) -> Result<Loss, VerbError> {
     let mut adopted = Loss::none();
     for number in 1..17u8 {
         if to.folder(number).is_none() {
             continue;
         }
         if !sites.iter().any(|site| site.number == number) {
-            return Err(SitesError::NoSite(number));
+            return Err(VerbError::Sites(SitesError::NoSite(number)));
         }
         adopted = adopted.with(number);
     }
@@ -120,7 +123,7 @@ impl Adoption {
         old: &[SiteFolder],
         new: &[SiteFolder],
         to: &NewFolders<'_>,
-    ) -> Result<Option<Self>, SitesError> {
+    ) -> Result<Option<Self>, VerbError> {
         if !to.has_any() {
             return Ok(None);
         }
@@ -128,14 +131,14 @@ impl Adoption {
         let file = owned(alloc, file)?;
         match with_folders(alloc, text, old, new) {
             Ok(Some(text)) => Ok(Some(Self { file, text, sites })),
-            Ok(None) => Err(SitesError::NotRewritable(file)),
-            Err(_) => Err(SitesError::OutOfMemory),
+            Ok(None) => Err(VerbError::Sites(SitesError::NotRewritable(file))),
+            Err(_) => Err(VerbError::OutOfMemory),
         }
     }
 
     /// Gives the new folders their copies of the catalog, as long as they are there, and then writes the SITES file with them:
     /// whole or not at all.
-    fn adopt<R: Files<File = File>>(
+    fn adopt<R: StoreFiles>(
         &self,
         alloc: Global,
         rt: &R,
@@ -158,7 +161,7 @@ impl Adoption {
 }
 
 /// Puts a file in place in a folder, and brings its name to the disk.
-fn put_in<R: Files<File = File>>(
+fn put_in<R: StoreFiles>(
     alloc: Global,
     rt: &R,
     folder: &str,
@@ -173,7 +176,7 @@ fn put_in<R: Files<File = File>>(
     files.sync_folder(folder)
 }
 
-impl<R: Files<File = File>> Folders<R> {
+impl<R: StoreFiles> Folders<R> {
     /// From now on the SITES file names the new folders of the sites that were restored into them, if there are any: they are
     /// among these.
     pub(crate) fn adopt(&self, folders: &StoreFolders) -> Result<(), StoreFault> {

@@ -3,12 +3,12 @@ ghost use Rattle.std.specs.Prelude.{⊤};
 
 use crate::folders::Folders;
 use crate::rebuilt::rebuilt_names;
+use cs_file_system::StoreFiles;
 use cs_folder_work::{FolderShelf, Taken, resume, take, take_undo};
 use cs_folders::FileLimits;
 use cs_schema::{Catalog, FileName, Loss};
 use cs_store::StoreFault;
 use pinepolo_places::{GivenBack, RestoreOf, Shelves, UndoOf, Undoable, Untaken, Work};
-use std::fs::File;
 use std::marker::Sync;
 use std::rt::Files;
 use std::time::Clock;
@@ -83,7 +83,7 @@ fn restore_of(taken: &Taken) -> Option<RestoreOf> {
     }
 }
 
-impl<R: Files<File = File> + Alloc + Clock + Copy + Drop + Sync> Shelves for Folders<R> {
+impl<R: StoreFiles + Alloc + Clock + Copy + Drop + Sync> Shelves for Folders<R> {
     type Shelf = FolderShelf<R>;
 
     ghost takes_store = { λ s path catalog of store t. ⊤ };

@@ -7,14 +7,13 @@ use crate::copies::{differing, read_copies};
 use crate::distinct::one_folder;
 use crate::folders::Folders;
 use crate::replacing::{Adoption, with_new_folders};
-use crate::sites_error::SitesError;
 use cs_catalog::{CatalogFault, read_catalog};
 use cs_folders::{CATALOG_LIMIT, FileLimits, StoreFolder, read_file};
 use cs_schema::Loss;
 use cs_sites::{SiteFolder, SitesFault, folder_beside, folders_of, read_sites};
 use cs_store::StoreFault;
 use pinepolo_args::NewFolders;
-use pinepolo_places::AwaySite;
+use pinepolo_places::{AwaySite, Failure, SitesError, VerbError};
 use std::alloc::{AllocError, Global};
 use std::rt::Files;
 
@@ -41,24 +40,24 @@ fn has(loss: Loss, site: u8) -> bool
 }
 
 /// The error for a SITES file that is refused.
-fn refused(alloc: Global, file: &str, fault: SitesFault) -> SitesError {
+fn refused(alloc: Global, file: &str, fault: SitesFault) -> VerbError {
     if fault == SitesFault::Memory {
-        return SitesError::OutOfMemory;
+        return VerbError::OutOfMemory;
     }
     match String::from_str(alloc, file) {
-        Ok(file) => SitesError::Refused(file, fault),
-        Err(_) => SitesError::OutOfMemory,
+        Ok(file) => VerbError::Sites(SitesError::Refused(file, fault)),
+        Err(_) => VerbError::OutOfMemory,
     }
 }
 
 /// The bytes of a SITES file.
-fn read_bytes<R: Files>(alloc: Global, rt: &R, file: &str) -> Result<Vec<u8>, SitesError> {
+fn read_bytes<R: Files>(alloc: Global, rt: &R, file: &str) -> Result<Vec<u8>, VerbError> {
     match read_file(alloc, rt, file, CATALOG_LIMIT) {
         Ok(Some(bytes)) => Ok(bytes),
-        Err(StoreFault::Memory) => Err(SitesError::OutOfMemory),
+        Err(StoreFault::Memory) => Err(VerbError::OutOfMemory),
         Ok(None) | Err(StoreFault::Device) => match String::from_str(alloc, file) {
-            Ok(file) => Err(SitesError::Unreadable(file)),
-            Err(_) => Err(SitesError::OutOfMemory),
+            Ok(file) => Err(VerbError::of_path(alloc, Failure::ReadSites, file)),
+            Err(_) => Err(VerbError::OutOfMemory),
         },
     }
 }
@@ -71,7 +70,7 @@ pub fn named_sites<R: Files + Alloc + Clone + Drop>(
     file: &str,
     to: &NewFolders<'_>,
     resumes: bool,
-) -> Result<(Vec<SiteFolder>, Option<Adoption>), SitesError> {
+) -> Result<(Vec<SiteFolder>, Option<Adoption>), VerbError> {
     let bytes = read_bytes(alloc, rt, file)?;
     let old = match read_sites(alloc, bytes.as_slice()) {
         Ok(named) => named,
@@ -82,7 +81,7 @@ pub fn named_sites<R: Files + Alloc + Clone + Drop>(
     let adoption = Adoption::new(alloc, file, text, old.as_slice(), new.as_slice(), to)?;
     match beside(alloc, file, new.as_slice()) {
         Ok(sites) => Ok((sites, adoption)),
-        Err(_) => Err(SitesError::OutOfMemory),
+        Err(_) => Err(VerbError::OutOfMemory),
     }
 }
 
@@ -104,10 +103,10 @@ pub fn placed(
     file: &str,
     sites: &[SiteFolder],
     catalog: &[u8],
-) -> Result<Vec<String>, SitesError> {
+) -> Result<Vec<String>, VerbError> {
     let catalog = match read_catalog(alloc, catalog) {
         Ok(catalog) => catalog,
-        Err(CatalogFault::Memory) => return Err(SitesError::OutOfMemory),
+        Err(CatalogFault::Memory) => return Err(VerbError::OutOfMemory),
         Err(_) => return Ok(Vec::new(alloc)),
     };
     let folders = match folders_of(alloc, sites, catalog.sites) {
@@ -116,7 +115,7 @@ pub fn placed(
     };
     match owned(alloc, folders.as_slice()) {
         Ok(folders) => Ok(folders),
-        Err(_) => Err(SitesError::OutOfMemory),
+        Err(_) => Err(VerbError::OutOfMemory),
     }
 }
 
@@ -149,7 +148,7 @@ pub fn find_sites<R: Files + Alloc + Copy + Drop>(
     store: &str,
     to: &NewFolders<'_>,
     resumes: bool,
-) -> Result<SiteFolders, SitesError> {
+) -> Result<SiteFolders, VerbError> {
     let (sites, adoption) = match named_sites(alloc, &rt, file, to, resumes) {
         Ok(found) => found,
         Err(error) => return Err(error),
@@ -158,14 +157,14 @@ pub fn find_sites<R: Files + Alloc + Copy + Drop>(
         return Err(error);
     }
     let Ok((mut copies, away)) = read_copies(alloc, rt, store, sites.as_slice()) else {
-        return Err(SitesError::OutOfMemory);
+        return Err(VerbError::OutOfMemory);
     };
     let away = without_new(away, to);
     if let Some(error) = differing(alloc, copies.as_slice()) {
         return Err(error);
     }
     let Ok(store) = String::from_str(alloc, store) else {
-        return Err(SitesError::OutOfMemory);
+        return Err(VerbError::OutOfMemory);
     };
     let Some(copy) = copies.pop() else {
         return Ok(SiteFolders {
@@ -243,13 +242,13 @@ impl<R: Files + Alloc + Copy + Drop> Folders<R> {
         store: &str,
         to: &NewFolders<'_>,
         resumes: bool,
-    ) -> Result<Vec<AwaySite>, SitesError> {
+    ) -> Result<Vec<AwaySite>, VerbError> {
         let sites = match find_sites(self.alloc, self.rt, file, store, to, resumes) {
             Ok(sites) => sites,
             Err(error) => return Err(error),
         };
         let Ok(away) = sites.away(self.alloc) else {
-            return Err(SitesError::OutOfMemory);
+            return Err(VerbError::OutOfMemory);
         };
         self.sites = Some(sites);
         Ok(away)

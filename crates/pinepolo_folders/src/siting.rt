@@ -3,12 +3,10 @@ ghost use Rattle.std.specs.Prelude.{◌≤◌, IfOk};
 ghost use Rattle.pinepolo_folders.specs.Siting.{AreSited, IsSited};
 
 use crate::folders::Folders;
-use crate::sites_error::SitesError;
+use cs_file_system::StoreFiles;
 use cs_schema::Loss;
 use pinepolo_args::{ParseExit, Request, Verb};
-use pinepolo_places::{AwaySite, Sited};
-use std::fs::File;
-use std::rt::Files;
+use pinepolo_places::{AwaySite, Sited, VerbError};
 
 /// A request, with the folders of its store's sites found.
 #[derive(Drop)]
@@ -17,6 +15,14 @@ pub struct SitedRequest<'x> {
     pub parsed: Result<Request<'x>, ParseExit>,
     /// The sites whose folders are away.
     pub away: Vec<AwaySite>,
+}
+
+/// A request whose sites are refused.
+#[derive(Drop)]
+pub struct SitesRefusal<'x> {
+    pub request: Request<'x>,
+    /// Why.
+    pub error: VerbError,
 }
 
 /// A loss with the sites that are away.
@@ -63,13 +69,13 @@ impl<'x> SitedRequest<'x> {
     }
 }
 
-impl<R: Files<File = File> + Alloc + Copy + Drop> Folders<R> {
+impl<R: StoreFiles + Alloc + Copy + Drop> Folders<R> {
     /// Finds the folders of the sites of what was asked for: if it names a SITES file, each site of its store has the
     /// folder that this file names, or the one that takes its place, and otherwise all sites have the store's.
     pub fn find_sites_of<'x>(
         &mut self,
         parsed: Result<Request<'x>, ParseExit>,
-    ) -> Result<SitedRequest<'x>, SitesError>
+    ) -> Result<SitedRequest<'x>, SitesRefusal<'x>>
         ensures { IfOk result (λ sited. AreSited parsed.entry sited.parsed) }
     {
         self.sites = None;
@@ -86,14 +92,14 @@ impl<R: Files<File = File> + Alloc + Copy + Drop> Folders<R> {
                 let (store, resumes) = (request.verb.path(), resumes(&request.verb));
                 match self.use_sites(file, store, &request.to, resumes) {
                     Ok(away) => away,
-                    Err(error) => return Err(error),
+                    Err(error) => return Err(SitesRefusal { request, error }),
                 }
             }
             None => Vec::new(self.alloc),
         };
         if let Some(file) = request.new_sites {
             if let Err(error) = self.use_new_sites(file, &request.verb) {
-                return Err(error);
+                return Err(SitesRefusal { request, error });
             }
         }
         lose_away(&mut request, away.as_slice());

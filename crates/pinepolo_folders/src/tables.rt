@@ -3,14 +3,13 @@ ghost use Rattle.std.specs.Prelude.{⊤};
 
 use crate::folders::Folders;
 use crate::new_store::SystemStore;
+use cs_file_system::{NotedFile, StoreFiles};
 use cs_folders::{open_text, way_to, write_new};
 use cs_store::StoreFault;
 use pinepolo_places::{Tables, Way};
-use std::fs::File;
-use std::rt::Files;
 
-impl<R: Files<File = File> + Alloc + Copy + Drop> Tables for Folders<R> {
-    type Input = R::File;
+impl<R: StoreFiles + Alloc + Copy + Drop> Tables for Folders<R> {
+    type Input = NotedFile;
 
     type NewStore = SystemStore<R>;
 
@@ -24,7 +23,7 @@ impl<R: Files<File = File> + Alloc + Copy + Drop> Tables for Folders<R> {
         way_to(self.alloc, &self.rt, path)
     }
 
-    fn table(&mut self, path: &str) -> Result<R::File, StoreFault> {
+    fn table(&mut self, path: &str) -> Result<NotedFile, StoreFault> {
         let opened = open_text(&self.rt, path);
         self.told(opened)
     }

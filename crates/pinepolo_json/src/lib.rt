@@ -5,10 +5,12 @@ mod away_json;
 mod diagnosed_json;
 mod disputed_json;
 mod drilled_json;
+mod error_json;
 mod json;
 mod new_store_json;
 mod restored_json;
 mod undone_json;
 mod verified_json;
 
+pub use error_json::error_object;
 pub use json::answer_object;

@@ -1,9 +1,9 @@
 //! Why a verb ends early, and the status that tells it.
-ghost use Rattle.std.specs.Prelude.{◌≡◌, ◌⊎◌, IsTrue};
+ghost use Rattle.std.specs.Prelude.{◌≡◌, ◌⊎◌};
 ghost use Rattle.pinepolo_places.specs.Status.{status_of, fault_status};
 
 use crate::causes::{Failure, Refusal};
-use crate::error_text::ErrorText;
+use crate::sites_error::SitesError;
 use cs_catalog::CatalogFault;
 use cs_reports::{BadFile, FaultWords, fault_site};
 use cs_schema::Catalog;
@@ -11,7 +11,6 @@ use cs_shelf::WorkKind;
 use cs_store::{Fault, StoreFault};
 use std::alloc::Global;
 use std::fmt;
-use std::io::Write;
 
 /// The status of a verb that did what it was asked for.
 pub const DONE: u8 = 0;
@@ -87,21 +86,10 @@ pub enum VerbError {
     Device(Failure, Subject),
     /// A store, a text or what was asked for is refused.
     Refused(Refusal, Subject),
+    /// The folders of the sites of a store are refused.
+    Sites(SitesError),
     /// A fault of a store.
     Store(StoreError),
-}
-
-/// Says on `err` why a verb ended early on a store with this SITES file, and gives its status.
-///
-/// The status is that of a device if `err` can't be written.
-pub fn report<E: Write>(error: &VerbError, sites: Option<&str>, err: &mut E) -> u8
-    ensures { (result ≡ status_of error.now) ⊎ (result ≡ DEVICE) }
-{
-    let text = ErrorText { error, sites };
-    match write!(err, "{text}") {
-        Ok(()) => error.status(),
-        Err(_) => DEVICE,
-    }
 }
 
 /// The status that tells a fault of a store.
@@ -132,17 +120,8 @@ impl VerbError {
             VerbError::OutOfMemory => MEMORY,
             VerbError::Catalog(..) | VerbError::Refused(..) => REFUSED,
             VerbError::Device(..) => DEVICE,
+            VerbError::Sites(error) => error.status(),
             VerbError::Store(error) => fault_status(&error.fault),
-        }
-    }
-
-    /// Whether a store, its files or what was asked of them is refused, and neither its catalog nor a device is to blame.
-    pub fn is_refusal(&self) -> bool
-        ensures { IsTrue result → status_of self.now ≡ REFUSED }
-    {
-        match self {
-            VerbError::Catalog(..) => false,
-            _ => self.status() == REFUSED,
         }
     }
 
@@ -189,6 +168,33 @@ impl VerbError {
             Some(subject) => VerbError::Device(failure, subject),
             None => VerbError::OutOfMemory,
         }
+    }
+
+    /// What failed at a path.
+    pub fn of_path(alloc: Global, failure: Failure, path: String) -> Self
+        ensures { status_of result ≡ DEVICE }
+    {
+        let words = String::new(alloc);
+        VerbError::Device(failure, Subject { path, words })
+    }
+
+    /// The path that the error is about, and what is wrong there in words.
+    pub fn subject(&self) -> (&str, &str) {
+        match self {
+            VerbError::NotUtf8 | VerbError::OutOfMemory | VerbError::Sites(_) => ("", ""),
+            VerbError::Catalog(_, subject)
+            | VerbError::Device(_, subject)
+            | VerbError::Refused(_, subject) => (subject.path.as_str(), subject.words.as_str()),
+            VerbError::Store(error) => {
+                (error.subject.path.as_str(), error.subject.words.as_str())
+            }
+        }
+    }
+
+    /// Whether the error is about what is at this path.
+    pub fn is_about(&self, path: &str) -> bool {
+        let (about, _words) = self.subject();
+        about == path
     }
 
     /// A fault of the store at a path, which has this catalog.

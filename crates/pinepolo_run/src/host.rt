@@ -1,6 +1,7 @@
 //! What a program runs on, and by what its verbs work.
 ghost use Rattle.std.specs.Prelude.{◌≤◌};
 
+use cs_file_system::FailedCalls;
 use cs_rebuild::Run;
 use pinepolo_places::Sited;
 use std::alloc::Global;
@@ -17,6 +18,8 @@ pub struct Host<'a, R, G> {
     pub gate: &'a G,
     /// Where the sites of the store stand, if each has a folder of its own.
     pub sites: Option<Sited<'a>>,
+    /// The calls on files that failed, with what the system said of them.
+    pub calls: &'a FailedCalls,
 }
 
 impl<'a, R, G> Host<'a, R, G> {

@@ -9,6 +9,7 @@ mod host;
 mod printing;
 mod program;
 
+pub use cs_file_system::FailedCalls;
 pub use host::{CUT, Host};
-pub use pinepolo_places::{Meter, VerbError, World, report};
-pub use program::run;
+pub use pinepolo_places::{Meter, VerbError, World};
+pub use program::{run, say_early, say_error};

@@ -2,11 +2,12 @@
 ghost use Rattle.std.specs.Prelude.{◌≡◌, ◌≤◌, ◌⊎◌};
 ghost use Rattle.pinepolo_answers.specs.Statuses.{answer_status};
 ghost use Rattle.pinepolo_answers.specs.Statuses.{listed_status};
+ghost use Rattle.pinepolo_places.specs.Status.{status_of};
 
 use pinepolo_answers::{Answer, Dumped, Listed};
-use pinepolo_json::answer_object;
-use pinepolo_places::{DEVICE, DONE, MEMORY, REFUSED, VerbError, WorkKind, error_object};
-use pinepolo_text::{AnswerText, ListedText, Unfinished, store_words};
+use pinepolo_json::{answer_object, error_object};
+use pinepolo_places::{DEVICE, DONE, MEMORY, WorkKind};
+use pinepolo_text::{AnswerText, ErrorText, ListedText, Unfinished, store_words};
 use serde_json::Value;
 use std::alloc::{AllocError, Global};
 use std::io;
@@ -48,7 +49,6 @@ fn written<E: Write>(done: io::Result<()>, status: u8, err: &mut E) -> u8
 
 /// Writes a text, and gives the status if that was possible.
 fn print<W: Write, E: Write>(text: Option<String>, status: u8, out: &mut W, err: &mut E) -> u8
-    requires { status ≤ 6 }
     ensures { (result ≡ status) ⊎ ((result ≡ MEMORY) ⊎ (result ≡ DEVICE)) }
 {
     let Some(text) = text else {
@@ -122,16 +122,27 @@ fn print_listed<W: Write, E: Write>(listed: &Listed, out: &mut W, err: &mut E) -
     }
 }
 
-/// Prints as JSON why a verb was refused.
-pub fn say_refusal<W: Write, E: Write>(
+/// Says on `err` why a verb ended early, and gives its status: that of a device if `err` can't be written.
+pub fn report<E: Write>(text: &ErrorText<'_>, err: &mut E) -> u8
+    ensures { (result ≡ status_of text.now.error.now) ⊎ (result ≡ DEVICE) }
+{
+    match write!(err, "{text}") {
+        Ok(()) => text.error.status(),
+        Err(_) => DEVICE,
+    }
+}
+
+/// Prints as JSON why a verb ended early.
+pub fn say_object<W: Write, E: Write>(
     alloc: Global,
     verb: &str,
-    error: &VerbError,
+    text: &ErrorText<'_>,
     out: &mut W,
     err: &mut E,
 ) -> u8
-    ensures { (result ≡ REFUSED) ⊎ ((result ≡ MEMORY) ⊎ (result ≡ DEVICE)) }
+    ensures { (result ≡ status_of text.now.error.now) ⊎ ((result ≡ MEMORY) ⊎ (result ≡ DEVICE)) }
 {
-    let text = object_text(alloc, error_object(alloc, verb, error));
-    print(text, REFUSED, out, err)
+    let status = text.error.status();
+    let object = object_text(alloc, error_object(alloc, verb, text.error, text.failed));
+    print(object, status, out, err)
 }

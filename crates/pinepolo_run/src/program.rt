@@ -5,11 +5,12 @@ ghost use Rattle.pinepolo_places.specs.Status.{status_of};
 ghost use Rattle.pinepolo_run.specs.Requests.{IsSaid, Runs, exit_status};
 
 use crate::host::Host;
-use crate::printing::{print_bytes, say, say_refusal};
+use crate::printing::{print_bytes, report, say, say_object};
+use cs_file_system::FailedCalls;
 use pinepolo_args::{ParseExit, Request};
-use pinepolo_places::{DEVICE, DONE, USAGE, VerbError, World, report};
+use pinepolo_places::{DEVICE, DONE, USAGE, VerbError, World};
 use pinepolo_progress::Progress;
-use pinepolo_text::AnswerText;
+use pinepolo_text::{AnswerText, ErrorText, failed_call};
 use pinepolo_verbs::perform;
 use std::alloc::Global;
 use std::io::Write;
@@ -75,7 +76,7 @@ pub fn run<R: Threads + Sync, G: Progress + Sync, P: World, W: Write, E: Write>(
             };
             say(host.alloc, &text, request.json, out, err)
         }
-        Err(error) => say_error(host.alloc, &error, request, out, err),
+        Err(error) => say_error(host.alloc, host.calls, &error, request, out, err),
     }
 }
 
@@ -84,7 +85,7 @@ fn say_exit<W: Write, E: Write>(exit: &ParseExit, out: &mut W, err: &mut E) -> u
     ensures { IsSaid (exit_status exit.now) result }
 {
     match exit {
-        ParseExit::OutOfMemory => report(&VerbError::OutOfMemory, None, err),
+        ParseExit::OutOfMemory => say_early(&VerbError::OutOfMemory, err),
         ParseExit::Help(text) => print_bytes(text.as_bytes(), DONE, out, err),
         ParseExit::Usage(text) => match err.write_all(text.as_bytes()) {
             Ok(()) => USAGE,
@@ -93,22 +94,45 @@ fn say_exit<W: Write, E: Write>(exit: &ParseExit, out: &mut W, err: &mut E) -> u
     }
 }
 
-/// Prints why a verb stopped early, and gives the status: a refused store as JSON if that is wanted, all else as text.
-fn say_error<W: Write, E: Write>(
+/// Prints why a verb stopped early, with what the system said of the call that failed, and gives the status: as JSON if that is
+/// wanted, and else as text.
+pub fn say_error<'a, W: Write, E: Write>(
     alloc: Global,
-    error: &VerbError,
-    request: &Request<'_>,
+    calls: &'a FailedCalls,
+    error: &'a VerbError,
+    request: &'a Request<'a>,
     out: &mut W,
     err: &mut E,
 ) -> u8
     ensures { IsSaid (status_of error.now) result }
 {
-    if request.json && error.is_refusal() {
-        return say_refusal(alloc, request.verb.name(), error, out, err);
-    }
     let sites = match request.sites {
         Some(file) if error.is_about(request.verb.path()) => Some(file),
         _ => None,
     };
-    report(error, sites, err)
+    let failed = failed_call(error, calls);
+    let text = ErrorText {
+        error,
+        sites,
+        failed,
+    };
+    match error {
+        VerbError::OutOfMemory => report(&text, err),
+        _ if request.json => say_object(alloc, request.verb.name(), &text, out, err),
+        _ => report(&text, err),
+    }
+}
+
+/// Says why there was no request to perform, and gives the status.
+pub fn say_early<E: Write>(error: &VerbError, err: &mut E) -> u8
+    ensures { IsSaid (status_of error.now) result }
+{
+    report(
+        &ErrorText {
+            error,
+            sites: None,
+            failed: None,
+        },
+        err,
+    )
 }

@@ -3,7 +3,7 @@ use crate::places::MemoryPlaces;
 use anyhow::Result;
 use pinepolo_args::parse;
 use pinepolo_progress::OpenGate;
-use pinepolo_run::{Host, Meter, World, run};
+use pinepolo_run::{FailedCalls, Host, Meter, World, run};
 use std::marker::Sync;
 use std::thread::Threads;
 
@@ -34,11 +34,13 @@ pub fn answered<R: Threads + Sync + AllocGlobal + Print>(
     for word in words {
         owned.push(String::from_str(alloc, word)?)?;
     }
+    let calls = FailedCalls::new(alloc)?;
     let host = Host {
         rt,
         alloc,
         gate: &OpenGate,
         sites: None,
+        calls: &calls,
     };
     let mut out = Vec::new(alloc);
     let mut err = Vec::new(alloc);

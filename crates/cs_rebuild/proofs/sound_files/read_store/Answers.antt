@@ -1,14 +1,15 @@
-use Rattle.std.proofs.Common.{Option, Result, subst}
-use Rattle.std.specs.Prelude.{IfOk}
+use Rattle.std.proofs.Common.{Option, Result, inl, inr, subst}
+use Rattle.std.specs.Prelude.{IfOk, IfErr}
 use Rattle.std.specs.declared.alloc.AllocError.{AllocError}
 use Rattle.rayon.proofs.ListFacts.{IfOk-then}
+use Rattle.cs_store.specs.Fault.{MemoryOr}
 use Rattle.cs_store.specs.FileSet.{contents_of}
 use Rattle.cs_schema.specs.declared.file_name.FileName.{FileName}
 use Rattle.cs_rebuild.specs.Reading.{AreDigests, resealed}
-use Rattle.cs_rebuild.specs.Steps.{AreRead}
+use Rattle.cs_rebuild.specs.Steps.{AreRead, IsBadFile}
 use Rattle.cs_rebuild.proofs.Answered.{read_sound, read_under}
-use Rattle.cs_rebuild.proofs.LeastBad.{read_as_sealed}
-use Rattle.cs_rebuild.proofs.Verdicts.{bad_file, memory_or}
+use Rattle.cs_rebuild.proofs.LeastBad.{read_as_sealed, sealed_bad}
+use Rattle.cs_rebuild.proofs.Verdicts.{bad_file, memory_or, on_error}
 use Rattle.cs_rebuild.proofs.sound_files.read_store.Goals as goal
 
 pub returns-in-Ok-clause-ok : goal.returns-in-Ok-clause-ok
@@ -27,7 +28,13 @@ returns-in-Err-clause-bad g c =
     let F = contents_of c.args.files.now in
     let L = c.args.loss in
     let beside = c.read_beside-unsealed in
-    c.in-Err.ensures.err C L F c.projection_count-rules.ensures.rules beside.ensures.digests (IfOk-then beside.result.1 _ _ beside.ensures.ok (λ v read. read_sound C c.projection_count-rules.ensures.rules (resealed F) L v read)) beside.ensures.bad
+    let sound = IfOk-then beside.result.1 _ _ beside.ensures.ok (λ v read. read_sound C c.projection_count-rules.ensures.rules (resealed F) L v read) in
+    elim c.in-Err.ensures.err [
+      | inl own ↦
+          let right = subst (λ (x : Result (Option FileName) AllocError). IfOk x (AreDigests C L F)) own.1 beside.ensures.digests in
+          memory_or c.in-Err.fault (subst (λ r. IfErr r (λ f. MemoryOr f (IsBadFile C (resealed F) L f))) own.0 beside.ensures.bad) (sealed_bad C c.projection_count-rules.ensures.rules F L right c.in-Err.fault)
+      | inr all ↦ all C L F c.projection_count-rules.ensures.rules beside.ensures.digests sound (on_error beside.result.1 _ _ beside.ensures.bad (λ f bad. memory_or f bad (bad_file C (resealed F) L f)))
+    ]
 
 pub returns-in-Err-clause-err : goal.returns-in-Err-clause-err
 returns-in-Err-clause-err g c = memory_or c.in-Err.fault (returns-in-Err-clause-bad g c) (bad_file c.args.catalog.now (contents_of c.args.files.now) c.args.loss c.in-Err.fault)
