@@ -1,4 +1,3 @@
-pub mod Vectors
 pub mod BitmapCuts
 pub mod BitmapLengths
 pub mod BitmapKeys

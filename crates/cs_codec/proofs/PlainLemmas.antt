@@ -1,13 +1,12 @@
 -- Lists of cells, and their bytes one after the other.
-use Rattle.std.proofs.Common.{◌≡◌, ℕ, zero, suc, ◌+◌, ◌-◌, ◌<◌, ◌≤◌, Option, Some, None, length-take, List, [], ◌∷◌, ◌++◌, length, get_or, take, drop, refl, sym, ap, subst, ◌∙◌, append_assoc, arith}
+use Rattle.std.proofs.Common.{◌≡◌, ℕ, zero, suc, ◌+◌, ◌-◌, ◌<◌, ◌≤◌, Some, length-take, List, [], ◌∷◌, ◌++◌, length, get_or, take, drop, refl, sym, ap, subst, ◌∙◌, append_assoc, arith}
 use Rattle.std.specs.List.{AllByRecursion}
-use Rattle.std.specs.Prelude.{slice_get, IfSome}
-use Rattle.std.specs.Int.{w64, to_be_bytes}
+use Rattle.std.specs.Prelude.{slice_get}
 use Rattle.std.proofs.lemmas.List.{drop_more, get_or-drop, flat_map_more}
 use Rattle.cs_codec.specs.Columns.{cells_at}
 use Rattle.std.proofs.lemmas.Option.{slice_get_within, get_or_from_slice_get}
 use Rattle.cs_codec.specs.declared.plain.PlainPart.{PlainPart}
-use Rattle.cs_codec.specs.Plain.{IsPlainPart, kept_bytes}
+use Rattle.cs_codec.specs.Plain.{IsPlainPart}
 use Rattle.std.proofs.lemmas.List.{append-nil, length-append, length-drop, drop_all, take_more}
 use Rattle.cs_codec.specs.Cells.{BeginsOne, StandsAt, NoneStandsAt}
 use Rattle.cs_codec.specs.Encodings.{IsColumn, IsShort}
@@ -81,17 +80,6 @@ plain-taken {C} bytes cells i c a b lt e ea eb =
 pub one_at : {C : Type 0} (xs : List C) (at : ℕ) (c : C) → slice_get xs at ≡ Some c → take 1 (drop at xs) ≡ c ∷ []
 one_at {C} xs at c h = ap (take 1) (drop_more xs at c (slice_get_within xs at c h) ∙ ap (λ (x : C). x ∷ drop (at + 1) xs) (get_or_from_slice_get xs at c c h))
 
-pub one_of : {C : Type 0} (xs : List C) (from to : ℕ) (c : C) → to - from ≡ 1 → slice_get xs from ≡ Some c → take (to - from) (drop from xs) ≡ c ∷ []
-one_of xs from to c n h = ap (λ (k : ℕ). take k (drop from xs)) n ∙ one_at xs from c h
-
-pub lone_cell : {C : Type 0} (of_bits : ℕ → C) (r : Option ℕ) (c : C) (x : List C) → x ≡ c ∷ [] → IfSome r (λ n. of_bits n ≡ c) → IfSome r (λ n. x ≡ of_bits n ∷ [])
-lone_cell of_bits None c x e h = tt
-lone_cell {C} of_bits (Some n) c x e h = e ∙ ap (λ (z : C). z ∷ []) (sym h)
-
-pub lone_bytes : {C : Type 0} (bytes : C → List ℕ) (r : Option ℕ) (c : C) (x : List C) → x ≡ c ∷ [] → IfSome r (λ n. bytes c ≡ to_be_bytes w64 n) → IfSome r (λ n. plain_text bytes x ≡ to_be_bytes w64 n)
-lone_bytes bytes None c x e h = tt
-lone_bytes bytes (Some n) c x e h = ap (plain_text bytes) e ∙ append-nil (bytes c) ∙ h
-
 pub some_at : {C : Type 0} (xs : List C) (i : ℕ) → i < length xs → (c : C) × (slice_get xs i ≡ Some c)
 some_at [] i h = absurd (omega arith)
 some_at (x ∷ xs) zero h = (x, refl)
@@ -107,29 +95,11 @@ plain-ranged {C} bytes xs from at a b o lt ea eb =
     plain-taken bytes (drop from xs) (at - from) some.0 a b (omega (arith, length-drop from xs)) (sym here) ea (eb some.0 some.1)
     ∙ ap (λ (n : ℕ). plain_text bytes (take n (drop from xs))) more
 
-pub plain_part : {C : Type 0} (bytes : C → List ℕ) (xs : List C) (part : PlainPart) (from to at : ℕ) → part.lone ≡ None → part.count ≡ to - from → at ≡ to → to ≤ length xs → part.bytes.items ≡ plain_text bytes (take (at - from) (drop from xs)) → IsPlainPart bytes part (take (to - from) (drop from xs))
-plain_part bytes xs part from to at l n e h w = record {
-  bytes_are = ap (λ (o : Option ℕ). kept_bytes o part.bytes.items) l ∙ w ∙ ap (λ (k : ℕ). plain_text bytes (take (k - from) (drop from xs))) e;
+pub plain_part : {C : Type 0} (bytes : C → List ℕ) (xs : List C) (part : PlainPart) (from to at : ℕ) → part.count ≡ to - from → at ≡ to → to ≤ length xs → part.bytes.items ≡ plain_text bytes (take (at - from) (drop from xs)) → IsPlainPart bytes part (take (to - from) (drop from xs))
+plain_part bytes xs part from to at n e h w = record {
+  bytes_are = w ∙ ap (λ (k : ℕ). plain_text bytes (take (k - from) (drop from xs))) e;
   count_is = omega (arith, length-take (to - from) (drop from xs), length-drop from xs);
 }
-
-pub range_more : {C : Type 0} (xs : List C) (from at : ℕ) (c : C) → from ≤ at → slice_get xs at ≡ Some c → take (at - from) (drop from xs) ++ c ∷ [] ≡ take (at + 1 - from) (drop from xs)
-range_more {C} xs from at c o h =
-    let lt = slice_get_within xs at c h in
-    let place : from + (at - from) ≡ at = omega arith in
-    let here : get_or (drop from xs) (at - from) c ≡ c =
-    get_or-drop from xs (at - from) c ∙ ap (λ (n : ℕ). get_or xs n c) place ∙ get_or_from_slice_get xs at c c h in
-    let inside : at - from < length (drop from xs) = omega (arith, length-drop from xs) in
-    let more : at - from + 1 ≡ at + 1 - from = omega arith in
-    ap (λ (z : C). take (at - from) (drop from xs) ++ z ∷ []) (sym here)
-    ∙ sym (take_more (drop from xs) (at - from) c inside)
-    ∙ ap (λ (n : ℕ). take n (drop from xs)) more
-
-pub whole_range : {C : Type 0} (xs part : List C) (from to at : ℕ) → at ≡ to → part ≡ take (at - from) (drop from xs) → part ≡ take (to - from) (drop from xs)
-whole_range {C} xs part from to at e h = h ∙ ap (λ (n : ℕ). take (n - from) (drop from xs)) e
-
-pub length-range : {C : Type 0} (xs part : List C) (from to : ℕ) → from ≤ to → to ≤ length xs → part ≡ take (to - from) (drop from xs) → length part ≡ to - from
-length-range xs part from to o h e = ap length e ∙ omega (arith, length-take (to - from) (drop from xs), length-drop from xs)
 
 -- ---- the cells at some indices
 pub length-cells_at : {C : Type 0} (xs : List C) (places : List ℕ) → ((k : ℕ) → k < length places → get_or places k 0 < length xs) → length (cells_at xs places) ≡ length places

@@ -13,6 +13,7 @@ pub mod Plain
 pub mod PlainLaws
 pub mod Differences
 pub mod Rises
+pub mod NoTexts
 pub mod DifferenceLaws
 pub mod BitmapLaws
 pub mod Bitmaps

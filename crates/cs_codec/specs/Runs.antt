@@ -1,5 +1,5 @@
 -- Lists of runs, and the cells that they have.
-use Rattle.std.specs.Prelude.{◌≡◌, ℕ, ◌+◌, ◌<◌, ◌≤◌, Bool, false, List, [], ◌∷◌, ◌++◌, length, replicate, Option, Some, None}
+use Rattle.std.specs.Prelude.{◌≡◌, ℕ, ◌+◌, ◌<◌, ◌≤◌, Bool, false, List, [], ◌∷◌, ◌++◌, length, replicate}
 use Rattle.cs_codec.specs.Cells.{number}
 
 -- neighbouring cells with the same value
@@ -33,21 +33,16 @@ abbrev pub written_from : {C : Type 0} → (C → List ℕ) → ℕ → List (Ru
 written_from bytes p [] = []
 written_from bytes p (r ∷ rs) = (bytes r.value ++ number p ++ number r.count) ++ written_from bytes (p + r.count) rs
 
--- the cells of the runs, or the one cell whose number is stored instead
-abbrev pub kept_cells : {C : Type 0} → (ℕ → C) → Option ℕ → List (Run C) → List C
-kept_cells of_bits None runs = expand runs
-kept_cells of_bits (Some n) runs = of_bits n ∷ []
-
 -- values and lengths, side by side, are those of maximal runs
 pub record AreColumnsOfRuns {C : Type 0} (eq : C → C → Bool) (values : List C) (counts : List ℕ) : Type 0 where
   pub aligned : length values ≡ length counts
   pub proper : IsProper eq (zip_runs values counts)
 
 -- what holds of the fields of a part
-pub record AreRuns {C : Type 0} (of_bits : ℕ → C) (eq : C → C → Bool) (lone : Option ℕ) (values : List C) (counts : List ℕ) (count : ℕ) : Type 0 where
+pub record AreRuns {C : Type 0} (eq : C → C → Bool) (values : List C) (counts : List ℕ) (count : ℕ) : Type 0 where
   pub runs : AreColumnsOfRuns eq values counts
-  pub short : length (kept_cells of_bits lone (zip_runs values counts)) ≤ 1048576
-  pub count_is : count ≡ length (kept_cells of_bits lone (zip_runs values counts))
+  pub short : length (expand (zip_runs values counts)) ≤ 1048576
+  pub count_is : count ≡ length (expand (zip_runs values counts))
 
 -- each run's value is a cell
 abbrev pub RunsHold : {C : Type 0} → (C → Type 0) → List (Run C) → Type 0

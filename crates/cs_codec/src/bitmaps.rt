@@ -3,7 +3,7 @@ ghost use Rattle.std.specs.Prelude.{◌≡◌, ◌≤◌, ◌<◌, ◌+◌, ◌-
 ghost use Rattle.cs_codec.specs.Encodings.{IsShort};
 ghost use Rattle.cs_codec.specs.Texts.{bitmaps_text};
 ghost use Rattle.cs_codec.specs.Bitmaps.{entry_text, total, or_empty};
-ghost use Rattle.cs_codec.specs.BitmapParts.{IsBitmapsPart, Keeps, Follows, AreBitmaps, HasRoom, CanFollow, GoOn};
+ghost use Rattle.cs_codec.specs.BitmapParts.{IsBitmapsPart, Follows, AreBitmaps, CanFollow, GoOn};
 ghost use Rattle.std.specs.BTreeMap.{get, IsOrdered};
 ghost use Rattle.cs_codec.specs.BitmapLaws.{bitmaps_have_one_list};
 ghost use Rattle.cs_schema.specs.declared.kinds.Code.{Code};
@@ -14,27 +14,17 @@ use crate::bitmap_reading::{candidate, names_all_rows};
 use crate::cell::Cell;
 use crate::column::Column;
 use crate::encoding::{CodecFault, ColumnEncoding};
-use crate::few_cells::{FEW, FewCells, copies};
 use crate::numbered::{cells_of, has_text};
 use cs_schema::Code;
 use cs_schema::limits::SEGMENT_ROWS;
 use std::alloc::{AllocError, Global};
 use std::collections::BTreeMap;
 
-/// An encoded part of a column, and its number of cells. A part of at most 16 cells stores them as they are.
+/// An encoded part of a column: a bitmap for each value, by ascending value, and the number of cells.
 #[derive(Drop)]
 pub struct BitmapsPart<C: Cell> {
-    kept: Kept<C>,
+    bitmaps: BTreeMap<C, Bitmap>,
     count: u32,
-}
-
-/// How a part stores its cells.
-#[derive(Drop)]
-enum Kept<C: Cell> {
-    /// The cells themselves, at most 16.
-    Cells(FewCells<C>),
-    /// A bitmap for each value, by ascending value.
-    Bitmaps(BTreeMap<C, Bitmap>),
 }
 
 /// Adds a one to the bitmap of a value, at a position after all others of that value.
@@ -82,38 +72,14 @@ fn add_bitmap<C: Cell>(
     Ok(())
 }
 
-/// Adds the cells `from..to` of a column, which follow the first `before` cells.
-fn add_cells<C: Cell, L: Column<C>>(
-    alloc: Global,
-    bitmaps: &mut BTreeMap<C, Bitmap>,
-    before: u32,
-    column: &L,
-    from: usize,
-    to: usize,
-) -> Result<(), AllocError>
-    requires order { from ≤ to }
-    requires within { to ≤ length (L.cells column.now) }
-    requires room { HasRoom C.eq C.cmp bitmaps.old before (to - from) }
-    ensures { OnOk result (GoOn C.eq C.cmp bitmaps.old bitmaps.new before
-        (take (to - from) (drop from (L.cells column.now)))) }
-{
-    let mut position = before;
-    for at in from..to {
-        add_one(alloc, bitmaps, &column.cell(at), position)?;
-        position += 1;
-    }
-    Ok(())
-}
-
 /// Adds the bitmaps of cells that follow the first `before` cells.
 fn add_bitmaps<C: Cell>(
     bitmaps: &mut BTreeMap<C, Bitmap>,
     before: u32,
     others: BTreeMap<C, Bitmap>,
 ) -> Result<(), AllocError>
-    requires { CanFollow C.eq C.cmp bitmaps.old before (AreBitmaps C.eq C.cmp others) }
-    ensures { OnOk result ((cells : List C) → AreBitmaps C.eq C.cmp others cells
-        → GoOn C.eq C.cmp bitmaps.old bitmaps.new before cells) }
+    requires { CanFollow C.eq C.cmp bitmaps.old others before }
+    ensures { OnOk result (GoOn C.eq C.cmp bitmaps.old others bitmaps.new before) }
 {
     let mut others = others;
     while let Some((value, bitmap)) = others.pop_first() {
@@ -136,67 +102,10 @@ fn bitmaps_of<C: Cell, L: Column<C>>(
         (take (to - from) (drop from (L.cells column.now)))) }
 {
     let mut bitmaps = BTreeMap::new(alloc);
-    add_cells(alloc, &mut bitmaps, 0, column, from, to)?;
+    for at in from..to {
+        add_one(alloc, &mut bitmaps, &column.cell(at), (at - from) as u32)?;
+    }
     Ok(bitmaps)
-}
-
-/// The bitmaps of the cells of a column.
-fn bitmaps_of_all<C: Cell, L: Column<C>>(
-    alloc: Global,
-    column: &L,
-) -> Result<BTreeMap<C, Bitmap>, AllocError>
-    requires { IsShort (L.cells column.now) }
-    ensures { IfOk result (λ bitmaps. AreBitmaps C.eq C.cmp bitmaps (L.cells column.now)) }
-{
-    bitmaps_of(alloc, column, 0, column.len())
-}
-
-/// How a part stores the cells `from..to` of a column.
-fn keep<C: Cell, L: Column<C>>(
-    alloc: Global,
-    column: &L,
-    from: usize,
-    to: usize,
-) -> Result<Kept<C>, AllocError>
-    requires order { from ≤ to }
-    requires within { to ≤ length (L.cells column.now) }
-    requires short { to - from ≤ 1048576 }
-    ensures { IfOk result (λ kept. Keeps C.eq C.cmp kept (take (to - from) (drop from (L.cells column.now)))) }
-{
-    if to - from <= FEW {
-        return Ok(Kept::Cells(copies(alloc, column, from, to)?));
-    }
-    Ok(Kept::Bitmaps(bitmaps_of(alloc, column, from, to)?))
-}
-
-/// The bitmaps of the stored cells.
-fn into_bitmaps<C: Cell>(kept: Kept<C>) -> Result<BTreeMap<C, Bitmap>, AllocError>
-    ensures { IfOk result (λ bitmaps. (cells : List C) → Keeps C.eq C.cmp kept cells
-        → AreBitmaps C.eq C.cmp bitmaps cells) }
-{
-    match kept {
-        Kept::Cells(few) => bitmaps_of_all(*few.cells.allocator(), &few.cells),
-        Kept::Bitmaps(bitmaps) => Ok(bitmaps),
-    }
-}
-
-/// Adds the stored cells of another part, which follow the first `before` cells.
-fn add_kept<C: Cell>(
-    bitmaps: &mut BTreeMap<C, Bitmap>,
-    before: u32,
-    kept: Kept<C>,
-) -> Result<(), AllocError>
-    requires { CanFollow C.eq C.cmp bitmaps.old before (Keeps C.eq C.cmp kept) }
-    ensures { OnOk result ((cells : List C) → Keeps C.eq C.cmp kept cells
-        → GoOn C.eq C.cmp bitmaps.old bitmaps.new before cells) }
-{
-    match kept {
-        Kept::Cells(few) => {
-            let cells = &few.cells;
-            add_cells(*cells.allocator(), bitmaps, before, cells, 0, cells.len())
-        }
-        Kept::Bitmaps(others) => add_bitmaps(bitmaps, before, others),
-    }
 }
 
 /// The body: each value, followed by its bitmap.
@@ -208,15 +117,6 @@ fn text_of<C: Cell>(alloc: Global, bitmaps: &BTreeMap<C, Bitmap>) -> Result<Vec<
         write_bitmap(&mut out, value, bitmap)?;
     }
     Ok(out)
-}
-
-/// The body of a column.
-fn text_of_all<C: Cell, L: Column<C>>(alloc: Global, column: &L) -> Result<Vec<u8>, AllocError>
-    requires { IsShort (L.cells column.now) }
-    ensures { IfOk result (λ out. out.items ≡ bitmaps_text C.bytes C.eq C.cmp (L.cells column.now)) }
-{
-    let bitmaps = bitmaps_of_all(alloc, column)?;
-    text_of(alloc, &bitmaps)
 }
 
 /// The bitmap encoding: for each distinct value, ascending, the lengths of the runs of positions without it and with it
@@ -243,7 +143,7 @@ impl<C: Cell, L: Column<C>> ColumnEncoding<C, L> for Bitmaps {
         to: usize,
     ) -> Result<BitmapsPart<C>, AllocError> {
         Ok(BitmapsPart {
-            kept: keep(alloc, column, from, to)?,
+            bitmaps: bitmaps_of(alloc, column, from, to)?,
             count: (to - from) as u32,
         })
     }
@@ -253,19 +153,16 @@ impl<C: Cell, L: Column<C>> ColumnEncoding<C, L> for Bitmaps {
     }
 
     fn join(left: BitmapsPart<C>, right: BitmapsPart<C>) -> Result<BitmapsPart<C>, AllocError> {
-        let mut bitmaps = into_bitmaps(left.kept)?;
-        add_kept(&mut bitmaps, left.count, right.kept)?;
+        let mut bitmaps = left.bitmaps;
+        add_bitmaps(&mut bitmaps, left.count, right.bitmaps)?;
         Ok(BitmapsPart {
-            kept: Kept::Bitmaps(bitmaps),
+            bitmaps,
             count: left.count + right.count,
         })
     }
 
     fn write(alloc: Global, part: &BitmapsPart<C>) -> Result<Vec<u8>, AllocError> {
-        match &part.kept {
-            Kept::Cells(few) => text_of_all(alloc, &few.cells),
-            Kept::Bitmaps(bitmaps) => text_of(alloc, bitmaps),
-        }
+        text_of(alloc, &part.bitmaps)
     }
 
     fn read(alloc: Global, bytes: &[u8], rows: u32) -> Result<L, CodecFault> {

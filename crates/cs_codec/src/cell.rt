@@ -1,6 +1,5 @@
 //! Cells as bytes: an int in eight, two's complement, big-endian; a text as one byte of length and its bytes.
-ghost use Rattle.std.specs.Prelude.{◌≡◌, ℕ, ◌+◌, ◌≤◌, List, ◌++◌, OnOk, OnErr, IfSome, IfNone, true, length, ◌<◌, []};
-ghost use Rattle.std.specs.Int.{w64, to_be_bytes, cast_signed};
+ghost use Rattle.std.specs.Prelude.{◌≡◌, ℕ, ◌+◌, ◌≤◌, List, ◌++◌, OnOk, OnErr, IfSome, IfNone, true, length, ◌<◌};
 ghost use Rattle.cs_schema.specs.declared.cells.Value.{Value};
 ghost use Rattle.cs_codec.specs.Cells.{int_cell, IsInt, text_cell, IsText, StandsAt, NoneStandsAt, BeginsOne};
 ghost use Rattle.cs_codec.specs.TextMaps.{IsValueOf, ints_are_values, texts_are_values};
@@ -22,9 +21,6 @@ pub trait Cell: Ord + Drop {
     /// The cell as a value of a column.
     ghost value: { Self → Value };
 
-    /// The cell with this number, if the cells are numbers.
-    ghost of_bits: { ℕ → Self };
-
     /// Appends the cell's bytes. If memory is refused, nothing changes.
     fn write(&self, out: &mut Vec<u8>) -> Result<(), AllocError>
         ensures ok { OnOk result (out.new.items ≡ out.old.items ++ bytes self.now) }
@@ -38,16 +34,6 @@ pub trait Cell: Ord + Drop {
     /// A copy of the cell.
     fn copy(&self) -> Self
         ensures { result ≡ self.now };
-
-    /// The number in the cell's bytes, if cells are numbers of eight bytes. A part that has one such cell stores the
-    /// number and does not allocate.
-    fn as_bits(&self) -> Option<u64>
-        ensures cell { IfSome result (λ n. of_bits n ≡ self.now) }
-        ensures bytes { IfSome result (λ n. bytes self.now ≡ to_be_bytes w64 n) };
-
-    /// The cell with this number, if cells are numbers: the inverse of `as_bits`.
-    fn from_bits(bits: u64) -> Self
-        ensures { result ≡ of_bits bits };
 
     /// Cells that compare as equal are equal.
     ghost exact: { (x y : Self) → Self.eq x y ≡ true → x ≡ y };
@@ -79,8 +65,6 @@ impl Cell for i64 {
 
     ghost value = { Value.Int };
 
-    ghost of_bits = { cast_signed w64 };
-
     #[inline]
     fn write(&self, out: &mut Vec<u8>) -> Result<(), AllocError> {
         let value = *self;
@@ -95,16 +79,6 @@ impl Cell for i64 {
     #[inline]
     fn copy(&self) -> i64 {
         *self
-    }
-
-    #[inline]
-    fn as_bits(&self) -> Option<u64> {
-        Some(self.cast_unsigned())
-    }
-
-    #[inline]
-    fn from_bits(bits: u64) -> i64 {
-        bits.cast_signed()
     }
 
     ghost exact = { int_exact };
@@ -161,8 +135,6 @@ impl Cell for Word {
 
     ghost value = { Value.Text };
 
-    ghost of_bits = { λ _. [] };
-
     #[inline]
     fn write(&self, out: &mut Vec<u8>) -> Result<(), AllocError> {
         write_text(self.as_str(), out)
@@ -182,16 +154,6 @@ impl Cell for Word {
     #[inline]
     fn copy(&self) -> Word {
         self.copy()
-    }
-
-    #[inline]
-    fn as_bits(&self) -> Option<u64> {
-        None
-    }
-
-    #[inline]
-    fn from_bits(_bits: u64) -> Word {
-        Word::empty()
     }
 
     ghost exact = { text_exact };

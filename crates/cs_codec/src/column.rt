@@ -1,7 +1,6 @@
 //! Columns: lists of cells that grow at the end.
-ghost use Rattle.std.specs.Prelude.{◌≡◌, ◌↔◌, ℕ, ◌-◌, ◌*◌, ◌<◌, ◌≤◌, List, [], ◌∷◌, ◌++◌, length, take, drop, replicate};
+ghost use Rattle.std.specs.Prelude.{◌≡◌, ◌↔◌, ℕ, ◌*◌, ◌<◌, ◌≤◌, List, [], ◌∷◌, ◌++◌, length, take, replicate};
 ghost use Rattle.std.specs.Prelude.{slice_get, slice_index, Some, OnOk, IfOk, IfSome, IfNone, IsTrue};
-ghost use Rattle.std.specs.Int.{w64, to_be_bytes};
 ghost use Rattle.cs_codec.specs.Cells.{NoneStandsAt};
 ghost use Rattle.cs_codec.specs.Columns.{Reads, cells_at};
 ghost use Rattle.cs_codec.specs.Texts.{plain_text};
@@ -78,20 +77,6 @@ pub trait Column<C: Cell>: Drop {
     fn read(&mut self, text: &[u8], at: usize) -> Result<Option<usize>, AllocError>
         ensures found { IfOk result (λ read. IfSome read (λ end. Reads C.bytes C.is_cell text.now at (cells self.old) (cells self.new) end)) }
         ensures none { IfOk result (λ read. IfNone read (NoneStandsAt C.bytes C.is_cell text.now at)) };
-}
-
-/// The number of the cell, if the range has exactly one and cells are numbers.
-#[inline]
-pub(crate) fn lone_bits<C: Cell, L: Column<C>>(column: &L, from: usize, to: usize) -> Option<u64>
-    requires order { from ≤ to }
-    requires within { to ≤ length (L.cells column.now) }
-    ensures bytes { IfSome result (λ n. plain_text C.bytes (take (to - from) (drop from (L.cells column.now))) ≡ to_be_bytes w64 n) }
-    ensures cell { IfSome result (λ n. take (to - from) (drop from (L.cells column.now)) ≡ C.of_bits n ∷ []) }
-{
-    if to - from != 1 {
-        return None;
-    }
-    column.cell(from).as_bits()
 }
 
 impl<C: Cell> Column<C> for Vec<C> {

@@ -1,5 +1,5 @@
 //! The delta encoding of ints that never fall.
-ghost use Rattle.std.specs.Prelude.{◌≡◌, ◌↔◌, IsTrue, List, ◌++◌, IfOk, OnOk, IfSome, IfNone};
+ghost use Rattle.std.specs.Prelude.{◌≡◌, ◌↔◌, ◌≤◌, IsTrue, List, ◌++◌, IfOk, IfSome, IfNone};
 ghost use Rattle.cs_codec.specs.Texts.{differences_text};
 ghost use Rattle.cs_codec.specs.Differences.{NeverFallsShort, ValueStandsAt, NoValueStandsAt};
 ghost use Rattle.cs_codec.specs.DifferenceLaws.{differences_one_list};
@@ -41,37 +41,16 @@ impl Model for DifferencesPart {
 }
 
 impl DifferencesPart {
-    /// Encodes these ints.
-    #[inline]
-    fn of(alloc: Global, cells: &[i64]) -> Result<DifferencesPart, AllocError>
-        requires { NeverFallsShort cells.now }
-        ensures { IfOk result (λ part. part ≡ cells.now) }
-    {
-        if let Some((first, rest)) = cells.split_first() {
-            if rest.is_empty() {
-                return Ok(DifferencesPart {
-                    first: *first,
-                    gaps: Vec::new(alloc),
-                    last: *first,
-                    count: 1,
-                });
-            }
-        }
-        DifferencesPart::of_many(alloc, cells)
-    }
-
-    /// Reserves room for joining `parts` further parts as long as this one.
-    pub fn reserve(&mut self, parts: u32) -> Result<(), AllocError>
+    /// Reserves room for joining `cells` further ints. Each adds a difference.
+    pub fn reserve(&mut self, cells: usize) -> Result<(), AllocError>
+        requires { cells ≤ 1048576 }
         ensures { self.new ≡ self.old }
     {
-        // joining a part adds a difference for each of its ints
-        self.gaps
-            .reserve((self.count as usize).saturating_mul(parts as usize))
+        self.gaps.reserve(cells)
     }
 
-    /// Encodes these ints. It is a function of its own so that `of`, which is inlined, stays small.
-    #[inline(never)]
-    fn of_many(alloc: Global, cells: &[i64]) -> Result<DifferencesPart, AllocError>
+    /// Encodes these ints.
+    pub(crate) fn of(alloc: Global, cells: &[i64]) -> Result<DifferencesPart, AllocError>
         requires { NeverFallsShort cells.now }
         ensures { IfOk result (λ part. part ≡ cells.now) }
     {
@@ -97,7 +76,6 @@ impl DifferencesPart {
         })
     }
 
-    #[inline]
     fn followed_by(self, other: DifferencesPart) -> Result<DifferencesPart, AllocError>
         requires { NeverFallsShort (self ++ other) }
         ensures { IfOk result (λ part. part ≡ self ++ other) }
@@ -110,7 +88,7 @@ impl DifferencesPart {
         }
         let mut gaps = self.gaps;
         gaps.push(other.first.abs_diff(self.last))?;
-        add_gaps(&mut gaps, &other.gaps)?;
+        gaps.extend_from_slice(&other.gaps)?;
         Ok(DifferencesPart {
             first: self.first,
             gaps,
@@ -162,25 +140,6 @@ impl DifferencesPart {
         }
         Ok(out)
     }
-}
-
-/// Appends differences.
-#[inline]
-fn add_gaps(gaps: &mut Vec<u64>, others: &[u64]) -> Result<(), AllocError>
-    ensures { OnOk result (gaps.new.items ≡ gaps.old.items ++ others.now) }
-{
-    if others.is_empty() {
-        return Ok(());
-    }
-    add_some_gaps(gaps, others)
-}
-
-/// Appends differences. It is a function of its own so that `add_gaps`, which is inlined, stays small.
-#[inline(never)]
-fn add_some_gaps(gaps: &mut Vec<u64>, others: &[u64]) -> Result<(), AllocError>
-    ensures { OnOk result (gaps.new.items ≡ gaps.old.items ++ others.now) }
-{
-    gaps.extend_from_slice(others)
 }
 
 /// The value of `position`, from its bytes at offset `at`, and the offset after them. `before` is the value of the
@@ -236,7 +195,6 @@ impl ColumnEncoding<i64, Vec<i64>> for Differences {
         left.goes_on(right)
     }
 
-    #[inline]
     fn join(left: DifferencesPart, right: DifferencesPart) -> Result<DifferencesPart, AllocError> {
         left.followed_by(right)
     }

@@ -1,62 +1,33 @@
 //! The plain encoding.
-ghost use Rattle.std.specs.Prelude.{◌≡◌, ℕ, ◌+◌, ◌<◌, ◌≤◌, ◌++◌, length, slice_index, IfOk, OnOk};
+ghost use Rattle.std.specs.Prelude.{◌≡◌, ℕ, ◌+◌, ◌<◌, ◌≤◌, length, slice_index, IfOk};
 ghost use Rattle.cs_codec.specs.Columns.{cells_at};
 ghost use Rattle.cs_codec.specs.Encodings.{IsShort};
 ghost use Rattle.cs_codec.specs.Texts.{plain_text};
-ghost use Rattle.cs_codec.specs.Plain.{kept_bytes, IsPlainPart};
+ghost use Rattle.cs_codec.specs.Plain.{IsPlainPart};
 ghost use Rattle.cs_codec.specs.PlainLaws.{plain_one_list};
 ghost use Rattle.cs_schema.specs.declared.kinds.Code.{Code};
 ghost use Rattle.cs_codec.specs.TextMaps.{plain_of_code};
 
 use crate::cell::Cell;
-use crate::column::{Column, lone_bits};
+use crate::column::Column;
 use crate::encoding::{CodecFault, ColumnEncoding};
 use cs_schema::Code;
 use cs_schema::limits::SEGMENT_ROWS;
 use std::alloc::{AllocError, Global};
 
-/// An encoded part of a column: the bytes of its cells, and how many there are. A part that has one int stores the int
-/// and does not allocate.
+/// An encoded part of a column: the bytes of its cells, and how many there are.
 #[derive(Drop)]
 pub struct PlainPart {
     bytes: Vec<u8>,
-    lone: Option<u64>,
     count: u32,
 }
 
 impl PlainPart {
-    /// Reserves room for joining `parts` further parts as long as this one.
-    pub fn reserve(&mut self, parts: u32) -> Result<(), AllocError>
-        ensures bytes { self.new.bytes.items ≡ self.old.bytes.items }
-        ensures lone { self.new.lone ≡ self.old.lone }
-        ensures count { self.new.count ≡ self.old.count }
+    /// The body of the column that the part encodes. Its bytes are moved, not copied.
+    pub fn into_body(self) -> Vec<u8>
+        ensures { result.items ≡ self.bytes.items }
     {
         self.bytes
-            .reserve(self.bytes.len().saturating_mul(parts as usize))
-    }
-
-    /// The body of the column that the part encodes. Its bytes are moved, not copied.
-    #[inline]
-    pub fn into_text(self) -> Result<Vec<u8>, AllocError>
-        ensures { IfOk result (λ out. out.items ≡ kept_bytes self.lone self.bytes.items) }
-    {
-        let mut bytes = self.bytes;
-        if let Some(bits) = self.lone {
-            bytes.clear();
-            bytes.extend_from_slice(&bits.to_be_bytes())?;
-        }
-        Ok(bytes)
-    }
-
-    /// Appends the part's bytes.
-    #[inline]
-    fn write_to(&self, out: &mut Vec<u8>) -> Result<(), AllocError>
-        ensures { OnOk result (out.new.items ≡ out.old.items ++ kept_bytes self.now.lone self.now.bytes.items) }
-    {
-        match self.lone {
-            Some(bits) => out.extend_from_slice(&bits.to_be_bytes()),
-            None => out.extend_from_slice(&self.bytes),
-        }
     }
 }
 
@@ -79,7 +50,6 @@ pub fn encode_at<C: Cell, L: Column<C>>(
     }
     Ok(PlainPart {
         bytes,
-        lone: None,
         count: places.len() as u32,
     })
 }
@@ -98,20 +68,12 @@ impl<C: Cell, L: Column<C>> ColumnEncoding<C, L> for Plain {
     ghost is_part = { IsPlainPart C.bytes };
 
     fn encode(alloc: Global, column: &L, from: usize, to: usize) -> Result<PlainPart, AllocError> {
-        if let Some(bits) = lone_bits(column, from, to) {
-            return Ok(PlainPart {
-                bytes: Vec::new(alloc),
-                lone: Some(bits),
-                count: 1,
-            });
-        }
         let mut bytes = Vec::with_capacity(alloc, (to - from).saturating_mul(8))?;
         for at in from..to {
             column.write(at, &mut bytes)?;
         }
         Ok(PlainPart {
             bytes,
-            lone: None,
             count: (to - from) as u32,
         })
     }
@@ -121,19 +83,17 @@ impl<C: Cell, L: Column<C>> ColumnEncoding<C, L> for Plain {
     }
 
     fn join(left: PlainPart, right: PlainPart) -> Result<PlainPart, AllocError> {
-        let count = left.count + right.count;
-        let mut bytes = left.into_text()?;
-        right.write_to(&mut bytes)?;
+        let mut bytes = left.bytes;
+        bytes.extend_from_slice(&right.bytes)?;
         Ok(PlainPart {
             bytes,
-            lone: None,
-            count,
+            count: left.count + right.count,
         })
     }
 
     fn write(alloc: Global, part: &PlainPart) -> Result<Vec<u8>, AllocError> {
         let mut out = Vec::new(alloc);
-        part.write_to(&mut out)?;
+        out.extend_from_slice(&part.bytes)?;
         Ok(out)
     }
 

@@ -8,7 +8,7 @@ ghost use Rattle.cs_schema.specs.declared.kinds.Code.{Code};
 ghost use Rattle.cs_codec.specs.TextMaps.{runs_of_code};
 
 use crate::cell::Cell;
-use crate::column::{Column, lone_bits};
+use crate::column::Column;
 use crate::encoding::{CodecFault, ColumnEncoding};
 use crate::numbers::write_number;
 use crate::run_reading::read_column;
@@ -17,13 +17,11 @@ use cs_schema::limits::SEGMENT_ROWS;
 use std::alloc::{AllocError, Global};
 use std::marker::{Model, PhantomData};
 
-/// An encoded part of a column: the value and the length of each run. A part that has one int stores the int and does
-/// not allocate. Contracts see the cells.
+/// An encoded part of a column: the value and the length of each run. Contracts see the cells.
 #[derive(Drop)]
 pub struct RunsPart<C: Cell, L: Column<C>> {
     values: L,
     counts: Vec<u32>,
-    lone: Option<u64>,
     count: u32,
     of: PhantomData<C>,
 }
@@ -33,11 +31,11 @@ impl<C: Cell, L: Column<C>> Model for RunsPart<C, L> {
 
     ghost Value = { List C };
 
-    ghost use Rattle.cs_codec.specs.Runs.{kept_cells, zip_runs, AreRuns};
+    ghost use Rattle.cs_codec.specs.Runs.{expand, zip_runs, AreRuns};
 
-    ghost view = { λ part. kept_cells C.of_bits part.lone (zip_runs (L.cells part.values) part.counts.items) };
+    ghost view = { λ part. expand (zip_runs (L.cells part.values) part.counts.items) };
 
-    ghost invariant = { λ part. AreRuns C.of_bits C.eq part.lone (L.cells part.values) part.counts.items part.count };
+    ghost invariant = { λ part. AreRuns C.eq (L.cells part.values) part.counts.items part.count };
 }
 
 impl<C: Cell, L: Column<C>> RunsPart<C, L> {
@@ -49,68 +47,16 @@ impl<C: Cell, L: Column<C>> RunsPart<C, L> {
         ensures { IfOk result (λ part. part ≡ take (to - from) (drop from (L.cells column.now))) }
     {
         let mut values = L::new(alloc);
-        if let Some(bits) = lone_bits(column, from, to) {
-            return Ok(RunsPart {
-                values,
-                counts: Vec::new(alloc),
-                lone: Some(bits),
-                count: 1,
-                of: PhantomData,
-            });
-        }
-        let mut counts = Vec::with_capacity(alloc, (to - from).min(1))?;
+        let mut counts = Vec::new(alloc);
         for at in from..to {
             push_run(&mut values, &mut counts, column, at)?;
         }
         Ok(RunsPart {
             values,
             counts,
-            lone: None,
             count: (to - from) as u32,
             of: PhantomData,
         })
-    }
-
-    /// Reserves room for joining `parts` further parts with as many runs as this one.
-    pub fn reserve(&mut self, parts: u32) -> Result<(), AllocError>
-        ensures { self.new ≡ self.old }
-    {
-        let more = self.counts.len().saturating_mul(parts as usize);
-        self.values.reserve(more, more.saturating_mul(8))?;
-        self.counts.reserve(more)
-    }
-
-    /// The values and lengths of the part's runs.
-    #[inline]
-    fn into_runs(self) -> Result<(L, Vec<u32>), AllocError>
-        ensures cells { IfOk result (λ runs. expand (zip_runs (L.cells runs.0) runs.1.items) ≡ self) }
-        ensures runs { IfOk result (λ runs. AreColumnsOfRuns C.eq (L.cells runs.0) runs.1.items) }
-    {
-        let mut values = self.values;
-        let mut counts = self.counts;
-        if let Some(bits) = self.lone {
-            values.truncate(0);
-            counts.clear();
-            push_cell(&mut values, &mut counts, &C::from_bits(bits))?;
-        }
-        Ok((values, counts))
-    }
-
-    /// Appends the part's cells to some runs.
-    #[inline]
-    fn append_to(self, values: &mut L, counts: &mut Vec<u32>) -> Result<(), AllocError>
-        requires short { length (expand (zip_runs (L.cells values.old) counts.old.items)) + length self ≤ 1048576 }
-        requires runs { AreColumnsOfRuns C.eq (L.cells values.old) counts.old.items }
-        ensures cells { OnOk result (expand (zip_runs (L.cells values.new) counts.new.items)
-            ≡ expand (zip_runs (L.cells values.old) counts.old.items) ++ self) }
-        ensures runs { OnOk result (AreColumnsOfRuns C.eq (L.cells values.new) counts.new.items) }
-    {
-        let others = self.values;
-        let other_counts = self.counts;
-        if let Some(bits) = self.lone {
-            return push_cell(values, counts, &C::from_bits(bits));
-        }
-        append_runs(values, counts, others, other_counts)
     }
 
     fn followed_by(self, other: Self) -> Result<Self, AllocError>
@@ -118,12 +64,12 @@ impl<C: Cell, L: Column<C>> RunsPart<C, L> {
         ensures { IfOk result (λ part. part ≡ self ++ other) }
     {
         let count = self.count + other.count;
-        let (mut values, mut counts) = self.into_runs()?;
-        other.append_to(&mut values, &mut counts)?;
+        let mut values = self.values;
+        let mut counts = self.counts;
+        append_runs(&mut values, &mut counts, other.values, other.counts)?;
         Ok(RunsPart {
             values,
             counts,
-            lone: None,
             count,
             of: PhantomData,
         })
@@ -132,22 +78,8 @@ impl<C: Cell, L: Column<C>> RunsPart<C, L> {
     fn text(&self, alloc: Global) -> Result<Vec<u8>, AllocError>
         ensures { IfOk result (λ out. out.items ≡ runs_text C.bytes C.eq self.now) }
     {
-        match self.lone {
-            Some(bits) => write_lone(alloc, &C::from_bits(bits)),
-            None => write_runs(alloc, &self.values, &self.counts),
-        }
+        write_runs(alloc, &self.values, &self.counts)
     }
-}
-
-/// The body of a column of one cell.
-fn write_lone<C: Cell>(alloc: Global, value: &C) -> Result<Vec<u8>, AllocError>
-    ensures { IfOk result (λ out. out.items ≡ runs_text C.bytes C.eq (value.now ∷ [])) }
-{
-    let mut out = Vec::new(alloc);
-    value.write(&mut out)?;
-    write_number(&mut out, 1)?;
-    write_number(&mut out, 1)?;
-    Ok(out)
 }
 
 /// The body of a column with these runs.
@@ -223,29 +155,6 @@ fn push_run<C: Cell, L: Column<C>>(
         return Ok(());
     }
     values.push_cell(column, at)?;
-    counts.push(1)?;
-    Ok(())
-}
-
-/// Appends a cell. It extends the last run if that has its value, else it starts a run.
-#[inline]
-fn push_cell<C: Cell, L: Column<C>>(
-    values: &mut L,
-    counts: &mut Vec<u32>,
-    cell: &C,
-) -> Result<(), AllocError>
-    requires short { length (expand (zip_runs (L.cells values.old) counts.old.items)) + 1 ≤ 1048576 }
-    requires runs { AreColumnsOfRuns C.eq (L.cells values.old) counts.old.items }
-    ensures cells { OnOk result (expand (zip_runs (L.cells values.new) counts.new.items)
-        ≡ expand (zip_runs (L.cells values.old) counts.old.items) ++ cell.now ∷ []) }
-    ensures runs { OnOk result (AreColumnsOfRuns C.eq (L.cells values.new) counts.new.items) }
-{
-    let len = counts.len();
-    if len > 0 && values.cell(len - 1) == *cell {
-        counts[len - 1] += 1;
-        return Ok(());
-    }
-    values.repeat(cell, 1)?;
     counts.push(1)?;
     Ok(())
 }

@@ -15,8 +15,8 @@ invariant_of-result c =
     let le = joined_above c.self.inside.count c.self.inside.first c.self.inside.gaps.items c.self.inside.last c.other.inside.count c.other.inside.first c.other.inside.gaps.items c.args.self c.args.other c.self.invariant.last_is c.self.view_is c.other.view_is (omega arith) (omega arith) c.requires in
     let gap : c.abs_diff.result ≡ unsigned_abs (c.other.inside.first -ℤ c.self.inside.last) = c.abs_diff.ensures ∙ ap (λ (z : ℤ). unsigned_abs (z -ℤ to_z w64 (of_z w64 c.self.inside.last))) next ∙ ap (λ (z : ℤ). unsigned_abs (c.other.inside.first -ℤ z)) cut in
     let between = ap (λ (n : ℕ). c.self.inside.last +ℤ pos n) gap ∙ gap_between c.self.inside.last c.other.inside.first le in
-    let made = rise_joined c.self.inside.count c.self.inside.first c.self.inside.gaps.items c.self.inside.last c.other.inside.count c.other.inside.first c.other.inside.gaps.items c.other.inside.last c.args.self c.args.other c.abs_diff.result c.add_gaps.new.gaps.items c.self.invariant c.other.invariant c.self.view_is c.other.view_is (omega arith) (omega arith) c.requires between (c.in_ok-add_gaps.ensures ∙ ap (λ (w : List ℕ). w ++ c.deref.result.now) c.in_ok-push.ensures.items ∙ ap (λ (w : List ℕ). (c.self.inside.gaps.items ++ c.abs_diff.result ∷ []) ++ w) c.deref.ensures.value) in
-    subst (λ (z : ℤ). IsRise (c.self.inside.count + c.other.inside.count) z c.add_gaps.new.gaps.items (to_z w64 (of_z w64 c.other.inside.last))) (sym first) (subst (λ (z : ℤ). IsRise (c.self.inside.count + c.other.inside.count) c.self.inside.first c.add_gaps.new.gaps.items z) (sym last) made)
+    let made = rise_joined c.self.inside.count c.self.inside.first c.self.inside.gaps.items c.self.inside.last c.other.inside.count c.other.inside.first c.other.inside.gaps.items c.other.inside.last c.args.self c.args.other c.abs_diff.result c.extend_from_slice.new.self.items c.self.invariant c.other.invariant c.self.view_is c.other.view_is (omega arith) (omega arith) c.requires between (c.in_ok-extend_from_slice.ensures.items ∙ ap (λ (w : List ℕ). w ++ c.deref.result.now) c.in_ok-push.ensures.items ∙ ap (λ (w : List ℕ). (c.self.inside.gaps.items ++ c.abs_diff.result ∷ []) ++ w) c.deref.ensures.value) in
+    subst (λ (z : ℤ). IsRise (c.self.inside.count + c.other.inside.count) z c.extend_from_slice.new.self.items (to_z w64 (of_z w64 c.other.inside.last))) (sym first) (subst (λ (z : ℤ). IsRise (c.self.inside.count + c.other.inside.count) c.self.inside.first c.extend_from_slice.new.self.items z) (sym last) made)
 
 pub returns : goal.returns
 returns c =
@@ -26,5 +26,5 @@ returns c =
     let le = joined_above c.self.inside.count c.self.inside.first c.self.inside.gaps.items c.self.inside.last c.other.inside.count c.other.inside.first c.other.inside.gaps.items c.args.self c.args.other c.self.invariant.last_is c.self.view_is c.other.view_is (omega arith) (omega arith) c.requires in
     let gap : c.abs_diff.result ≡ unsigned_abs (c.other.inside.first -ℤ c.self.inside.last) = c.abs_diff.ensures ∙ ap (λ (z : ℤ). unsigned_abs (z -ℤ to_z w64 (of_z w64 c.self.inside.last))) next ∙ ap (λ (z : ℤ). unsigned_abs (c.other.inside.first -ℤ z)) cut in
     let between = ap (λ (n : ℕ). c.self.inside.last +ℤ pos n) gap ∙ gap_between c.self.inside.last c.other.inside.first le in
-    ap (λ (z : ℤ). rising (c.self.inside.count + c.other.inside.count) z c.add_gaps.new.gaps.items) first
-    ∙ rising_joined c.self.inside.count c.self.inside.first c.self.inside.gaps.items c.self.inside.last c.other.inside.count c.other.inside.first c.other.inside.gaps.items c.other.inside.last c.args.self c.args.other c.abs_diff.result c.add_gaps.new.gaps.items c.self.invariant c.other.invariant c.self.view_is c.other.view_is (omega arith) (omega arith) c.requires between (c.in_ok-add_gaps.ensures ∙ ap (λ (w : List ℕ). w ++ c.deref.result.now) c.in_ok-push.ensures.items ∙ ap (λ (w : List ℕ). (c.self.inside.gaps.items ++ c.abs_diff.result ∷ []) ++ w) c.deref.ensures.value)
+    ap (λ (z : ℤ). rising (c.self.inside.count + c.other.inside.count) z c.extend_from_slice.new.self.items) first
+    ∙ rising_joined c.self.inside.count c.self.inside.first c.self.inside.gaps.items c.self.inside.last c.other.inside.count c.other.inside.first c.other.inside.gaps.items c.other.inside.last c.args.self c.args.other c.abs_diff.result c.extend_from_slice.new.self.items c.self.invariant c.other.invariant c.self.view_is c.other.view_is (omega arith) (omega arith) c.requires between (c.in_ok-extend_from_slice.ensures.items ∙ ap (λ (w : List ℕ). w ++ c.deref.result.now) c.in_ok-push.ensures.items ∙ ap (λ (w : List ℕ). (c.self.inside.gaps.items ++ c.abs_diff.result ∷ []) ++ w) c.deref.ensures.value)

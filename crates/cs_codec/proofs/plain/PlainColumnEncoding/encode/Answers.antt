@@ -1,18 +1,6 @@
-use Rattle.std.proofs.Common.{length, refl, sym, ap, arith}
+use Rattle.std.proofs.Common.{refl, arith}
 use Rattle.cs_codec.proofs.PlainLemmas.{plain-ranged, plain_part}
 use Rattle.cs_codec.proofs.plain.PlainColumnEncoding.encode.Goals as goal
-
-pub lone_bits-requires-clause-order : goal.lone_bits-requires-clause-order
-lone_bits-requires-clause-order g c = c.requires.order
-
-pub lone_bits-requires-clause-within : goal.lone_bits-requires-clause-within
-lone_bits-requires-clause-within g c = c.requires.within
-
-pub returns-in-Some : goal.returns-in-Some
-returns-in-Some g c = record {
-  bytes_are = sym c.in-Some.ensures.bytes;
-  count_is = sym (ap length c.in-Some.ensures.cell);
-}
 
 pub write-requires : goal.write-requires
 write-requires g c = omega (arith, c.requires.within, c.loop-at-test.true)
@@ -23,4 +11,4 @@ loop-at-preserved g c =
 
 pub returns : goal.returns
 returns g c =
-    plain_part g.C.Cell.bytes (g.L.Column.cells c.args.column.now) _ c.args.from c.args.to c.loop-at.at refl refl (omega arith) c.requires.within c.loop-at.invariant
+    plain_part g.C.Cell.bytes (g.L.Column.cells c.args.column.now) _ c.args.from c.args.to c.loop-at.at refl (omega arith) c.requires.within c.loop-at.invariant

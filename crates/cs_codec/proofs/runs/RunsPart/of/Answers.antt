@@ -3,15 +3,6 @@ use Rattle.cs_codec.proofs.ColumnRanges.{range_size}
 use Rattle.cs_codec.proofs.RunColumns.{cell_at, range_more}
 use Rattle.cs_codec.proofs.runs.RunsPart.of.Goals as goal
 
-pub lone_bits-requires-clause-order : goal.lone_bits-requires-clause-order
-lone_bits-requires-clause-order g c = c.requires.order
-
-pub lone_bits-requires-clause-within : goal.lone_bits-requires-clause-within
-lone_bits-requires-clause-within g c = c.requires.within
-
-pub returns-in-Some : goal.returns-in-Some
-returns-in-Some g c = sym c.in-Some.ensures.cell
-
 pub push_run-requires-clause-at : goal.push_run-requires-clause-at
 push_run-requires-clause-at g c = omega (arith, c.requires.within, c.loop-at-test.true)
 
@@ -25,8 +16,8 @@ push_run-requires-clause-short g c =
 pub push_run-requires-clause-runs : goal.push_run-requires-clause-runs
 push_run-requires-clause-runs g c = c.loop-at.invariant.runs
 
-pub invariant_of-result-2 : goal.invariant_of-result-2
-invariant_of-result-2 g c =
+pub invariant_of-result : goal.invariant_of-result
+invariant_of-result g c =
     let xs = g.L.Column.cells c.args.column.now in
     let end : c.loop-at.at ≡ c.args.to = omega (arith, c.requires.order, c.loop-at-test.false) in
     let size = ap length (c.loop-at.invariant.cells ∙ ap (λ k. take (k - c.args.from) (drop c.args.from xs)) end) ∙ range_size xs c.args.from c.args.to c.requires.within in

@@ -5,7 +5,7 @@ use Rattle.std.proofs.lemmas.List.{get_or_default, take_all}
 use Rattle.cs_codec.specs.Cells.{IsInt}
 use Rattle.cs_codec.specs.Rises.{rising}
 use Rattle.cs_codec.proofs.RiseLists.{one_more_gap, some_rising}
-use Rattle.cs_codec.proofs.differences.DifferencesPart.of_many.Goals as goal
+use Rattle.cs_codec.proofs.differences.DifferencesPart.of.Goals as goal
 
 pub loop-value-preserved : goal.loop-value-preserved
 loop-value-preserved c =
