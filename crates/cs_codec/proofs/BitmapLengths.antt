@@ -1,6 +1,5 @@
 -- The lengths of a bitmap, as the code computes them.
-use Rattle.std.proofs.Common.{◌≡◌, ◌≢◌, ℕ, zero, suc, ◌+◌, ◌-◌, ◌<◌, ◌≤◌, ◌==◌, ◌&&◌, Bool, true, false, cond, List, [], ◌∷◌, ◌++◌, length, get_or, set, drop, refl, sym, ap, ◌∙◌, append_assoc, arith}
-use Rattle.std.proofs.lemmas.Bool.{ne_eqb}
+use Rattle.std.proofs.Common.{◌≡◌, ℕ, zero, suc, ◌+◌, ◌-◌, ◌<◌, ◌≤◌, ◌==◌, ◌&&◌, Bool, true, false, cond, List, [], ◌∷◌, ◌++◌, length, get_or, set, drop, refl, sym, ap, ◌∙◌, append_assoc, arith}
 use Rattle.cs_codec.specs.Bitmaps.{total, is_some_list, longer_last, merged, glued, with_run, IsBitmap}
 use Rattle.cs_codec.proofs.BitmapCuts.{total-glued, length-glued}
 
@@ -19,17 +18,6 @@ longer_by_set (y ∷ w ∷ ys) (suc i) x n e f = ap (λ (z : List ℕ). y ∷ z)
 pub run_merged : (left : List ℕ) (zeros ones : ℕ) → zeros ≡ 0 → 0 < length left → longer_last left ones ≡ with_run left zeros ones
 run_merged [] zeros ones e lt = absurd (omega arith)
 run_merged (x ∷ left) zeros ones e lt = rw e refl
-
-pub run_added : (left : List ℕ) (zeros ones : ℕ) → (zeros ≢ 0) → (left ++ zeros ∷ []) ++ ones ∷ [] ≡ with_run left zeros ones
-run_added left zeros ones h = append_assoc left (zeros ∷ []) (ones ∷ []) ∙ rw (ne_eqb zeros 0 h) refl
-
-pub run_first : (left : List ℕ) (zeros ones : ℕ) → length left ≡ 0 → (left ++ zeros ∷ []) ++ ones ∷ [] ≡ with_run left zeros ones
-run_first [] zeros ones h = by_bool (zeros == 0)
-  where
-    by_bool : (b : Bool) → zeros ∷ ones ∷ [] ≡ cond (b && false) [] (zeros ∷ ones ∷ [])
-    by_bool true = refl
-    by_bool false = refl
-run_first (x ∷ left) zeros ones h = absurd (omega arith)
 
 run_and_more : (left : List ℕ) (zeros ones : ℕ) (ns : List ℕ) → with_run left zeros ones ++ ns ≡ cond ((zeros == 0) && is_some_list left) (merged left (ones ∷ ns)) (left ++ zeros ∷ ones ∷ ns)
 run_and_more left zeros ones ns = by_bool ((zeros == 0) && is_some_list left)
@@ -68,13 +56,3 @@ second_within (x ∷ []) h = absurd (omega arith)
 second_within (x ∷ y ∷ ns) h = omega arith
 
 -- ---- the lengths of bits come in pairs
-
-pub shifted_lengths : (ls : List ℕ) (x offset : ℕ) → 1 ≤ length ls → x ≡ get_or ls 0 0 → set ls 0 (x + offset) ≡ glued [] offset ls
-shifted_lengths [] x offset some e = absurd (omega arith)
-shifted_lengths (z ∷ ls) x offset some e =
-    let sum : x + offset ≡ offset + z = omega arith in
-    ap (λ (k : ℕ). k ∷ ls) sum ∙ by_bool (offset + z == 0)
-  where
-    by_bool : (b : Bool) → (offset + z) ∷ ls ≡ cond (b && false) (merged [] ls) ((offset + z) ∷ ls)
-    by_bool true = refl
-    by_bool false = refl

@@ -1,11 +1,11 @@
 -- Adding one more cell, or one more value's bitmap of the other part.
-use Rattle.std.proofs.Common.{◌≡◌, ℕ, suc, ◌+◌, ◌-◌, ◌<◌, ◌≤◌, ◌==◌, ◌&&◌, get_or, take, Bool, true, false, cond, List, [], ◌∷◌, ◌++◌, length, map, Option, Some, None, refl, sym, ap, subst, ◌∙◌, arith, inl, inr, ◌⊎◌}
+use Rattle.std.proofs.Common.{◌≡◌, ℕ, suc, ◌+◌, ◌-◌, ◌<◌, ◌≤◌, ◌==◌, ◌&&◌, Bool, true, false, cond, List, [], ◌∷◌, ◌++◌, length, map, Option, Some, None, refl, sym, ap, subst, ◌∙◌, arith, inl, inr, ◌⊎◌}
 use Rattle.std.specs.Ordering.{is_eq}
 use Rattle.std.specs.declared.cmp.Ordering.{Ordering}
 use Rattle.std.specs.Map.{lookup}
 use Rattle.cs_codec.specs.BitmapLaws.{length-run_lengths}
 use Rattle.std.specs.BTreeMap.{BTreeMap, get, is_at}
-use Rattle.std.proofs.lemmas.List.{take_more, length-map}
+use Rattle.std.proofs.lemmas.List.{length-map}
 use Rattle.cs_codec.specs.Cells.{IsTest}
 use Rattle.cs_codec.specs.Texts.{bitmap_lengths, run_lengths}
 use Rattle.cs_codec.specs.Bitmaps.{total, glued, merged, if_some, or_empty}
@@ -67,9 +67,6 @@ one_more_cell {C} eq t cmp ties symm cells c m new n h size put = λ x.
     bitmap_glued eq x cells (c ∷ [])
     ∙ ap (λ (z : List ℕ). glued (bitmap_lengths eq x cells) (length cells - total (bitmap_lengths eq x cells)) z) (single eq x c false apart) in
     now ∙ h x ∙ ap if_some (sym lengths))
-
-pub one_more_taken : {C : Type 0} (cells : List C) (i : ℕ) (c : C) → i < length cells → c ≡ get_or cells i c → take i cells ++ c ∷ [] ≡ take (i + 1) cells
-one_more_taken {C} cells i c lt e = ap (λ (z : C). take i cells ++ z ∷ []) e ∙ sym (take_more cells i c lt)
 
 -- ---- sizes
 

@@ -1,7 +1,7 @@
 -- The cells of a range of a list.
 use Rattle.std.proofs.Common.{◌≡◌, ℕ, ◌+◌, ◌-◌, ◌≤◌, List, [], ◌∷◌, ◌++◌, Some, length, get_or, take, drop, ap, ◌∙◌, arith, length-take, length-drop}
 use Rattle.std.specs.Prelude.{slice_get}
-use Rattle.std.proofs.lemmas.List.{get_or-drop, take_more, take_all}
+use Rattle.std.proofs.lemmas.List.{get_or-drop, take_more}
 use Rattle.std.proofs.lemmas.Option.{slice_get_within, get_or_from_slice_get}
 
 pub range_more : {C : Type 0} (xs : List C) (start at : ℕ) (x : C) → start ≤ at → slice_get xs at ≡ Some x → take (at + 1 - start) (drop start xs) ≡ take (at - start) (drop start xs) ++ x ∷ []
@@ -15,9 +15,6 @@ range_more {C} xs start at x le e =
 
 pub range_size : {C : Type 0} (xs : List C) (start stop : ℕ) → stop ≤ length xs → length (take (stop - start) (drop start xs)) ≡ stop - start
 range_size xs start stop le = omega (arith, length-take (stop - start) (drop start xs), length-drop start xs)
-
-pub range_all : {C : Type 0} (xs : List C) (stop : ℕ) → length xs ≤ stop → take (stop - 0) (drop 0 xs) ≡ xs
-range_all {C} xs stop le = let same : stop - 0 ≡ stop = omega arith in ap (λ (k : ℕ). take k xs) same ∙ take_all stop xs le
 
 pub range_none : {C : Type 0} (xs : List C) (start : ℕ) → take (start - start) (drop start xs) ≡ []
 range_none {C} xs start = let same : start - start ≡ 0 = omega arith in ap (λ (k : ℕ). take k (drop start xs)) same

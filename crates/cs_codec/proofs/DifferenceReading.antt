@@ -48,12 +48,6 @@ none_past_end more text start le = λ n rest _ _ e.
     let lens : length {A = ℕ} [] ≡ length (groups more n ++ rest) = ap length (sym (drop_all start text le) ∙ e) in
     omega (arith, length-append (groups more n) rest, some_groups more n)
 
-pub none_too_long : (text : List ℕ) (start : ℕ) → start < length text → 128 ≤ get_or text start 0 → NoGroupsStandAt 0 text start
-none_too_long text start lt large = λ n rest _ few e.
-    let f : get_or text start 0 ∷ drop (start + 1) text ≡ n ∷ rest = sym (drop_more text start 0 lt) ∙ e in
-    let head : get_or text start 0 ≡ n = cc in
-    omega arith
-
 -- the first group of a number that has more
 record LongGroups (more byte n : ℕ) (tail rest : List ℕ) : Type 0 where
   large : 128 ≤ n
@@ -258,9 +252,6 @@ one_more_read text at end before cells x position far place found = record {
   before_is = sym (last_from-push least cells x);
 }
 
-pub values_begin : (text : List ℕ) → ValuesSoFar text 0 least []
-values_begin text = record { so_far = refl; hold = tt; rises = tt; before_is = refl }
-
 pub values_column : (text : List ℕ) (rows at : ℕ) (before : ℤ) (cells : List ℤ) → rows ≤ 1048576 → ValuesSoFar text at before cells → length cells ≡ rows → length text ≤ at → IsColumn differences_text NeverFallsShort IsInt text rows cells
 values_column text rows at before cells short far len ended = record {
   text_is = far.so_far ∙ ap (λ (w : List ℕ). differences_text_from least 1 cells ++ w) (drop_all at text ended) ∙ append-nil (differences_text_from least 1 cells) ∙ text_from-least least (pos 0) cells;
@@ -268,14 +259,3 @@ values_column text rows at before cells short far len ended = record {
   list_fits = record { short = omega arith; never_falls = never_falls least cells far.rises };
   cells_hold = far.hold;
 }
-
--- one more value has been written
-pub one_more_written : (cells : List ℤ) (i position : ℕ) (before x : ℤ) (out new whole : List ℕ) → i < length cells → x ≡ get_or cells i x → position ≡ 1 + i → out ++ differences_text_from before position (drop i cells) ≡ whole → new ≡ out ++ item before position x → new ++ differences_text_from x (position + 1) (drop (i + 1) cells) ≡ whole
-one_more_written cells i position before x out new whole lt e place so_far ne =
-    let next : drop i cells ≡ x ∷ drop (i + 1) cells = drop_more cells i x lt ∙ ap (λ (z : ℤ). z ∷ drop (i + 1) cells) (sym e) in
-    let step : position + 1 ≡ suc position = omega arith in
-    ap (λ (w : List ℕ). w ++ differences_text_from x (position + 1) (drop (i + 1) cells)) ne
-    ∙ append_assoc out (item before position x) (differences_text_from x (position + 1) (drop (i + 1) cells))
-    ∙ ap (λ (q : ℕ). out ++ (item before position x ++ differences_text_from x q (drop (i + 1) cells))) step
-    ∙ ap (λ (z : List ℤ). out ++ differences_text_from before position z) (sym next)
-    ∙ so_far

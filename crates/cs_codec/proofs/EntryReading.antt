@@ -118,9 +118,6 @@ module _ {C : Type 0} (bytes : C → List ℕ) (is_cell : C → Type 0) (eq : C 
 
 -- ---- one entry
 
-pub no_count : (text : List ℕ) (at : ℕ) (numbers : List ℕ) → ((n : ℕ) (rest : List ℕ) → drop at text ≡ number n ++ rest → ⊥) → ReadsLengths text at numbers None
-no_count text at numbers none = λ ls rest few fit e. none (length ls) (flat_map number ls ++ rest) e
-
 pub lengths_read : (text : List ℕ) (at count : ℕ) → NumberStandsAt text at count → (numbers : List ℕ) (found : Option ℕ) → ReadsNumbers text (at + 4) count numbers found → ReadsLengths text at numbers found
 lengths_read text at count counted numbers found reads = by_found found reads
   where

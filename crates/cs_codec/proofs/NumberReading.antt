@@ -1,7 +1,7 @@
 -- Reading several numbers in turn.
-use Rattle.std.proofs.Common.{◌≡◌, ℕ, ◌+◌, ◌<◌, ◌≤◌, List, [], ◌∷◌, ◌++◌, length, drop, Some, None, refl, sym, ap, ◌∙◌, append_assoc, arith}
+use Rattle.std.proofs.Common.{◌≡◌, ℕ, ◌+◌, ◌<◌, ◌≤◌, List, [], ◌∷◌, ◌++◌, length, drop, None, sym, ap, ◌∙◌, append_assoc, arith}
 use Rattle.std.specs.Prelude.{flat_map}
-use Rattle.std.proofs.lemmas.List.{append-nil, length-append}
+use Rattle.std.proofs.lemmas.List.{length-append}
 use Rattle.cs_codec.specs.Cells.{number, NumberStandsAt}
 use Rattle.cs_codec.specs.CellLaws.{number_begins_one}
 use Rattle.cs_codec.specs.Bitmaps.{AreNumbers}
@@ -18,9 +18,6 @@ pub record NumbersSoFar (bytes : List ℕ) (start at count : ℕ) (numbers : Lis
   pub go_on : (ls rest : List ℕ) → length ls ≡ count → AreNumbers ls → drop start bytes ≡ flat_map number ls ++ rest → NumbersAfter bytes at numbers ls rest
   pub later : start ≤ at
   pub within : at ≤ length bytes
-
-pub numbers_begin : (bytes : List ℕ) (start count : ℕ) → start ≤ length bytes → NumbersSoFar bytes start start count []
-numbers_begin bytes start count h = record { go_on = λ ls rest size fit e. record { tail = ls; parts = refl; text = e; fit = fit }; later = omega arith; within = h }
 
 next_number : (bytes : List ℕ) (at n : ℕ) (numbers ls rest : List ℕ) → length numbers < length ls → NumberStandsAt bytes at n → NumbersAfter bytes at numbers ls rest → NumbersAfter bytes (at + 4) (numbers ++ n ∷ []) ls rest
 next_number bytes at n numbers ls rest lt found a = by_tail a.tail a.parts a.text a.fit
@@ -45,16 +42,3 @@ numbers_none bytes start at count numbers h lt none = λ ls rest size fit e.
     by_tail : (ls rest : List ℕ) → length ls ≡ count → (tail : List ℕ) → ls ≡ numbers ++ tail → drop at bytes ≡ flat_map number tail ++ rest → ⊥
     by_tail ls rest size [] p t = omega (arith, ap (λ (z : List ℕ). length z) p, length-append numbers [], size)
     by_tail ls rest size (m ∷ tail) p t = none m (flat_map number tail ++ rest) (t ∙ append_assoc (number m) (flat_map number tail) rest)
-
-pub numbers_end : (bytes : List ℕ) (start at count : ℕ) (numbers : List ℕ) → NumbersSoFar bytes start at count numbers → length numbers ≡ count → ReadsNumbers bytes start count numbers (Some at)
-numbers_end bytes start at count numbers h full = (
-  h.later,
-  h.within,
-  λ ls rest size fit e.
-      let a = h.go_on ls rest size fit e in
-      by_tail ls rest size a.tail a.parts a.text,
-)
-  where
-    by_tail : (ls rest : List ℕ) → length ls ≡ count → (tail : List ℕ) → ls ≡ numbers ++ tail → drop at bytes ≡ flat_map number tail ++ rest → (numbers ≡ ls) × (drop at bytes ≡ rest)
-    by_tail ls rest size [] p t = (sym (p ∙ append-nil numbers), t)
-    by_tail ls rest size (m ∷ tail) p t = absurd (omega (arith, ap (λ (z : List ℕ). length z) p, length-append numbers (m ∷ tail), size))

@@ -23,9 +23,6 @@ length-bits_from : (b : Bool) (ls : List ℕ) → length (bits_from b ls) ≡ to
 length-bits_from b [] = refl
 length-bits_from b (l ∷ ls) = omega (arith, length-append (replicate l b) (bits_from (not b) ls), length-replicate l b, length-bits_from (not b) ls)
 
-pub run_begins : {C : Type 0} (v : C) (start : ℕ) (old : List C) → PaintsRun v start start old old
-run_begins v start old = record { size = refl; inside = λ k d a b c. absurd (omega arith); outside = λ k d h. refl }
-
 set_here : {C : Type 0} (xs : List C) (i : ℕ) (x d : C) → i < length xs → get_or (set xs i x) i d ≡ x
 set_here [] i x d lt = absurd (omega arith)
 set_here (y ∷ xs) zero x d lt = refl
@@ -77,9 +74,6 @@ in_run front n b k ge lt = get_or-append_right front (replicate n b) (length fro
 
 past_run : (front : List Bool) (n : ℕ) (b : Bool) (k : ℕ) → length front + n ≤ k → get_or (front ++ replicate n b) k false ≡ false
 past_run front n b k ge = get_or_past (front ++ replicate n b) k false (omega (arith, length-append front (replicate n b), length-replicate n b))
-
-pub paint_begins : {C : Type 0} (v : C) (cells : List C) → Painted v [] cells cells
-paint_begins v cells = record { size = refl; at = λ k d lt. refl }
 
 pub zeros_more : {C : Type 0} (v : C) (front : List Bool) (n : ℕ) (old mid : List C) → Painted v front old mid → Painted v (front ++ replicate n false) old mid
 zeros_more {C} v front n old mid h = record { size = h.size; at = λ k d lt. h.at k d lt ∙ ap (λ (b : Bool). cond b v (get_or old k d)) (sym (same k)) }

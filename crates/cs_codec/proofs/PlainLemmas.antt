@@ -7,7 +7,7 @@ use Rattle.cs_codec.specs.Columns.{cells_at}
 use Rattle.std.proofs.lemmas.Option.{slice_get_within, get_or_from_slice_get}
 use Rattle.cs_codec.specs.declared.plain.PlainPart.{PlainPart}
 use Rattle.cs_codec.specs.Plain.{IsPlainPart}
-use Rattle.std.proofs.lemmas.List.{append-nil, length-append, length-drop, drop_all, take_more}
+use Rattle.std.proofs.lemmas.List.{append-nil, length-append, length-drop, take_more}
 use Rattle.cs_codec.specs.Cells.{BeginsOne, StandsAt, NoneStandsAt}
 use Rattle.cs_codec.specs.Encodings.{IsColumn, IsShort}
 use Rattle.cs_codec.specs.Texts.{plain_text}
@@ -60,15 +60,6 @@ plain_more bytes is_cell text at end cells c so_far found =
     ∙ ap (λ (w : List ℕ). plain_text bytes cells ++ w) found.parts
     ∙ sym (append_assoc (plain_text bytes cells) (bytes c) (drop end text))
     ∙ ap (λ (w : List ℕ). w ++ drop end text) (sym (plain_text-push bytes cells c))
-
--- what has been read is the column, if nothing is left
-pub plain_column : {C : Type 0} (bytes : C → List ℕ) (is_cell : C → Type 0) (text : List ℕ) (rows at : ℕ) (cells : List C) → rows ≤ 1048576 → AllByRecursion is_cell cells → text ≡ plain_text bytes cells ++ drop at text → length cells ≡ rows → length text ≤ at → IsColumn (plain_text bytes) IsShort is_cell text rows cells
-plain_column bytes is_cell text rows at cells short hc so_far len ended = record {
-  text_is = so_far ∙ ap (λ (w : List ℕ). plain_text bytes cells ++ w) (drop_all at text ended) ∙ append-nil (plain_text bytes cells);
-  rows_are = len;
-  list_fits = omega arith;
-  cells_hold = hc;
-}
 
 -- one more cell has been written
 pub plain-taken : {C : Type 0} (bytes : C → List ℕ) (cells : List C) (i : ℕ) (c : C) (a b : List ℕ) → i < length cells → c ≡ get_or cells i c → a ≡ plain_text bytes (take i cells) → b ≡ a ++ bytes c → b ≡ plain_text bytes (take (i + 1) cells)

@@ -3,9 +3,9 @@ use Rattle.std.proofs.Common.{◌≡◌, ◌≢◌, ℕ, zero, suc, ◌+◌, ◌
 use Rattle.std.specs.Prelude.{pos, ◌≤ℤ◌, ◌-ℤ◌, ◌+ℤ◌}
 use Rattle.std.specs.Int.RustNames.{unsigned_abs}
 use Rattle.std.proofs.lemmas.Int.{ints}
-use Rattle.std.proofs.lemmas.List.{append-nil, length-append, drop_all, drop_more, take_more}
+use Rattle.std.proofs.lemmas.List.{append-nil, length-append, drop_more, take_more}
 use Rattle.cs_codec.specs.Cells.{number, int_cell, IsInt}
-use Rattle.cs_codec.specs.Texts.{short, differences_text, differences_text_from, NeverFalls, NeverFallsFrom}
+use Rattle.cs_codec.specs.Texts.{short, differences_text_from, NeverFalls, NeverFallsFrom}
 use Rattle.cs_codec.specs.Differences.{item, NeverFallsShort}
 use Rattle.cs_codec.proofs.DifferenceReading.{gap_of, item_as_gap}
 use Rattle.cs_codec.specs.Rises.{rises, last_rise, rising, IsRise}
@@ -146,9 +146,6 @@ one_more_gap cells first rest i gaps new last x lt e far ne =
 
 -- ---- writing
 
-gap_is : (before : ℤ) (g : ℕ) → unsigned_abs ((before +ℤ pos g) -ℤ before) ≡ g
-gap_is before g = omega (arith, ints)
-
 pub fits_still : (value last : ℤ) (gaps : List ℕ) (i g : ℕ) → i < length gaps → g ≡ get_or gaps i g → last_rise value (drop i gaps) ≡ last → IsInt value → IsInt last → IsInt (value +ℤ pos g)
 fits_still value last gaps i g lt e far hv hl =
     let next : drop i gaps ≡ g ∷ drop (i + 1) gaps = drop_more gaps i g lt ∙ ap (λ (z : ℕ). z ∷ drop (i + 1) gaps) (sym e) in
@@ -186,15 +183,3 @@ gap_item value x position g e h = ap short (gap_of value x g e) ∙ sym (item_as
 
 pub full_item : (value x : ℤ) (position : ℕ) → position % 128 ≡ 1 → number position ++ int_cell x ≡ item value position x
 full_item value x position h = rw h refl
-
-pub rise_begins : (n : ℕ) (first last : ℤ) (gaps out : List ℕ) → 0 < n → IsRise n first gaps last → out ≡ number 1 ++ int_cell first → WritesRise first gaps 0 1 last out (differences_text (rising n first gaps))
-rise_begins n first last gaps out h r e = record {
-  so_far = ap (λ (w : List ℕ). w ++ differences_text_from first 2 (rises first gaps)) e ∙ ap (λ (z : List ℤ). differences_text z) (sym (some_rising n first gaps h));
-  last_is = r.last_is;
-  last_fits = r.last_fits;
-  position_is = refl;
-}
-
-pub rise_ends : (value last : ℤ) (gaps : List ℕ) (i position : ℕ) (out whole : List ℕ) → length gaps ≤ i → WritesRise value gaps i position last out whole → out ≡ whole
-rise_ends value last gaps i position out whole le far =
-    sym (append-nil out) ∙ ap (λ (z : List ℕ). out ++ differences_text_from value (position + 1) (rises value z)) (sym (drop_all i gaps le)) ∙ far.so_far

@@ -198,9 +198,3 @@ range_more {C} xs from at c o h =
     ap (λ (z : C). take (at - from) (drop from xs) ++ z ∷ []) (sym here)
     ∙ sym (take_more (drop from xs) (at - from) c inside)
     ∙ ap (λ (n : ℕ). take n (drop from xs)) more
-
-pub whole_range : {C : Type 0} (xs part : List C) (from to at : ℕ) → at ≡ to → part ≡ take (at - from) (drop from xs) → part ≡ take (to - from) (drop from xs)
-whole_range {C} xs part from to at e h = h ∙ ap (λ (n : ℕ). take (n - from) (drop from xs)) e
-
-pub length-range : {C : Type 0} (xs part : List C) (from to : ℕ) → from ≤ to → to ≤ length xs → part ≡ take (to - from) (drop from xs) → length part ≡ to - from
-length-range xs part from to o h e = ap length e ∙ omega (arith, length-take (to - from) (drop from xs), length-drop from xs)

@@ -172,10 +172,6 @@ pub joins_none : {C : Type 0} (eq : C → C → Bool) (rs os : List (Run C)) →
 joins_none eq [] os len = record { cells = refl; proper = λ p q. q }
 joins_none eq (r ∷ rs) os len = absurd (omega arith)
 
-pub begins_other : {C : Type 0} (eq : C → C → Bool) (x : C) (os : List (Run C)) (first : Run C) → first ≡ get_or os 0 first → false ≡ eq x first.value → BeginsOther eq x os
-begins_other eq x [] first at e = tt
-begins_other {C} eq x (o ∷ os) first at e = subst (λ (r : Run C). eq x r.value ≡ false) at (sym e)
-
 pub joins_no_more : {C : Type 0} (eq : C → C → Bool) (rs os : List (Run C)) → length os ≡ 0 → Joins eq rs os (rs ++ os)
 joins_no_more {C} eq rs [] len = record {
   cells = ap (λ (z : List (Run C)). expand z) (append-nil rs) ∙ sym (append-nil (expand rs));
@@ -187,9 +183,6 @@ joins_no_more eq rs (o ∷ os) len = absurd (omega arith)
 pub taken : {C : Type 0} (rs : List (Run C)) (i : ℕ) (r : Run C) → i < length rs → r ≡ get_or rs i r → take (i + 1) rs ≡ take i rs ++ r ∷ []
 taken rs i r lt e = take_more rs i r lt ∙ ap (λ s. take i rs ++ s ∷ []) (sym e)
 
-pub expand-taken : {C : Type 0} (rs : List (Run C)) (i : ℕ) (r : Run C) → i < length rs → r ≡ get_or rs i r → expand (take (i + 1) rs) ≡ expand (take i rs) ++ (replicate r.count r.value ++ [])
-expand-taken {C} rs i r lt e = ap (λ (z : List (Run C)). expand z) (taken rs i r lt e) ∙ expand-append (take i rs) (r ∷ [])
-
 pub length-expand-taken : {C : Type 0} (rs : List (Run C)) (i : ℕ) (r : Run C) → i < length rs → r ≡ get_or rs i r → length (expand (take (i + 1) rs)) ≡ length (expand (take i rs)) + r.count
 length-expand-taken {C} rs i r lt e = ap (λ (z : List (Run C)). length (expand z)) (taken rs i r lt e) ∙ length-expand-push (take i rs) r
 
@@ -197,14 +190,6 @@ pub expand-taken_within : {C : Type 0} (rs : List (Run C)) (i : ℕ) → length 
 expand-taken_within {C} rs i =
     let parts : expand rs ≡ expand (take i rs) ++ expand (drop i rs) = ap (λ (z : List (Run C)). expand z) (sym (take-append-drop i rs)) ∙ expand-append (take i rs) (drop i rs) in
     omega (arith, ap length parts, length-append (expand (take i rs)) (expand (drop i rs)))
-
-pub IsProper-at : {C : Type 0} (eq : C → C → Bool) (rs : List (Run C)) (i : ℕ) (d : Run C) → IsProper eq rs → i < length rs → 0 < (get_or rs i d).count
-IsProper-at eq [] i d h lt = absurd (omega arith)
-IsProper-at eq (r ∷ rs) zero d h lt = h.0
-IsProper-at eq (r ∷ rs) (suc i) d h lt = IsProper-at eq rs i d h.2 (omega arith)
-
-pub count_positive : {C : Type 0} (eq : C → C → Bool) (rs : List (Run C)) (i : ℕ) (r : Run C) → IsProper eq rs → i < length rs → r ≡ get_or rs i r → 0 < r.count
-count_positive {C} eq rs i r h lt e = subst (λ (s : Run C). 0 < s.count) (sym e) (IsProper-at eq rs i r h lt)
 
 pub written-taken : {C : Type 0} (bytes : C → List ℕ) (rs : List (Run C)) (i : ℕ) (r : Run C) (position : ℕ) (a b c d : List ℕ) → i < length rs → r ≡ get_or rs i r → position ≡ 1 + length (expand (take i rs)) → a ≡ written_from bytes 1 (take i rs) → b ≡ a ++ bytes r.value → c ≡ b ++ number position → d ≡ c ++ number r.count → d ≡ written_from bytes 1 (take (i + 1) rs)
 written-taken {C} bytes rs i r position a b c d lt e p ea eb ec ed =

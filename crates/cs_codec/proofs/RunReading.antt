@@ -10,7 +10,7 @@ use Rattle.cs_codec.specs.Encodings.{IsColumn, IsShort}
 use Rattle.cs_codec.specs.RunLaws.{expand-runs_of, text-expand, IsProper-runs_of, RunsHold-runs_of, runs_of, run_begins_one, not_empty, length-expand-cons}
 use Rattle.cs_codec.specs.Runs.{RunsHold}
 use Rattle.cs_codec.specs.Cells.{IsTest}
-use Rattle.cs_codec.proofs.RunLemmas.{cells_hold-expand, appended, last_of, expand-append, written-push}
+use Rattle.cs_codec.proofs.RunLemmas.{cells_hold-expand, appended, expand-append, written-push}
 use Rattle.cs_codec.specs.RunTexts.{RunStandsAt, NoRunStandsAt, AreRunsOf}
 
 pub count_missing : {C : Type 0} (bytes : C → List ℕ) (is_cell : C → Type 0) (one : BeginsOne bytes is_cell) (text : List ℕ) (start : ℕ) (value : C) (end position : ℕ) → StandsAt bytes is_cell text start value end → NumberStandsAt text end position → ((n : ℕ) (rest : List ℕ) → drop (end + 4) text ≡ number n ++ rest → ⊥) → NoRunStandsAt bytes is_cell text start
@@ -37,16 +37,6 @@ may_follow eq rs k last run answer len again e h said p =
     differ : (a b : Bool) → a ≡ not b → IsTrue a → false ≡ b
     differ a true e y = let z : IsTrue (not true) = subst IsTrue e y in absurd cc
     differ a false e y = refl
-
-pub may_not_follow : {C : Type 0} (eq : C → C → Bool) (rs : List (Run C)) (k : ℕ) (last run : Run C) (answer : Bool) → suc k ≡ length rs → last ≡ get_or rs k last → answer ≡ not (eq last.value run.value) → answer ≡ false → (rest : List (Run C)) → IsProper eq (rs ++ run ∷ rest) → ⊥
-may_not_follow {C} eq rs k last run answer len again e said rest p =
-    let ends = last_of rs k last len again in
-    let apart = neighbours_differ eq ends.front last run rest (subst (λ (z : List (Run C)). IsProper eq (z ++ run ∷ rest)) ends.parts p) in
-    clash (eq last.value run.value) (sym e ∙ said) apart
-  where
-    clash : (b : Bool) → not b ≡ false → b ≡ false → ⊥
-    clash true e f = absurd cc
-    clash false e f = absurd cc
 
 -- ---- what follows the runs that have been read
 
