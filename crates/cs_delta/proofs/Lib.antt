@@ -6,7 +6,6 @@ pub mod LayerSteps
 pub mod Merged
 pub mod KeyPlaces
 pub mod FromChanges
-pub mod LayeredRows
 pub mod Sequences
 pub mod ItemTexts
 pub mod HeadTexts

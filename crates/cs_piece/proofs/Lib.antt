@@ -1,4 +1,3 @@
 pub mod Variants
 pub mod ShortTexts
-pub mod ColumnParts
 pub mod PieceLemmas

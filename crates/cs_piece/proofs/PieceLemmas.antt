@@ -1,16 +1,25 @@
--- When pieces fit together.
-use Rattle.std.proofs.Common.{Bool, IsTrue, List, ◌++◌}
-use Rattle.cs_schema.specs.declared.kinds.Code.{Code}
+-- The bodies of pieces.
+use Rattle.std.proofs.Common.{◌≡◌, ℕ, List, subst}
 use Rattle.cs_schema.specs.declared.kinds.Kind.{Kind}
 use Rattle.cs_schema.specs.declared.cells.Value.{Value}
+use Rattle.cs_codec.specs.Cells.{IsInt, IsText}
+use Rattle.cs_codec.specs.Encodings.{Writes}
 use Rattle.cs_piece.specs.declared.pieces.Piece.{Piece}
-use Rattle.cs_piece.specs.Columns.{CanEncode}
-use Rattle.cs_piece.specs.Pieces.{IsPieceOf, PiecesFit, TellsFit}
+use Rattle.cs_piece.specs.declared.pieces.Piece.TheVariants as pieces
+use Rattle.cs_piece.specs.Parts.{code_of}
+use Rattle.cs_piece.specs.Pieces.{IsPieceOf, IsPartOfInts, IsPartOfTexts, IsTextOf, IsShortTextOf}
+use Rattle.cs_piece.proofs.Variants.{int_kind, text_kind, text_of_ints, IntsFit, text_of_texts, TextsFit, written_is}
+use Rattle.cs_piece.proofs.ShortTexts.{short_text}
 
--- two pieces of one code and kind fit if their values can be encoded together
-pub pieces_fit : (left right : Piece) (code : Code) (kind : Kind) (x y : List Value) → IsPieceOf left code kind x → IsPieceOf right code kind y → CanEncode code kind (x ++ y) → PiecesFit left right
-pieces_fit left right code kind x y hx hy fits = record { code = code; kind = kind; front = x; back = y; left_is = hx; right_is = hy; fits = fits }
+pub ints_written : (piece : Piece) (part : _) (out : List ℕ) → piece ≡ pieces.Ints part → Writes (text_of_ints (code_of part)) IsPartOfInts part out → IsTextOf piece out
+ints_written piece part out is wrote code kind v h =
+    let p : IsPieceOf (pieces.Ints part) code kind v = subst (λ (p : Piece). IsPieceOf p code kind v) is h in
+    written_is Value.Int text_of_ints IntsFit IsInt Kind.Int int_kind code_of IsPartOfInts part out code v wrote p.code_is p.holds
 
--- two pieces fit if `can_join` says so
-pub told_fit : (left right : Piece) (told : Bool) (code : Code) (kind : Kind) (x y : List Value) → TellsFit left right told → IsTrue told → IsPieceOf left code kind x → IsPieceOf right code kind y → PiecesFit left right
-told_fit left right told code kind x y tells said hx hy = pieces_fit left right code kind x y hx hy ((tells code code kind kind x y hx hy).0 said).2
+pub texts_written : (piece : Piece) (part : _) (out : List ℕ) → piece ≡ pieces.Texts part → Writes (text_of_texts (code_of part)) IsPartOfTexts part out → IsTextOf piece out
+texts_written piece part out is wrote code kind v h =
+    let p : IsPieceOf (pieces.Texts part) code kind v = subst (λ (p : Piece). IsPieceOf p code kind v) is h in
+    written_is Value.Text text_of_texts TextsFit IsText Kind.Text text_kind code_of IsPartOfTexts part out code v wrote p.code_is p.holds
+
+pub is_short : (piece : Piece) (out : List ℕ) → IsTextOf piece out → IsShortTextOf piece out
+is_short piece out text code kind v h fits = short_text code kind v out fits (text code kind v h)

@@ -1,37 +1,26 @@
 -- The columns that pieces encode.
-use Rattle.std.specs.Prelude.{◌≡◌, ◌<◌, ◌^◌, ◌↔◌, ℕ, Bool, IsTrue, List, [], ◌++◌, length, map, nat_eq}
+use Rattle.std.specs.Prelude.{◌≡◌, ◌<◌, ◌^◌, ◌↔◌, ℕ, ℤ, Bool, IsTrue, List, ◌++◌, length, map, nat_eq}
 use Rattle.std.specs.Ordering.{nat_cmp, int_eq, int_cmp}
 use Rattle.std.specs.Cmp.Lexicographic.{pointwise, slice_cmp}
 use Rattle.cs_schema.specs.declared.kinds.Code.{Code}
 use Rattle.cs_schema.specs.declared.kinds.Kind.{Kind}
 use Rattle.cs_schema.specs.declared.cells.Value.{Value}
 use Rattle.cs_codec.specs.Cells.{int_cell, text_cell}
-use Rattle.cs_codec.specs.Plain.{IsPlainPart}
-use Rattle.cs_codec.specs.BitmapParts.{IsBitmapsPart}
+use Rattle.cs_codec.specs.ColumnText.{column_text, FitsColumn}
+use Rattle.cs_codec.specs.NoTexts.{AreNone}
+use Rattle.cs_piece.specs.declared.part.Part.{Part}
 use Rattle.cs_piece.specs.declared.pieces.Piece.{Piece}
 use Rattle.cs_piece.specs.declared.pieces.Piece.TheVariants as pieces
-use Rattle.cs_codec.specs.ColumnText.{column_text, FitsColumn}
 use Rattle.cs_piece.specs.Columns.{CanEncode}
+use Rattle.cs_piece.specs.Parts.{code_of, IsPart}
 
-abbrev pub code_of : Piece → Code
-code_of (pieces.IntRuns part) = Code.Runs
-code_of (pieces.TextRuns part) = Code.Runs
-code_of (pieces.IntBitmaps part) = Code.Bitmaps
-code_of (pieces.TextBitmaps part) = Code.Bitmaps
-code_of (pieces.RisingInts part) = Code.Differences
-code_of pieces.NoTexts = Code.Differences
-code_of (pieces.PlainInts part) = Code.Plain
-code_of (pieces.PlainTexts part) = Code.Plain
+abbrev pub code_of_piece : Piece → Code
+code_of_piece (pieces.Ints part) = code_of part
+code_of_piece (pieces.Texts part) = code_of part
 
 abbrev pub kind_of_piece : Piece → Kind
-kind_of_piece (pieces.IntRuns part) = Kind.Int
-kind_of_piece (pieces.TextRuns part) = Kind.Text
-kind_of_piece (pieces.IntBitmaps part) = Kind.Int
-kind_of_piece (pieces.TextBitmaps part) = Kind.Text
-kind_of_piece (pieces.RisingInts part) = Kind.Int
-kind_of_piece pieces.NoTexts = Kind.Text
-kind_of_piece (pieces.PlainInts part) = Kind.Int
-kind_of_piece (pieces.PlainTexts part) = Kind.Text
+kind_of_piece (pieces.Ints part) = Kind.Int
+kind_of_piece (pieces.Texts part) = Kind.Text
 
 -- the part encodes a list of ints or of texts that are these values
 pub record StandsFor {P C : Type 0} (f : C → Value) (is_part : P → List C → Type 0) (part : P) (v : List Value) : Type 0 where
@@ -39,23 +28,19 @@ pub record StandsFor {P C : Type 0} (f : C → Value) (is_part : P → List C �
   pub values_are : v ≡ map f cells
   pub part_is : is_part part cells
 
--- contracts see the part as its list of cells
-abbrev pub IsList : {C : Type 0} → List C → List C → Type 0
-IsList part cells = part ≡ cells
+abbrev pub IsPartOfInts : {L : Type 0} → Part ℤ L → List ℤ → Type 0
+IsPartOfInts part cells = IsPart int_cell int_eq int_cmp (λ ints whole. ints ≡ whole) part cells
+
+abbrev pub IsPartOfTexts : {L : Type 0} → Part (List ℕ) L → List (List ℕ) → Type 0
+IsPartOfTexts part cells = IsPart text_cell (pointwise nat_eq) (slice_cmp nat_cmp) AreNone part cells
 
 abbrev pub Holds : Piece → List Value → Type 0
-Holds (pieces.IntRuns part) v = StandsFor Value.Int IsList part v
-Holds (pieces.TextRuns part) v = StandsFor Value.Text IsList part v
-Holds (pieces.IntBitmaps part) v = StandsFor Value.Int (IsBitmapsPart int_eq int_cmp) part v
-Holds (pieces.TextBitmaps part) v = StandsFor Value.Text (IsBitmapsPart (pointwise nat_eq) (slice_cmp nat_cmp)) part v
-Holds (pieces.RisingInts part) v = StandsFor Value.Int IsList part v
-Holds pieces.NoTexts v = v ≡ []
-Holds (pieces.PlainInts part) v = StandsFor Value.Int (IsPlainPart int_cell) part v
-Holds (pieces.PlainTexts part) v = StandsFor Value.Text (IsPlainPart text_cell) part v
+Holds (pieces.Ints part) v = StandsFor Value.Int IsPartOfInts part v
+Holds (pieces.Texts part) v = StandsFor Value.Text IsPartOfTexts part v
 
 -- the piece has this code and kind, and encodes these values
 pub record IsPieceOf (piece : Piece) (code : Code) (kind : Kind) (v : List Value) : Type 0 where
-  pub code_is : code_of piece ≡ code
+  pub code_is : code_of_piece piece ≡ code
   pub kind_is : kind_of_piece piece ≡ kind
   pub holds : Holds piece v
 

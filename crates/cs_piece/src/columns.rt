@@ -3,11 +3,8 @@ ghost use Rattle.std.specs.Prelude.{◌≡◌, ◌≤◌, IfOk};
 ghost use Rattle.cs_schema.specs.Values.{values, kind_of};
 ghost use Rattle.cs_piece.specs.Columns.{IsColumnOf, NoColumn};
 
-use cs_codec::bitmaps::Bitmaps;
-use cs_codec::differences::Differences;
-use cs_codec::plain::Plain;
-use cs_codec::runs::Runs;
-use cs_codec::{CodecFault, ColumnEncoding};
+use crate::part::Part;
+use cs_codec::CodecFault;
 use cs_schema::{Cells, Code, Kind, Texts, Word};
 use std::alloc::Global;
 
@@ -24,33 +21,8 @@ pub fn read_column(
     ensures kind { IfOk result (λ cells. kind_of cells ≡ kind) }
     ensures not_a_text { result ≡ Err CodecFault.NotAText → NoColumn code kind bytes.now rows }
 {
-    Ok(match (code, kind) {
-        (Code::Runs, Kind::Int) => {
-            Cells::Ints(<Runs as ColumnEncoding<i64, Vec<i64>>>::read(alloc, bytes, rows)?)
-        }
-        (Code::Runs, Kind::Text) => {
-            Cells::Texts(<Runs as ColumnEncoding<Word, Texts>>::read(alloc, bytes, rows)?)
-        }
-        (Code::Bitmaps, Kind::Int) => {
-            Cells::Ints(<Bitmaps as ColumnEncoding<i64, Vec<i64>>>::read(alloc, bytes, rows)?)
-        }
-        (Code::Bitmaps, Kind::Text) => {
-            Cells::Texts(<Bitmaps as ColumnEncoding<Word, Texts>>::read(alloc, bytes, rows)?)
-        }
-        (Code::Differences, Kind::Int) => {
-            Cells::Ints(<Differences as ColumnEncoding<i64, Vec<i64>>>::read(alloc, bytes, rows)?)
-        }
-        (Code::Plain, Kind::Int) => {
-            Cells::Ints(<Plain as ColumnEncoding<i64, Vec<i64>>>::read(alloc, bytes, rows)?)
-        }
-        (Code::Plain, Kind::Text) => {
-            Cells::Texts(<Plain as ColumnEncoding<Word, Texts>>::read(alloc, bytes, rows)?)
-        }
-        (Code::Differences, Kind::Text) => {
-            if rows != 0 || bytes.len() != 0 {
-                return Err(CodecFault::NotAText);
-            }
-            Cells::Texts(Texts::new(alloc))
-        }
+    Ok(match kind {
+        Kind::Int => Cells::Ints(Part::<i64, Vec<i64>>::read(alloc, code, bytes, rows)?),
+        Kind::Text => Cells::Texts(Part::<Word, Texts>::read(alloc, code, bytes, rows)?),
     })
 }

@@ -4,10 +4,12 @@
 
 mod columns;
 pub mod laws;
+mod part;
 mod pieces;
 
 pub use columns::read_column;
 pub use cs_codec::CodecFault;
+pub use part::Part;
 pub use pieces::{
     Piece, encode_piece, encode_places, join_pieces, piece_text, write_piece, write_runs,
 };

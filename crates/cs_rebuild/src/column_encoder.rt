@@ -83,8 +83,6 @@ impl SegmentEncoder<'_> {
         let few = cells_at_once(catalog.code(self.p, j), catalog.column_kind(self.p, j));
         let parts = pieces_in(numbers.len(), few);
         let mut column = self.encode_cells(j, cut_of(numbers, few, 0))?;
-        // the others are about as long
-        column.reserve(parts - 1)?;
         for k in 1..parts {
             let piece = self.encode_cells(j, cut_of(numbers, few, k))?;
             column = join_pieces(column, piece)?;
@@ -120,8 +118,8 @@ impl SegmentEncoder<'_> {
         let Some(mut column) = rest.next() else {
             unreachable!()
         };
-        // the others are as long, except the last, so no chunk is copied again when the next is appended
-        column.reserve(self.chunks - 1)?;
+        // no chunk is copied again when the next is joined
+        column.reserve(self.numbers.len().saturating_sub(self.cut as usize))?;
         for chunk in rest {
             column = join_pieces(column, chunk)?;
         }

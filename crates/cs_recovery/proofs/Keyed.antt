@@ -50,11 +50,6 @@ abbrev how_many : (Change → Bool) → List Change → ℕ
 how_many p [] = 0
 how_many p (c ∷ cs) = one_if (p c) + how_many p cs
 
-one_le : (a b c : Bool) → (a ≡ true → b ≡ true → c ≡ true) → one_if (a && b) ≤ one_if c
-one_le true true c f = subst (λ d. 1 ≤ one_if d) (sym (f refl refl)) (omega arith)
-one_le true false c f = omega arith
-one_le false b c f = omega arith
-
 times_inserted : (i k : ℕ) (c : Change) (xs : List Pair) → times k (keys (cons_option (inserted_at i c) xs)) ≡ one_if (inserts_at i k c) + times k (keys xs)
 times_inserted i k (Change.insert at key row) xs =
     elim (at == i) as (λ b. times k (keys (cons_option (cond b (Some (key, row)) None) xs)) ≡ one_if (b && (key == k)) + times k (keys xs)) [ true ↦ refl | false ↦ omega arith ]

@@ -17,7 +17,6 @@ pub mod KeptKinds
 pub mod Keyed
 pub mod LossSizes
 pub mod Losses
-pub mod NothingLost
 pub mod OneAnswer
 pub mod OneTable
 pub mod OneVerdict
@@ -32,7 +31,6 @@ pub mod RowLists
 pub mod RowPlaces
 pub mod RowReadings
 pub mod RowSteps
-pub mod Stores
 pub mod Suffice
 pub mod SurvivingRows
 pub mod TableFacts

@@ -260,16 +260,6 @@ module _ (C : CatalogData) (L : Sites) (S : Contents) where
   found_stops (suc n) F e =
       ap (λ l. cond (list_any is_stray_landing l) None (found C L S n (next F))) (no_level F e) ∙ ap (found C L S n) (next_same F e) ∙ found_stops n F e
 
-  -- the levels until one reaches no row are all the levels
-  pub found_early : (k n : ℕ) → k ≤ n → (F G : Found) → found C L S k F ≡ Some G → G.last ≡ [] → found C L S n F ≡ Some G
-  found_early zero n h F G e l = let same : F ≡ G = same_Some F G e in subst (λ w. found C L S n w ≡ Some G) (sym same) (found_stops n G l)
-  found_early (suc k) zero h F G e l = absurd (omega arith)
-  found_early (suc k) (suc n) h F G e l = go (list_any is_stray_landing (level C L S F)) e (λ f. found_early k n (omega arith) (next F) G f l)
-    where
-      go : (b : Bool) → cond b None (found C L S k (next F)) ≡ Some G → (found C L S k (next F) ≡ Some G → found C L S n (next F) ≡ Some G) → cond b None (found C L S n (next F)) ≡ Some G
-      go true f ih = absurd (none-some G f)
-      go false f ih = ih f
-
   -- and a walk that is led astray within some levels is led astray
   pub found_astray : (k n : ℕ) → k ≤ n → (F : Found) → found C L S k F ≡ None → found C L S n F ≡ None
   found_astray zero n h F e = absurd (none-some F (sym e))
@@ -279,13 +269,6 @@ module _ (C : CatalogData) (L : Sites) (S : Contents) where
       go : (b : Bool) → cond b None (found C L S k (next F)) ≡ None → (found C L S k (next F) ≡ None → found C L S n (next F) ≡ None) → cond b None (found C L S n (next F)) ≡ None
       go true f ih = refl
       go false f ih = ih f
-
-  -- as long as the last level reaches a row, there are fewer levels than projections
-  pub levels_few : (p : ℕ) (at : At) → p < length C.projections → (k : ℕ) (G : Found) → found C L S k (record { reached = (p, at) ∷ []; last = (p, at) ∷ []; marked = [] }) ≡ Some G → (G.last ≡ [] → ⊥) → k < length C.projections
-  levels_few p at hp k G e some = go g.count
-    where
-      g : Grown (0 + k) G
-      g = grown_found k 0 (record { reached = (p, at) ∷ []; last = (p, at) ∷ []; marked = [] }) G (grown_start p hp at) e
 
       go : (G.last ≡ []) ⊎ (0 + k < length G.reached) → k < length C.projections
       go (inl h) = absurd (some h)

@@ -1,5 +1,5 @@
 -- Lists that the walk by rows makes: filters, first elements, and rows without later repeats of a key.
-use Rattle.std.proofs.Common.{get_or, ◌≡◌, ℕ, zero, suc, ◌+◌, length, arith, List, [], ◌∷◌, ◌++◌, map, refl, sym, ap, subst, ◌∙◌, Bool, true, false, not, cond, ◌&&◌, ◌||◌, inl, inr, Option, Some, None, eqb}
+use Rattle.std.proofs.Common.{get_or, ◌≡◌, ℕ, zero, suc, ◌+◌, arith, List, [], ◌∷◌, ◌++◌, map, refl, sym, ap, subst, ◌∙◌, Bool, true, false, not, cond, ◌&&◌, ◌||◌, inl, inr, Option, Some, None, eqb}
 use Rattle.std.specs.Prelude.{take}
 use Rattle.std.specs.List.{filter, filter_map, cons_option, find, list_any, list_all, flat_map, range_with_len, IsDistinct}
 use Rattle.std.specs.Option.{is_some}
@@ -212,8 +212,3 @@ module _ (C : CatalogData) where
       go true e false h = h ∙ sym (ap (λ t. cond (not t) (get_or rs k [] ∷ filter (λ x. not (same_key r x)) (map (λ j. get_or rs j []) (filter (is_first rs) ks))) (filter (λ x. not (same_key r x)) (map (λ j. get_or rs j []) (filter (is_first rs) ks)))) e)
       go false e false h =
           ap (λ l. get_or rs k [] ∷ l) h ∙ sym (ap (λ t. cond (not t) (get_or rs k [] ∷ filter (λ x. not (same_key r x)) (map (λ j. get_or rs j []) (filter (is_first rs) ks))) (filter (λ x. not (same_key r x)) (map (λ j. get_or rs j []) (filter (is_first rs) ks)))) e)
-
-  pub repeats_by_number : (xs : List Row) → without_repeats C xs ≡ map (λ j. get_or xs j []) (filter (is_first xs) (range_with_len 0 (length xs)))
-  repeats_by_number [] = refl
-  repeats_by_number (r ∷ rs) =
-      ap (λ l. r ∷ l) (ap (filter (λ x. not (same_key r x))) (repeats_by_number rs) ∙ sym (firsts r rs (range_with_len 0 (length rs))) ∙ sym (ap (λ ks. map (λ j. get_or (r ∷ rs) j []) (filter (is_first (r ∷ rs)) ks)) (from_one 0 (length rs))))

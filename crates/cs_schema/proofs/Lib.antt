@@ -10,7 +10,6 @@ pub mod NameLemmas
 pub mod SiteLemmas
 pub mod SortColumns
 pub mod ColumnNames
-pub mod Covering
 pub mod Widths
 pub mod CatalogNumbers
 pub mod CatalogFacts

@@ -19,9 +19,9 @@ const TEXT: &[u8] = b"\0\0\0\0\0\0\0\0\0\0\0\x04\0\0\0\0\0\0\0\x02\0\0\0\x04\0\0
 fn pieced(alloc: Global, cells: &[i64], size: usize) -> Result<BitmapsPart<i64>, AllocError>
     requires { (0 < size) × (size ≤ 1048576) }
 {
-    let mut whole = Bitmaps::encode(alloc, &[])?;
+    let mut whole = <Bitmaps as Encoding<i64>>::encode(alloc, &[])?;
     for piece in cells.chunks(size) {
-        let next = Bitmaps::encode(alloc, piece)?;
+        let next = <Bitmaps as Encoding<i64>>::encode(alloc, piece)?;
         if !<Bitmaps as Encoding<i64>>::can_join(&whole, &next) {
             return Ok(whole);
         }

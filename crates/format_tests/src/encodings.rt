@@ -62,13 +62,13 @@ const RISING_TEXT: [u8; 17] = [0, 0, 0, 1, 0, 0, 0, 0, 0, 0, 0, 1, 3, 3, 0, 1, 4
 
 /// A part of ascending cells, each of which had a part of its own. Of other cells the first few.
 fn rising(alloc: Global, cells: &[i64]) -> Result<DifferencesPart, AllocError> {
-    let mut whole = Differences::encode(alloc, &[])?;
+    let mut whole = <Differences as Encoding<i64>>::encode(alloc, &[])?;
     for cell in cells {
-        let next = Differences::encode(alloc, &[*cell])?;
-        if !Differences::can_join(&whole, &next) {
+        let next = <Differences as Encoding<i64>>::encode(alloc, &[*cell])?;
+        if !<Differences as Encoding<i64>>::can_join(&whole, &next) {
             return Ok(whole);
         }
-        whole = Differences::join(whole, next)?;
+        whole = <Differences as Encoding<i64>>::join(whole, next)?;
     }
     Ok(whole)
 }
@@ -77,11 +77,11 @@ fn rising(alloc: Global, cells: &[i64]) -> Result<DifferencesPart, AllocError> {
 fn cut(alloc: Global, front: &[i64], back: &[i64]) -> Result<Vec<u8>, AllocError> {
     let left = rising(alloc, front)?;
     let right = rising(alloc, back)?;
-    if !Differences::can_join(&left, &right) {
-        return Differences::write(alloc, &left);
+    if !<Differences as Encoding<i64>>::can_join(&left, &right) {
+        return <Differences as Encoding<i64>>::write(alloc, &left);
     }
-    let whole = Differences::join(left, right)?;
-    Differences::write(alloc, &whole)
+    let whole = <Differences as Encoding<i64>>::join(left, right)?;
+    <Differences as Encoding<i64>>::write(alloc, &whole)
 }
 
 #[test]
@@ -155,9 +155,9 @@ fn blocks_begin_at_every_128th_position(rt: HostRuntime) {
 
 /// Whether the part of one cell joins that of another.
 fn joins(alloc: Global, front: i64, back: i64) -> Result<bool, AllocError> {
-    let left = Differences::encode(alloc, &[front])?;
-    let right = Differences::encode(alloc, &[back])?;
-    Ok(Differences::can_join(&left, &right))
+    let left = <Differences as Encoding<i64>>::encode(alloc, &[front])?;
+    let right = <Differences as Encoding<i64>>::encode(alloc, &[back])?;
+    Ok(<Differences as Encoding<i64>>::can_join(&left, &right))
 }
 
 #[test]

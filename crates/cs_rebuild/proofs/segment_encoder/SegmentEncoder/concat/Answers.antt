@@ -9,6 +9,11 @@ use Rattle.cs_rebuild.proofs.Rests.{AnswersFrom, all_answers, first_answer, late
 use Rattle.cs_rebuild.proofs.SegmentFiles.{can_encode_all}
 use Rattle.cs_rebuild.proofs.segment_encoder.SegmentEncoder.concat.Goals as goal
 
+pub reserve-requires : goal.reserve-requires
+reserve-requires c =
+    let few = (can_encode_all c.args.self.now c.args.j c.requires.column).few in
+    omega (arith, few)
+
 pub loop-chunk-init : goal.loop-chunk-init
 loop-chunk-init c =
     let e = c.args.self.now in

@@ -16,10 +16,8 @@ loop-k-init c =
     let e = c.args.self.now in
     let j = c.args.j in
     let few = c.cells_at_once-few.result in
-    let first = cut_at few c.args.numbers.now 0 in
-    subst (IsPieceOf c.reserve.new.self (code_in e j) (kind_in e j)) (first_cut e j c.args.numbers.now few)
-    (c.reserve.ensures (code_in e j) (kind_in e j) (values_in e j first)
-    (subst (λ ns. IsPieceAt e j ns c.in_ok-column.column) c.cut_of.ensures c.in_ok-column.ensures))
+    subst (IsPieceOf c.in_ok-column.column (code_in e j) (kind_in e j)) (first_cut e j c.args.numbers.now few)
+    (subst (λ ns. IsPieceAt e j ns c.in_ok-column.column) c.cut_of.ensures c.in_ok-column.ensures)
 
 pub encode_cells-requires-in-loop-k-clause-rows : goal.encode_cells-requires-in-loop-k-clause-rows
 encode_cells-requires-in-loop-k-clause-rows c =
