@@ -1,8 +1,7 @@
 -- Runs as a column of values and a list of lengths, side by side.
-use Rattle.std.proofs.Common.{◌≡◌, ℕ, zero, suc, ◌+◌, ◌-◌, ◌<◌, ◌≤◌, Bool, false, List, [], ◌∷◌, ◌++◌, length, get_or, take, drop, set, Some, refl, sym, ap, subst, ◌∙◌, arith, length-take}
+use Rattle.std.proofs.Common.{◌≡◌, ℕ, zero, suc, ◌+◌, ◌<◌, ◌≤◌, Bool, false, List, [], ◌∷◌, ◌++◌, length, get_or, take, set, Some, refl, sym, ap, subst, ◌∙◌, arith, length-take}
 use Rattle.std.specs.Prelude.{slice_get}
-use Rattle.std.proofs.lemmas.List.{length-append, length-drop, get_or-drop, take_more}
-use Rattle.std.proofs.lemmas.Option.{slice_get_within, get_or_from_slice_get}
+use Rattle.std.proofs.lemmas.List.{length-append}
 use Rattle.cs_codec.specs.Cells.{number, IsTest}
 use Rattle.cs_codec.specs.RunLaws.{cases_bool}
 use Rattle.cs_codec.specs.Runs.{Run, expand, zip_runs, BeginsOther, written_from, AreColumnsOfRuns}
@@ -185,16 +184,3 @@ taken_longer {C} eq vs cs i are lt =
     let found = cell_at vs i (omega (arith, are.aligned)) in
     let run : Run C = record { value = found.cell; count = get_or cs i 0 } in
     length-expand-taken (zip_runs vs cs) i run (omega (arith, length-zip vs cs are.aligned)) (get-zip vs cs i found.cell (get_or cs i 0) run found.is lt (read_again cs i 0 (get_or cs i 0) lt))
-
--- ---- the cells of a range
-pub range_more : {C : Type 0} (xs : List C) (from at : ℕ) (c : C) → from ≤ at → slice_get xs at ≡ Some c → take (at - from) (drop from xs) ++ c ∷ [] ≡ take (at + 1 - from) (drop from xs)
-range_more {C} xs from at c o h =
-    let lt = slice_get_within xs at c h in
-    let place : from + (at - from) ≡ at = omega arith in
-    let here : get_or (drop from xs) (at - from) c ≡ c =
-    get_or-drop from xs (at - from) c ∙ ap (λ (n : ℕ). get_or xs n c) place ∙ get_or_from_slice_get xs at c c h in
-    let inside : at - from < length (drop from xs) = omega (arith, length-drop from xs) in
-    let more : at - from + 1 ≡ at + 1 - from = omega arith in
-    ap (λ (z : C). take (at - from) (drop from xs) ++ z ∷ []) (sym here)
-    ∙ sym (take_more (drop from xs) (at - from) c inside)
-    ∙ ap (λ (n : ℕ). take n (drop from xs)) more

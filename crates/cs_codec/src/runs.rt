@@ -17,7 +17,8 @@ use cs_schema::limits::SEGMENT_ROWS;
 use std::alloc::{AllocError, Global};
 use std::marker::{Model, PhantomData};
 
-/// An encoded part of a column: the value and the length of each run. Contracts see the cells.
+/// An encoded part of a column: the value and the length of each run. Contracts see the cells. A recovery does without
+/// such parts: it writes runs from a table's column, by `run_places`.
 #[derive(Drop)]
 pub struct RunsPart<C: Cell, L: Column<C>> {
     values: L,

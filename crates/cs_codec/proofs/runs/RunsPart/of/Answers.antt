@@ -1,6 +1,6 @@
 use Rattle.std.proofs.Common.{◌≡◌, ◌-◌, ◌∷◌, [], ◌++◌, length, take, drop, sym, ap, ◌∙◌, arith}
-use Rattle.cs_codec.proofs.ColumnRanges.{range_size}
-use Rattle.cs_codec.proofs.RunColumns.{cell_at, range_more}
+use Rattle.cs_codec.proofs.ColumnRanges.{range_more, range_size}
+use Rattle.cs_codec.proofs.RunColumns.{cell_at}
 use Rattle.cs_codec.proofs.runs.RunsPart.of.Goals as goal
 
 pub push_run-requires-clause-at : goal.push_run-requires-clause-at
@@ -39,6 +39,6 @@ loop-at-preserved g c =
     record {
       cells = c.in_ok-push_run.ensures.cells x.cell x.is
           ∙ ap (λ z. z ++ x.cell ∷ []) c.loop-at.invariant.cells
-          ∙ range_more xs c.args.from c.loop-at.at x.cell (omega arith) x.is;
+          ∙ sym (range_more xs c.args.from c.loop-at.at x.cell (omega arith) x.is);
       runs = c.in_ok-push_run.ensures.runs;
     }
