@@ -269,10 +269,3 @@ module _ (C : CatalogData) (L : Sites) (S : Contents) where
       go : (b : Bool) → cond b None (found C L S k (next F)) ≡ None → (found C L S k (next F) ≡ None → found C L S n (next F) ≡ None) → cond b None (found C L S n (next F)) ≡ None
       go true f ih = refl
       go false f ih = ih f
-
-      go : (G.last ≡ []) ⊎ (0 + k < length G.reached) → k < length C.projections
-      go (inl h) = absurd (some h)
-      go (inr l) =
-          let c = length-le_from_distinct_below (numbers_of G.reached) (length C.projections) g.distinct (λ q h. g.below q (in_any q (numbers_of G.reached) h)) in
-          let m : length (numbers_of G.reached) ≡ length G.reached = simp length-map in
-          omega (arith, c, l, m)
