@@ -14,9 +14,6 @@ eqb_other m n h = go (eqb m n) refl
     go true e = absurd (h (eqb-true m n e))
     go false e = refl
 
-if_true : {A : Type 0} (b : Bool) (x y : A) → b ≡ true → cond b x y ≡ x
-if_true b x y e = ap (λ c. cond c x y) e
-
 if_false : {A : Type 0} (b : Bool) (x y : A) → b ≡ false → cond b x y ≡ y
 if_false b x y e = ap (λ c. cond c x y) e
 

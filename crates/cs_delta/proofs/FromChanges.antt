@@ -45,10 +45,6 @@ weaken n low lower (Edit.put at x ∷ es) l h = (let a = h.0 in omega arith, h.1
 weaken n low lower (Edit.cut at ∷ es) l h = (let a = h.0 in omega arith, h.1, h.2)
 weaken n low lower (Edit.change at x ∷ es) l h = (let a = h.0 in omega arith, h.1, h.2)
 
--- what the order of two items says of these positions
-abbrev Reaches : ℕ → Change → Change → Type 0
-Reaches j c e = (next_place j c ≤ position_of_change e + 1) × (next_place j c ≤ next_place j e)
-
 lt_of : (m n : ℕ) → IsTrue (nat_lt m n) → m < n
 lt_of m n h = grind (arith, nat_tests)
 

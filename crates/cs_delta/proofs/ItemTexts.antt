@@ -146,10 +146,6 @@ pub layers_along : (C : CatalogData) (p rows top n : ℕ) (ls : List (List Chang
 layers_along C p rows top n [] h = tt
 layers_along C p rows top n (l ∷ ls) h = (h.0, layers_along C p rows top (rows_after n l) ls h.1)
 
-pub layers_of : (C : CatalogData) (p rows top n : ℕ) (ls : List (List Change)) → AllAlong rows_after (IsLayer C p (counted rows top)) n ls → AreLayersFrom C p (counted rows top) n ls
-layers_of C p rows top n [] h = tt
-layers_of C p rows top n (l ∷ ls) h = (h.0, layers_of C p rows top (rows_after n l) ls h.1)
-
 -- ---- what follows the count of a layer
 
 pub behind_count : (C : CatalogData) (p rows top n count : ℕ) (bytes behind : List ℕ) (l : List Change) (rest : List ℕ) → bytes ≡ be32 count ++ behind → count < 2 ^ 32 → BeginsWithLayer C p rows top n bytes l rest → (count ≡ length l) × (behind ≡ concat (map change_bytes l) ++ rest)

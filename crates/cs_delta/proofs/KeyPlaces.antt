@@ -1,10 +1,8 @@
 -- The index of a list of keys.
-use Rattle.std.proofs.Common.{◌≡◌, ℕ, suc, ◌+◌, ◌-◌, ◌<◌, ◌==◌, Bool, true, false, cond, not, List, [], ◌∷◌, length, get_or, drop, refl, sym, ap, ◌∙◌, arith, Some, None, eqb-true, eq-eqb}
-use Rattle.std.specs.Prelude.{slice_set, nat_lt}
+use Rattle.std.proofs.Common.{◌≡◌, ℕ, suc, ◌+◌, ◌-◌, ◌==◌, Bool, true, false, cond, not, List, [], ◌∷◌, length, refl, sym, ap, ◌∙◌, arith, Some, None}
+use Rattle.std.specs.Prelude.{nat_lt}
 use Rattle.std.specs.List.{position, position_or_len}
-use Rattle.std.proofs.lemmas.List.{drop_more, get_or-set_same, get_or-set_other}
 use Rattle.std.proofs.Common.{rules}
-use Rattle.std.proofs.lemmas.Bool.{false≢true}
 use Rattle.cs_delta.specs.Places.{first_place}
 
 zero_less : (n : ℕ) → nat_lt 0 (suc n) ≡ true
@@ -15,14 +13,6 @@ is_key key k = k == key
 
 less_suc : (m n : ℕ) → nat_lt (1 + m) (suc n) ≡ nat_lt m n
 less_suc m n = search rules
-
--- one more key, in front of the others, is indexed
-pub place_more : (keys places : List ℕ) (i at value key : ℕ) → i < length keys → at ≡ get_or keys i 0 → at < length places → value ≡ i + 1 → get_or places key 0 ≡ first_place key (i + 1) (drop (i + 1) keys) → get_or (slice_set places at value) key 0 ≡ first_place key i (drop i keys)
-place_more keys places i at value key l e lt v h = go (at == key) refl ∙ sym (ap (first_place key i) (drop_more keys i 0 l ∙ ap (λ (k : ℕ). k ∷ drop (i + 1) keys) (sym e)))
-  where
-    go : (b : Bool) → (at == key) ≡ b → get_or (slice_set places at value) key 0 ≡ cond (at == key) (i + 1) (first_place key (i + 1) (drop (i + 1) keys))
-    go true eb = ap (λ k. get_or (slice_set places at value) k 0) (sym (eqb-true at key eb)) ∙ get_or-set_same places at value 0 lt ∙ v ∙ sym (ap (λ b. cond b (i + 1) (first_place key (i + 1) (drop (i + 1) keys))) eb)
-    go false eb = get_or-set_other places at key value 0 (λ k. false≢true (sym eb ∙ eq-eqb at key (sym k))) ∙ h ∙ sym (ap (λ b. cond b (i + 1) (first_place key (i + 1) (drop (i + 1) keys))) eb)
 
 pub place_is : (key i : ℕ) (ks : List ℕ) → first_place key i ks ≡ cond (nat_lt (position_or_len (is_key key) ks) (length ks)) (i + position_or_len (is_key key) ks + 1) 0
 place_is key i [] = refl

@@ -1,13 +1,9 @@
 -- A list in pieces of the same length.
-use Rattle.std.proofs.Common.{◌≡◌, ℕ, zero, suc, ◌+◌, ◌-◌, ◌*◌, ◌<◌, ◌≤◌, List, [], ◌∷◌, ◌++◌, take, drop, length, refl, sym, ap, ◌∙◌, Bool, true, false, Some, None, arith, cond, min}
+use Rattle.std.proofs.Common.{◌≡◌, ℕ, zero, suc, ◌+◌, ◌-◌, ◌*◌, ◌<◌, ◌≤◌, List, [], ◌∷◌, ◌++◌, take, drop, length, refl, sym, ap, ◌∙◌, Bool, true, false, Some, None, arith, cond}
 use Rattle.std.specs.List.{find}
 use Rattle.std.proofs.lemmas.Option.{none-some}
 use Rattle.std.proofs.Math.Seq.{take-add}
-use Rattle.std.proofs.lemmas.List.{take_rest, take_all}
-use Rattle.std.proofs.Common.{length-drop}
-use Rattle.std.specs.Prelude.{nat_lt}
-use Rattle.std.proofs.lemmas.Bool.{false≢true}
-use borrow.Author.Tests.{ltb-true, lt-ltb}
+use Rattle.std.proofs.lemmas.List.{take_all}
 
 module _ {X : Type 0} (p : X → Bool) where
   pub find_none : (xs ys : List X) → find p xs ≡ None → find p (xs ++ ys) ≡ find p ys
@@ -41,21 +37,6 @@ module _ {X : Type 0} (p : X → Bool) where
     first_piece i y e h =
         ap (find p) (split_at (i * c) xs) ∙ find_none (take (i * c) xs) (drop (i * c) xs) (before_none i h) ∙ ap (find p) (split_at c (drop (i * c) xs))
         ∙ find_some (take c (drop (i * c) xs)) (drop c (drop (i * c) xs)) y e
-
--- a piece that ends with the list is the same piece
-pub cut_piece : {X : Type 0} (a b : ℕ) (xs : List X) → b ≤ a → take (min a (length xs) - b) (drop b xs) ≡ take (a - b) (drop b xs)
-cut_piece a b xs h = go (nat_lt (length xs) a) refl
-  where
-    go : (t : Bool) → nat_lt (length xs) a ≡ t → take (min a (length xs) - b) (drop b xs) ≡ take (a - b) (drop b xs)
-    go true e =
-        let l : length xs < a = ltb-true (length xs) a e in
-        let m : min a (length xs) ≡ length xs = omega arith in
-        let k : length (drop b xs) ≡ length xs - b = length-drop b xs in
-        ap (λ n. take (n - b) (drop b xs)) m ∙ take_rest xs b ∙ sym (take_all (a - b) (drop b xs) (omega arith))
-    go false e =
-        let l : length xs < a → ⊥ = λ k. false≢true (sym e ∙ lt-ltb (length xs) a k) in
-        let m : min a (length xs) ≡ a = omega arith in
-        ap (λ n. take (n - b) (drop b xs)) m
 
 -- if no piece has an element that passes, the list has none
 pub no_piece : {X : Type 0} (p : X → Bool) (c : ℕ) (xs : List X) (count : ℕ) → length xs ≤ count * c → ((k : ℕ) → k < count → find p (take c (drop (k * c) xs)) ≡ None) → find p xs ≡ None

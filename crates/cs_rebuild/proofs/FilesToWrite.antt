@@ -23,7 +23,7 @@ use Rattle.cs_delta.specs.DeltaFile.{delta_text, no_changes}
 use Rattle.cs_jix.specs.JoinIndex.{join_index_text}
 use Rattle.cs_rows.specs.Walk.{Contents}
 use Rattle.cs_store.specs.FileSet.{Files}
-use Rattle.cs_recovery.specs.Expected.{written, is_segment, is_lost, is_affected}
+use Rattle.cs_recovery.specs.Expected.{written, is_segment, is_lost}
 use Rattle.cs_recovery.specs.Places.{entries_for}
 use Rattle.cs_recovery.specs.Tables.{when}
 use Rattle.cs_recovery.proofs.OneAnswer.{segment_there}
@@ -41,9 +41,6 @@ module _ (C : CatalogData) (L : Sites) where
 
   pub lost_is : (p s : ℕ) → HasSegment C p s → is_lost C L p s ≡ lost C L p s
   lost_is p s h = ap (λ b. b && lost C L p s) (segment_is p s h)
-
-  pub affected_is : (p s q : ℕ) → HasSegment C p s → has_join C p q ≡ true → is_affected C L p s q ≡ (lost C L p s || not (alive C L q))
-  affected_is p s q h j = ap (λ b. b && (lost C L p s || not (alive C L q))) (both (is_segment C p s) (has_join C p q) (segment_is p s h) j)
 
   -- what is written has a name of the catalog
   pub named : (n : FileName) → is_written C L n ≡ true → HasName C n

@@ -1,7 +1,7 @@
 -- The end of a walk: the plan fits the catalog, and the filled columns are the walked rows.
 use Rattle.std.proofs.Math.Logic.{∥∥₁_elim}
 use Rattle.std.proofs.Props.{props}
-use Rattle.std.proofs.Common.{◌≡◌, ℕ, zero, suc, ◌<◌, List, [], ◌∷◌, length, map, get_or, refl, sym, ap, ◌∙◌, subst, arith, Bool, true, false, ◌||◌, Option, Some, None, ◌⊎◌, inl, inr, eqb, eq-eqb, Ok, Err}
+use Rattle.std.proofs.Common.{◌≡◌, ℕ, zero, suc, ◌<◌, List, [], ◌∷◌, length, map, get_or, refl, sym, ap, subst, arith, Bool, true, false, ◌||◌, Option, Some, None, ◌⊎◌, inl, inr, eqb, eq-eqb, Ok, Err}
 use Rattle.std.specs.Prelude.{slice_index, MatchOption}
 use Rattle.std.specs.List.{find}
 use Rattle.std.specs.Option.{option_map_or, is_some}
@@ -13,11 +13,9 @@ use Rattle.cs_safety.specs.PlanData.{PlanData, IsPlan, IsPrev, prev_of}
 use Rattle.cs_safety.specs.Paths.{IsReached}
 use Rattle.cs_rows.specs.Walk.{Contents, At, is_astray, walked_row}
 use Rattle.cs_safety.proofs.Distances.{path_exists}
-use Rattle.cs_rows.specs.declared.fault.WalkFault.{WalkFault}
 use Rattle.cs_rows.specs.Steps.{PlanFits}
 use Rattle.cs_rows.proofs.RouteLemmas.{plan_depth, plan_follows}
-use Rattle.cs_rows.specs.Columns.{IsRowFault}
-use Rattle.cs_rows.specs.Range.{walked_among, IsPlanOf, IsWalkFault}
+use Rattle.cs_rows.specs.Range.{walked_among, IsPlanOf}
 
 module _ (C : CatalogData) (cat : IsCatalog C) (L : Sites) (P : PlanData) (plan : IsPlan C L P) where
   prev_below : (q p : ℕ) (o : Option ℕ) → o ≡ Some p → MatchOption o ((q ≡ P.anchor) ⊎ ¬ IsReached C (alive C L) P.anchor q) (λ r. IsPrev C L P.anchor q r) → p < length C.projections
@@ -64,8 +62,3 @@ get_or_map_in f (x ∷ xs) (suc i) e y h k = get_or_map_in f xs i e y (omega ari
 module _ (C : CatalogData) (S : Contents) (P : PlanData) (ats : List At) where
   pub all_walked : find (is_astray C S P) ats ≡ None → Ok (map (walked_row C S P) ats) ≡ walked_among C S P ats
   all_walked e = sym (ap (λ (o : Option At). option_map_or (λ (at : At). Err (P.anchor, at.0, at.1)) o (Ok (map (walked_row C S P) ats))) e)
-
-  pub walk_fault : (e : WalkFault) → IsRowFault C S P ats e → IsWalkFault (walked_among C S P ats) e
-  walk_fault WalkFault.Memory h = tt
-  walk_fault (WalkFault.Astray p s row) h =
-      ap (λ (o : Option At). option_map_or (λ (at : At). Err (P.anchor, at.0, at.1)) o (Ok (map (walked_row C S P) ats))) h.1 ∙ ap (λ (x : ℕ). Err (x, s, row)) (sym h.0)

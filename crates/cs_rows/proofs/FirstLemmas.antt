@@ -6,7 +6,7 @@ use Rattle.std.proofs.lemmas.Option.{none-some, same_Some}
 use Rattle.std.proofs.lemmas.List.Elements.{All-head, All-tail}
 use Rattle.std.specs.Option.{option_or}
 use Rattle.std.proofs.lemmas.List.Folds.{find-append}
-use Rattle.std.proofs.lemmas.List.{take_all, take_more}
+use Rattle.std.proofs.lemmas.List.{take_more}
 use Rattle.cs_schema.specs.Lists.{numbers_below}
 
 module _ {X : Type 0} (p : X → Bool) where
@@ -22,9 +22,6 @@ module _ {X : Type 0} (p : X → Bool) where
       go : (b : Bool) → cond b (Some x) (find p (take k xs)) ≡ None → (find p (take k xs) ≡ None → find p xs ≡ Some (get_or xs k d)) → cond b (Some x) (find p xs) ≡ Some (get_or xs k d)
       go true g r = absurd (none-some x (sym g))
       go false g r = r g
-
-  pub none_at_all : (xs : List X) (k : ℕ) → length xs ≤ k → find p (take k xs) ≡ None → find p xs ≡ None
-  none_at_all xs k h e = ap (find p) (sym (take_all k xs h)) ∙ e
 
   pub first_holds : (P : X → Type 0) (xs : List X) (x : X) → All P xs → find p xs ≡ Some x → P x
   first_holds P [] x all e = absurd (none-some x e)

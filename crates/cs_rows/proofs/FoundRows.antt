@@ -156,9 +156,6 @@ added_more added before now i cells new h pushed rest read kind ok k d l =
 pub pushed_more : (before now : List Cells) (row : Row) (i : ℕ) (cells new : Cells) → i < length now → RowPushed row before now i → ((k : ℕ) (d : Cells) → i ≤ k → get_or now k d ≡ get_or before k d) → cells ≡ get_or now i cells → kind_of new ≡ kind_of cells → values new ≡ values cells ++ cell row i ∷ [] → RowPushed row before (set now i new) (i + 1)
 pushed_more before now row = added_more (λ c. cell row c ∷ []) before now
 
-pub fit_pushed : (C : CatalogData) (row : Row) (before after : List Cells) → length after ≡ length before → ColumnsFit C before → RowPushed row before after (length C.columns) → ColumnsFit C after
-fit_pushed C row before after e fit pushed = record { count = e ∙ fit.count; kinds = λ c d h. (pushed c d h).0 ∙ fit.kinds c d h }
-
 pub rows_pushed : (C : CatalogData) (row : Row) (before after : List Cells) → RowPushed row before after (length C.columns) → (rows : List Row) → AreRows C rows before → AreRows C (rows ++ row ∷ []) after
 rows_pushed C row before after pushed rows are c d h =
     (pushed c d h).1 ∙ ap (λ (l : List Value). l ++ cell row c ∷ []) (are c d h) ∙ sym (map_append (λ (r : Row). cell r c) rows (row ∷ []))
@@ -220,9 +217,6 @@ module _ (C : CatalogData) (L : Sites) (S : Contents) where
   pub row_is_stray : (row : Reached) → found_from C L S row.0 row.1 ≡ None → find (is_stray_row C L S) (row ∷ []) ≡ Some row
   row_is_stray row e = ap (λ (o : Option Found). cond (Rattle.std.specs.Option.is_none o) (Some row) None) e
 
-  pub row_is_sound : (row : Reached) (F : Found) → found_from C L S row.0 row.1 ≡ Some F → find (is_stray_row C L S) (row ∷ []) ≡ None
-  row_is_sound row F e = ap (λ (o : Option Found). cond (Rattle.std.specs.Option.is_none o) (Some row) None) e
-
   pub none_stray : (xs ys : List Reached) → find (is_stray_row C L S) xs ≡ None → find (is_stray_row C L S) ys ≡ None → find (is_stray_row C L S) (xs ++ ys) ≡ None
   none_stray xs ys e f = find-append (is_stray_row C L S) xs ys ∙ (λ i. option_or (e i) (f i))
 
@@ -246,9 +240,6 @@ module _ (C : CatalogData) (L : Sites) (S : Contents) where
     pub grows_more : (xs ys zs : List Reached) (before middle after : List Cells) → zs ≡ xs ++ ys → Grows xs before middle → Grows ys middle after → Grows zs before after
     grows_more xs ys zs before middle after e f g rows are =
         subst (λ (l : List Row). AreRows C l after) (append_assoc rows (filter_map (given_row fresh_only C L S) xs) (filter_map (given_row fresh_only C L S) ys) ∙ ap (λ (l : List Row). rows ++ l) (sym (ap (filter_map (given_row fresh_only C L S)) e ∙ filter_map-append (given_row fresh_only C L S) xs ys))) (g (rows ++ filter_map (given_row fresh_only C L S) xs) (f rows are))
-
-    pub grows_none : (columns : List Cells) → Grows [] columns columns
-    grows_none columns rows are = subst (λ (l : List Row). AreRows C l columns) (sym (append-nil rows)) are
 
     pub grows_by : (row : Reached) (found : Row) (before after : List Cells) → filter_map (given_row fresh_only C L S) (row ∷ []) ≡ found ∷ [] → RowPushed found before after (length C.columns) → Grows (row ∷ []) before after
     grows_by row found before after e pushed rows are = subst (λ (l : List Row). AreRows C (rows ++ l) after) (sym e) (rows_pushed C found before after pushed rows are)

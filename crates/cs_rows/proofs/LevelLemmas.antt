@@ -1,9 +1,9 @@
 -- The levels of a walk by rows.
-use Rattle.std.proofs.Common.{◌≡◌, ℕ, zero, suc, ◌+◌, ◌<◌, ◌≤◌, List, [], ◌∷◌, ◌++◌, length, take, get_or, refl, sym, ap, ◌∙◌, subst, arith, Bool, true, false, not, cond, ◌||◌, ◌==◌, Option, Some, None, append_assoc, true≢false}
+use Rattle.std.proofs.Common.{◌≡◌, ℕ, zero, suc, ◌+◌, ◌<◌, List, [], ◌∷◌, ◌++◌, length, take, get_or, refl, sym, ap, ◌∙◌, arith, Bool, true, false, not, cond, ◌||◌, ◌==◌, Option, Some, None, append_assoc, true≢false}
 use Rattle.std.specs.Prelude.{All}
 use Rattle.std.specs.List.{filter_map, cons_option, find, list_any, range_with_len}
 use Rattle.std.specs.Option.{option_map}
-use Rattle.std.proofs.lemmas.List.{append-nil, take_more, take_all}
+use Rattle.std.proofs.lemmas.List.{append-nil, take_more}
 use Rattle.std.proofs.lemmas.List.Elements.{All-nil, All-cons, All-head, All-tail, All-append, filter_map-append}
 use Rattle.std.proofs.lemmas.List.Folds.{list_any-append}
 use Rattle.cs_schema.specs.CatalogData.{CatalogData, has_join}
@@ -89,12 +89,6 @@ module _ (C : CatalogData) (L : Sites) (S : Contents) where
   looks F q b e f from entered l is =
       sym (ap (λ (x : Bool). cond x None (option_map (landed_through q) (entrance C F q))) (sym e ∙ f) ∙ ap (option_map (landed_through q)) entered ∙ ap (λ (x : Landing). Some (q, x)) (sym is))
 
-  pub looks_away : (F : Found) (q : ℕ) (b : Bool) → b ≡ (member (numbers_of F.reached) q || member F.marked q) → b ≡ true → None ≡ looked_at C L S F q
-  looks_away F q b e f = sym (ap (λ (x : Bool). cond x None (option_map (landed_through q) (entrance C F q))) (sym e ∙ f))
-
-  pub looks_nowhere : (F : Found) (q : ℕ) (b : Bool) → b ≡ (member (numbers_of F.reached) q || member F.marked q) → b ≡ false → entrance C F q ≡ None → None ≡ looked_at C L S F q
-  looks_nowhere F q b e f entered = sym (ap (λ (x : Bool). cond x None (option_map (landed_through q) (entrance C F q))) (sym e ∙ f) ∙ ap (option_map (landed_through q)) entered)
-
   -- what a level looks at, with one more projection
   pub looked_more : (F : Found) (q : ℕ) (xs : List (ℕ × JoinTarget)) (l : JoinTarget) → landings_of xs ≡ filter_map (looked_at C L S F) (numbers_below q) → option_map (landing_at q) (Some l) ≡ looked_at C L S F q → landings_of (xs ++ (q, l) ∷ []) ≡ filter_map (looked_at C L S F) (numbers_below (q + 1))
   looked_more F q xs l e h =
@@ -122,11 +116,6 @@ module _ (C : CatalogData) (S : Contents) where
 
 pub landings_more : (xs : List (ℕ × JoinTarget)) (k : ℕ) (d : ℕ × JoinTarget) → k < length xs → landings_of (take (k + 1) xs) ≡ landings_of (take k xs) ++ landing_at (get_or xs k d).0 (get_or xs k d).1 ∷ []
 landings_more xs k d h = ap landings_of (take_more xs k d h) ∙ map_append (λ (x : ℕ × JoinTarget). landing_at x.0 x.1) (take k xs) (get_or xs k d ∷ [])
-
-pub landings_split : (xs : List (ℕ × JoinTarget)) (k : ℕ) (d : ℕ × JoinTarget) → k < length xs → (rest : List (ℕ × Landing)) × (landings_of xs ≡ landings_of (take k xs) ++ landing_at (get_or xs k d).0 (get_or xs k d).1 ∷ rest)
-landings_split [] k d h = absurd (omega arith)
-landings_split (x ∷ xs) zero d h = (landings_of xs, refl)
-landings_split (x ∷ xs) (suc k) d h = let r = landings_split xs k d (omega arith) in (r.0, ap (λ ys. landing_at x.0 x.1 ∷ ys) r.1)
 
 -- one of them is a stray landing
 pub stray_among : (xs : List (ℕ × JoinTarget)) (k : ℕ) (d : ℕ × JoinTarget) → k < length xs → (get_or xs k d).1 ≡ JoinTarget.Astray → list_any is_stray_landing (landings_of xs) ≡ true
@@ -180,7 +169,3 @@ module _ (reached : List Reached) (marked : List ℕ) (reached' : List Reached) 
     marked_are = m ∙ so.marked_are ∙ ap (λ ys. marked ++ ys) (sym (lost_more (JoinTarget.Row at) e ∙ append-nil (filter_map lost_landing (landings_of (take k xs)))));
     none_stray = stray_more (JoinTarget.Row at) e refl;
   }
-
--- all landings
-pub entered_all : (reached : List Reached) (marked : List ℕ) (reached' : List Reached) (marked' : List ℕ) (xs : List (ℕ × JoinTarget)) (k : ℕ) → length xs ≤ k → Entered reached marked reached' marked' (landings_of (take k xs)) → Entered reached marked reached' marked' (landings_of xs)
-entered_all reached marked reached' marked' xs k h so = subst (λ (l : List (ℕ × JoinTarget)). Entered reached marked reached' marked' (landings_of l)) (take_all k xs h) so

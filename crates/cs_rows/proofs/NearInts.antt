@@ -9,7 +9,7 @@ use Rattle.std.proofs.lemmas.List.{length-map, length-set, get_or-map, get_or_de
 use Rattle.std.proofs.lemmas.List.Folds.{list_any-append}
 use Rattle.cs_schema.specs.declared.cells.Value.{Value}
 use Rattle.cs_schema.specs.Values.{value_eq}
-use Rattle.cs_rows.specs.Repeats.{IsNear, is_repeat, AreRepeats}
+use Rattle.cs_rows.specs.Repeats.{IsNear, is_repeat}
 use Rattle.cs_rows.proofs.EqualCells.{same_from_eq, eq_from_same}
 
 -- ---- how close they lie
@@ -45,12 +45,6 @@ pub record Noted (ints : List ℤ) (least : ℤ) (count : ℕ) (seen marks : Lis
 module _ (xs : List ℤ) (least : ℤ) (count : ℕ) where
   abbrev cells : List Value
   cells = map Value.Int xs
-
-  pub noted_all : (seen marks : List Bool) (row : ℕ) → length xs ≤ row → Noted xs least count seen marks row → AreRepeats cells marks
-  noted_all seen marks row h so = record {
-    count = so.marked_count ∙ sym (length-map xs Value.Int);
-    each = λ j l. so.marked j (omega (arith, length-map xs Value.Int));
-  }
 
   module _ (seen marks : List Bool) (row place : ℕ) (within : row < length xs) (near : IsNear least count (get_or xs row (pos 0))) (at : place ≡ unsigned_abs (get_or xs row (pos 0) -ℤ least)) (so : Noted xs least count seen marks row) where
     pub place_inside : place < count

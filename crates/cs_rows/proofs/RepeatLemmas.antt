@@ -1,5 +1,5 @@
 -- Rows whose key occurs in an earlier row, found among rows sorted by key.
-use Rattle.std.proofs.Common.{◌≡◌, ◌≢◌, ℕ, zero, suc, ◌+◌, ◌-◌, ◌<◌, ◌≤◌, List, [], ◌∷◌, ◌++◌, length, map, take, set, get_or, refl, sym, ap, ◌∙◌, subst, arith, Bool, true, false, not, cond, ◌||◌, ⊎_elim, Some, true≢false, get_or-set_same, get_or-set_other, eqb, replicate}
+use Rattle.std.proofs.Common.{◌≡◌, ◌≢◌, ℕ, zero, suc, ◌+◌, ◌-◌, ◌<◌, ◌≤◌, List, [], ◌∷◌, ◌++◌, length, map, take, set, get_or, refl, sym, ap, ◌∙◌, subst, arith, Bool, true, false, not, cond, ◌||◌, ⊎_elim, Some, true≢false, get_or-set_same, get_or-set_other, eqb}
 use Rattle.std.specs.Prelude.{slice_get, pos}
 use Rattle.std.specs.declared.cmp.Ordering.{Ordering}
 use Rattle.std.specs.declared.cmp.Ordering.TheVariants.{Less}
@@ -38,20 +38,6 @@ pub record Marked (keys : List Value) (ys : List ℕ) (marks : List Bool) (next 
   pub count : length marks ≡ length keys
   pub each : (k : ℕ) → k < next → k < length ys → get_or marks (get_or ys k 0) false ≡ tied keys ys k
   pub rest : (k : ℕ) → next ≤ k → k < length ys → get_or marks (get_or ys k 0) false ≡ false
-
-none_marked : (n i : ℕ) → get_or (replicate n false) i false ≡ false
-none_marked zero i = refl
-none_marked (suc n) zero = refl
-none_marked (suc n) (suc i) = none_marked n i
-
-pub marked_start : (keys : List Value) (ys : List ℕ) (marks : List Bool) → marks ≡ replicate (length keys) false → Marked keys ys marks 1
-marked_start keys ys marks e =
-    let free : (i : ℕ) → get_or marks i false ≡ false = λ i. ap (λ (l : List Bool). get_or l i false) e ∙ none_marked (length keys) i in
-    record {
-      count = ap length e ∙ Rattle.std.proofs.lemmas.List.length-replicate (length keys) false;
-      each = λ k h l. let z : 0 ≡ k = omega arith in subst (λ (n : ℕ). get_or marks (get_or ys n 0) false ≡ tied keys ys n) z (free (get_or ys 0 0));
-      rest = λ k h l. free (get_or ys k 0);
-    }
 
 module _ (keys : List Value) (ys : List ℕ) (moved : IsPermutation (range_with_len 0 (length keys)) ys) (up : IsSorted (numbered_cmp keys) ys) where
   abbrev key_at : ℕ → Value

@@ -82,9 +82,6 @@ module _ (C : CatalogData) (P : PlanData) where
       at_anchor q zero g l = anchor_met P [] q g
       at_anchor q (suc d) g l = absurd (omega arith)
 
-  pub round_next : (route : List RouteStep) (r n : ℕ) → length C.projections ≤ n → IsRound C P route r n → IsRound C P route (r + 1) 0
-  round_next route r n h so = record { steps = so.steps; nearer = λ q d l g m. so.here q d (omega arith) l g m; here = λ q d l. absurd (omega arith) }
-
   module _ (fits : PlanFits C P) (route : List RouteStep) (r n : ℕ) (exists : n < length C.projections) (so : IsRound C P route r n) where
     pub round_same : IsNextStep P route n None → IsRound C P route r (n + 1)
     round_same none = record {

@@ -1,20 +1,18 @@
 -- Steps of a walk through survivors.
-use Rattle.std.proofs.Common.{◌≡◌, ℕ, zero, suc, ◌+◌, ◌<◌, ◌≤◌, List, [], length, refl, sym, ap, ◌∙◌, subst, arith, Bool, true, false, cond, Option, Some, None, ⊎_elim, eqb, eq-eqb, eqb-true}
-use Rattle.std.specs.Prelude.{slice_index, slice_index_or, nat_lt, IfSome}
+use Rattle.std.proofs.Common.{◌≡◌, ℕ, zero, suc, ◌+◌, ◌<◌, ◌≤◌, List, [], length, refl, sym, ap, ◌∙◌, arith, Bool, true, false, cond, Option, Some, None, ⊎_elim, eqb, eq-eqb, eqb-true}
+use Rattle.std.specs.Prelude.{slice_index, slice_index_or, nat_lt}
 use Rattle.std.specs.List.{slice_get, position}
 use Rattle.std.specs.Option.{option_and_then, option_map, unwrap_or}
 use Rattle.std.proofs.lemmas.Option.{slice_get-get_or, slice_get_past}
 use Rattle.std.proofs.lemmas.Bool.{cases_lt}
-use Rattle.std.proofs.lemmas.List.Quantifiers.{position-Some}
-use Rattle.std.proofs.lemmas.List.{length-map}
 use borrow.Author.Tests.{lt-ltb, le-ltb}
 use Rattle.cs_schema.specs.CatalogData.{CatalogData, segments}
 use Rattle.cs_delta.specs.KindedImage.{KindedImage}
-use Rattle.cs_delta.specs.Image.{ImageData, Pair, image_keys, position_of_key}
+use Rattle.cs_delta.specs.Image.{ImageData, image_keys, position_of_key}
 use Rattle.cs_jix.specs.JoinIndex.{Place, entry_at}
-use Rattle.cs_rows.specs.Walk.{Contents, At, landed, entry_of, follow, stands}
+use Rattle.cs_rows.specs.Walk.{Contents, At, landed, follow, stands}
 use Rattle.cs_safety.specs.PlanData.{PlanData, prev_of}
-use Rattle.cs_jix.specs.Follow.{landed_in, followed}
+use Rattle.cs_jix.specs.Follow.{landed_in}
 use Rattle.cs_rows.specs.Survivors.{SurvivorsData, contents_of, images_of, image_at, join_at, held}
 use Rattle.cs_rows.specs.Steps.{IsAt}
 
@@ -47,15 +45,6 @@ module _ (C : CatalogData) (S : SurvivorsData) where
       ∙ sym (ap (λ (t : Bool). cond t inside None) (le-ltb e.0 (segments C q) ge)))
       (cases_lt e.0 (segments C q))
 
-  both_landed : (q : ℕ) → length (images_of S q) ≡ segments C q → (o : Option Place) → option_and_then (landed_in (images_of S q)) o ≡ option_and_then (landed C (contents_of S) q) o
-  both_landed q h None = refl
-  both_landed q h (Some e) = landed_same q h e
-
-  pub follow_is : (p q : ℕ) (at : At) (m : KindedImage) (es : List Place) → length (images_of S q) ≡ segments C q → image_at S p at.0 ≡ Some m → join_at S p at.0 q ≡ Some es → followed es (slice_index (image_keys m.image) at.1) (images_of S q) ≡ follow C (contents_of S) p q at
-  follow_is p q at m es h i j =
-      both_landed q h (entry_at es (slice_index (image_keys m.image) at.1))
-      ∙ sym (λ k. option_and_then (landed C (contents_of S) q) (entry_at (unwrap_or (j k) []) (slice_index (image_keys (held (i k))) at.1)))
-
   nothing_at : (key : ℕ) → entry_at [] key ≡ None
   nothing_at zero = refl
   nothing_at (suc i) = refl
@@ -70,30 +59,6 @@ module _ (C : CatalogData) (S : SurvivorsData) where
       let l : at.1 < length (held (image_at S p at.0)).pairs = h.1 in
       let z : length (held (image_at S p at.0)).pairs ≡ 0 = ap (λ (o : Option KindedImage). length (held o).pairs) e in
       omega arith
-
-  found_there : (q : ℕ) (e : Place) (o : Option ℕ) → position_of_key (held (image_at S q e.0)) e.1 ≡ o → e.0 < segments C q → IfSome (option_map (at_position e) o) (IsAt C (contents_of S) q)
-  found_there q e None h l = tt
-  found_there q e (Some i) h l =
-      let m : ImageData = held (image_at S q e.0) in
-      let f = position-Some (λ (k : ℕ). Rattle.std.specs.Prelude.nat_eq k e.1) (image_keys m) i 0 h in
-      let n = length-map m.pairs (λ (x : Pair). x.0) in
-      let b : i < length (image_keys m) = f.0 in
-      (l, omega arith)
-
-  pub landed_there : (q : ℕ) (e : Place) → IfSome (landed C (contents_of S) q e) (IsAt C (contents_of S) q)
-  landed_there q e =
-      let inside : Option (ℕ × ℕ) = placed_in e (held (image_at S q e.0)) in
-      ⊎_elim
-      (λ (lt : e.0 < segments C q). subst (λ (t : Bool). IfSome (cond t inside None) (IsAt C (contents_of S) q)) (sym (lt-ltb e.0 (segments C q) lt)) (found_there q e (position_of_key (held (image_at S q e.0)) e.1) refl lt))
-      (λ (ge : segments C q ≤ e.0). subst (λ (t : Bool). IfSome (cond t inside None) (IsAt C (contents_of S) q)) (sym (le-ltb e.0 (segments C q) ge)) tt)
-      (cases_lt e.0 (segments C q))
-
-  any_landed : (q : ℕ) (o : Option Place) → IfSome (option_and_then (landed C (contents_of S) q) o) (IsAt C (contents_of S) q)
-  any_landed q None = tt
-  any_landed q (Some e) = landed_there q e
-
-  pub follow_there : (p q : ℕ) (at : At) → IfSome (follow C (contents_of S) p q at) (IsAt C (contents_of S) q)
-  follow_there p q at = any_landed q (entry_of (contents_of S) p q at)
 
 module _ (C : CatalogData) (S : Contents) (P : PlanData) (at : At) where
   pub stand_anchor : (n q : ℕ) → q ≡ P.anchor → Some at ≡ stands C S P at n q
@@ -111,18 +76,3 @@ module _ (C : CatalogData) (S : Contents) (P : PlanData) (at : At) where
       let s : m ≡ n = omega arith in
       ap (λ (k : ℕ). option_and_then (λ (p : ℕ). option_and_then (follow C S p q) (stands C S P at k p)) (prev_of P q)) s
       ∙ sym (ap (λ (b : Bool). cond b (Some at) (option_and_then (λ (p : ℕ). option_and_then (follow C S p q) (stands C S P at n p)) (prev_of P q))) (not_eqb q P.anchor h (eqb q P.anchor) refl))
-
-  pub stand_step : (n m p q : ℕ) (r : Option At) (o : At) → (q ≡ P.anchor → ⊥) → n ≡ m + 1 → Some p ≡ prev_of P q → Some o ≡ stands C S P at m p → r ≡ follow C S p q o → r ≡ stands C S P at n q
-  stand_step n m p q r o h e i j f =
-      f ∙ (λ k. option_and_then (follow C S p q) (j k))
-      ∙ (λ k. option_and_then (λ (x : ℕ). option_and_then (follow C S x q) (stands C S P at m x)) (i k))
-      ∙ stand_enters n m q h e
-
-  pub stand_gone : (n m p q : ℕ) → (q ≡ P.anchor → ⊥) → n ≡ m + 1 → Some p ≡ prev_of P q → None ≡ stands C S P at m p → None ≡ stands C S P at n q
-  stand_gone n m p q h e i j =
-      (λ k. option_and_then (follow C S p q) (j k))
-      ∙ (λ k. option_and_then (λ (x : ℕ). option_and_then (follow C S x q) (stands C S P at m x)) (i k))
-      ∙ stand_enters n m q h e
-
-  pub stand_nowhere : (n m q : ℕ) → (q ≡ P.anchor → ⊥) → n ≡ m + 1 → None ≡ prev_of P q → None ≡ stands C S P at n q
-  stand_nowhere n m q h e i = (λ k. option_and_then (λ (x : ℕ). option_and_then (follow C S x q) (stands C S P at m x)) (i k)) ∙ stand_enters n m q h e

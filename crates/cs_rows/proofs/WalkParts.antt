@@ -1,20 +1,17 @@
 -- Walks of consecutive ranges together are the walk of all.
-use Rattle.std.proofs.Common.{◌≡◌, ℕ, zero, suc, ◌≤◌, List, [], ◌∷◌, ◌++◌, length, map, take, drop, refl, sym, ap, ◌∙◌, arith, Option, Some, None, Ok, Err, Bool}
+use Rattle.std.proofs.Common.{◌≡◌, ℕ, zero, suc, ◌≤◌, List, [], ◌∷◌, ◌++◌, take, drop, refl, sym, ap, ◌∙◌, arith, Option, Some, None, Ok, Err, Bool}
 use Rattle.std.specs.Prelude.{Result}
 use Rattle.std.specs.List.{find, filter_map}
-use Rattle.std.specs.Option.{option_or, option_map_or}
-use Rattle.std.proofs.lemmas.List.{take_all}
-use Rattle.std.proofs.lemmas.List.Folds.{find-append}
+use Rattle.std.specs.Option.{option_map_or}
 use Rattle.std.proofs.lemmas.List.Elements.{filter_map-append}
 use Rattle.cs_schema.specs.CatalogData.{CatalogData}
 use Rattle.cs_schema.specs.Losses.{Sites}
 use Rattle.cs_schema.specs.Rows.{Row}
 use Rattle.cs_safety.specs.PlanData.{PlanData}
-use Rattle.cs_rows.specs.Walk.{Contents, At, Stray, is_astray, walked_row, projection_rows, walked}
+use Rattle.cs_rows.specs.Walk.{Contents, At, Stray, projection_rows}
 use Rattle.cs_rows.specs.WalkByRows.{Reached, surviving_rows, without_repeats, walked_by_rows}
-use Rattle.cs_rows.specs.Range.{walked_among, rows_between}
-use Rattle.cs_rows.specs.RangeByRows.{is_stray_row, row_from, fresh_row, surviving_between, found_among, fresh_among}
-use Rattle.cs_rows.proofs.RangeLemmas.{map_append}
+use Rattle.cs_rows.specs.Range.{rows_between}
+use Rattle.cs_rows.specs.RangeByRows.{is_stray_row, row_from, fresh_row, fresh_among}
 
 -- ---- ranges
 
@@ -27,9 +24,6 @@ part_join (suc a) zero c xs h k = absurd (omega arith)
 part_join (suc a) (suc b) zero xs h k = absurd (omega arith)
 part_join (suc a) (suc b) (suc c) [] h k = refl
 part_join (suc a) (suc b) (suc c) (x ∷ xs) h k = part_join a b c xs (omega arith) (omega arith)
-
-pub part_all : {X : Type 0} (n : ℕ) (xs : List X) → length xs ≤ n → drop 0 (take n xs) ≡ xs
-part_all n xs h = take_all n xs h
 
 -- ---- the rows found from some starts, or the first start that is led astray
 
@@ -51,57 +45,20 @@ module _ {X : Type 0} (stray : X → Bool) (error : X → Stray) (rows : List X 
       go None f = absurd (cc)
       go (Some x) f = (x, refl, cc)
 
-  pub among_join : (xs ys : List X) (found more : List Row) → Ok found ≡ among xs → Ok more ≡ among ys → Ok (found ++ more) ≡ among (xs ++ ys)
-  among_join xs ys found more e f =
-      let a = among_ok xs found e in
-      let b = among_ok ys more f in
-      let none : find stray (xs ++ ys) ≡ None = find-append stray xs ys ∙ (λ i. option_or (a.0 i) (b.0 i)) in
-      let all : found ++ more ≡ rows (xs ++ ys) = (λ i. a.1 i ++ b.1 i) ∙ sym (joins xs ys) in
-      (λ i. Ok (all i)) ∙ sym (ap (λ (o : Option X). option_map_or (λ x. Err (error x)) o (Ok (rows (xs ++ ys)))) none)
-
-  pub among_stray : (xs ys zs : List X) (found : List Row) (e : Stray) → Ok found ≡ among xs → Err e ≡ among ys → Err e ≡ among (xs ++ (ys ++ zs))
-  among_stray xs ys zs found e f g =
-      let a = among_ok xs found f in
-      let b = among_err ys e g in
-      let first : find stray (xs ++ (ys ++ zs)) ≡ Some b.0 =
-      find-append stray xs (ys ++ zs) ∙ (λ i. option_or (a.0 i) (find stray (ys ++ zs))) ∙ find-append stray ys zs ∙ (λ i. option_or (b.1 i) (find stray zs)) in
-      (λ i. Err (b.2 i)) ∙ sym (ap (λ (o : Option X). option_map_or (λ x. Err (error x)) o (Ok (rows (xs ++ (ys ++ zs))))) first)
-
 -- ---- the walk of a plan
 
 module _ (C : CatalogData) (S : Contents) (P : PlanData) where
   abbrev at_anchor : At → Stray
   at_anchor at = (P.anchor, at.0, at.1)
 
-  pub walked_join : (xs ys : List At) (found more : List Row) → Ok found ≡ walked_among C S P xs → Ok more ≡ walked_among C S P ys → Ok (found ++ more) ≡ walked_among C S P (xs ++ ys)
-  walked_join = among_join (is_astray C S P) at_anchor (map (walked_row C S P)) (map_append (walked_row C S P))
-
-  pub walked_stray : (xs ys zs : List At) (found : List Row) (e : Stray) → Ok found ≡ walked_among C S P xs → Err e ≡ walked_among C S P ys → Err e ≡ walked_among C S P (xs ++ (ys ++ zs))
-  walked_stray = among_stray (is_astray C S P) at_anchor (map (walked_row C S P)) (map_append (walked_row C S P))
-
   pub rows_join : (a b c : ℕ) → a ≤ b → b ≤ c → rows_between C S P a c ≡ rows_between C S P a b ++ rows_between C S P b c
   rows_join a b c = part_join a b c (projection_rows C S P.anchor)
-
-  pub rows_all : (n : ℕ) → length (projection_rows C S P.anchor) ≤ n → walked_among C S P (rows_between C S P 0 n) ≡ walked C S P
-  rows_all n h = ap (walked_among C S P) (part_all n (projection_rows C S P.anchor) h)
 
 -- ---- the walk by rows
 
 module _ (C : CatalogData) (L : Sites) (S : Contents) where
   abbrev stray_of : Reached → Stray
   stray_of x = (x.0, x.1.0, x.1.1)
-
-  pub found_join : (xs ys : List Reached) (found more : List Row) → Ok found ≡ found_among C L S xs → Ok more ≡ found_among C L S ys → Ok (found ++ more) ≡ found_among C L S (xs ++ ys)
-  found_join = among_join (is_stray_row C L S) stray_of (filter_map (row_from C L S)) (filter_map-append (row_from C L S))
-
-  pub found_stray : (xs ys zs : List Reached) (found : List Row) (e : Stray) → Ok found ≡ found_among C L S xs → Err e ≡ found_among C L S ys → Err e ≡ found_among C L S (xs ++ (ys ++ zs))
-  found_stray = among_stray (is_stray_row C L S) stray_of (filter_map (row_from C L S)) (filter_map-append (row_from C L S))
-
-  pub surviving_join : (a b c : ℕ) → a ≤ b → b ≤ c → surviving_between C L S a c ≡ surviving_between C L S a b ++ surviving_between C L S b c
-  surviving_join a b c = part_join a b c (surviving_rows C L S)
-
-  pub surviving_all : (n : ℕ) → length (surviving_rows C L S) ≤ n → surviving_between C L S 0 n ≡ surviving_rows C L S
-  surviving_all n h = part_all n (surviving_rows C L S) h
 
   -- if no row is led astray, the walk by rows is the rows found from all surviving rows without later repeats of a key;
   -- rows that an earlier walk finds are such repeats
