@@ -1,8 +1,7 @@
 -- Tests of lists of texts.
 use Rattle.std.proofs.Common.{◌≡◌, ℕ, ℤ, zero, suc, min, ◌+◌, ◌<◌, ◌≤◌, Bool, true, ◌||◌, List, [], ◌∷◌, ◌++◌, append_assoc, length, get_or, drop, map, refl, ap, ◌∙◌, arith}
 use Rattle.std.proofs.lemmas.List.{drop_more}
-use Rattle.std.proofs.lemmas.List.Folds.{list_all-map}
-use Rattle.std.specs.List.{list_any, list_all}
+use Rattle.std.specs.List.{list_any}
 use Rattle.std.specs.Borrow.{Bor}
 use Rattle.std.proofs.Math.Seq.{drop-nil}
 use Rattle.cs_schema.specs.Document.{ColumnText}
@@ -15,9 +14,6 @@ list_any-map p h (y ∷ ys) = ap (λ b. p (h y) || b) (list_any-map p h ys)
 
 pub is_among-texts : (name : List ℕ) (rs : List (Bor (List ℕ))) → is_among name (texts rs) ≡ list_any (λ r. same_text r.now name) rs
 is_among-texts name rs = list_any-map (λ other. same_text other name) (λ r. r.now) rs
-
-pub list_all-texts : (p : List ℕ → Bool) (rs : List (Bor (List ℕ))) → list_all p (texts rs) ≡ list_all (λ r. p r.now) rs
-list_all-texts p rs = list_all-map p (λ r. r.now) rs
 
 pub length-texts : (rs : List (Bor (List ℕ))) → length (texts rs) ≡ length rs
 length-texts [] = refl

@@ -1,7 +1,5 @@
 -- What holds of the four lanes of a vector.
 use Rattle.std.proofs.Common.{◌≡◌, ℕ, zero, suc, ◌<◌, ◌*◌, ◌/◌, ◌%◌, ◌^◌, ◌-◌, List, [], ◌∷◌, length, slice_index, bit_or, arith, refl}
-use Rattle.std.proofs.lemmas.List.{get_or-map}
-use Rattle.cs_digests.specs.Lanes.{lane_at, words_of}
 use Rattle.std.specs.Int.{w32, rotate_right}
 use Rattle.std.specs.Simd.Lanes.{zip2}
 
@@ -37,7 +35,3 @@ rotates x k low high =
     let down : k ≡ k % 32 = omega arith in
     let up : 32 - k ≡ (32 - k % 32) % 32 = omega arith in
     λ i. bit_or (x / 2 ^ down i) (x * 2 ^ up i % 2 ^ 32)
-
--- a word of a message stands in its lane
-pub word_there : (w : List (List ℕ)) (j k : ℕ) → k < length w → slice_index (words_of j w) k ≡ lane_at w k j
-word_there w j k h = get_or-map (λ (v : List ℕ). slice_index v j) w k [] 0 h

@@ -90,9 +90,6 @@ less_or x y o h = go (nat_lt x y) refl
     go true e = inl (ltb-true x y e)
     go false e = same (x == y) refl e
 
-at_of : FileName → ℕ × ℕ
-at_of m = (projection_of m, segment_of m)
-
 before_or : (m n : FileName) (a : ℕ × ℕ) → IsNameOf a n → name_cmp m n ≡ Less → Before (projection_of m, segment_of m) a ⊎ IsNameOf a m
 before_or m n a of e =
     let f : slice_cmp nat_cmp (projection_of m ∷ segment_of m ∷ tail_of m) (projection_of n ∷ segment_of n ∷ tail_of n) ≡ Less = sym (ap (λ k. slice_cmp nat_cmp k (name_key n)) (key_tail m) ∙ ap (λ k. slice_cmp nat_cmp (projection_of m ∷ segment_of m ∷ tail_of m) k) (key_tail n)) ∙ e in

@@ -51,11 +51,6 @@ pub memory_or : (f : Fault) {P Q : Type 0} → MemoryOr f P → (P → Q) → Me
 memory_or f (inl m) g = inl m
 memory_or f (inr p) g = inr (g p)
 
--- a fault that no task has is out of memory
-pub only_memory : (f : Fault) {P : Type 0} → MemoryOr f P → (P → ⊥) → f ≡ Fault.Memory
-only_memory f (inl m) never = m
-only_memory f (inr p) never = absurd (never p)
-
 first_two : {X : Type 0} (a b c : Option X) (x : X) → option_or a b ≡ Some x → option_or a (option_or b c) ≡ Some x
 first_two (Some y) b c x e = e
 first_two None (Some y) c x e = e

@@ -2,7 +2,7 @@
 use Rattle.std.proofs.Common.{◌≡◌, ℕ, zero, suc, ◌<◌, ◌||◌, Bool, true, false, not, List, [], ◌∷◌, length, slice_index, ap, ◌∙◌, refl, arith}
 use Rattle.std.specs.List.{list_any}
 use Rattle.std.specs.Ordering.{is_le}
-use Rattle.std.specs.Prelude.{IsTrue, ◌↔◌}
+use Rattle.std.specs.Prelude.{IsTrue}
 use Rattle.std.proofs.lemmas.List.Sums.{count_by-le-length}
 use Rattle.cs_schema.specs.Lists.{member}
 use Rattle.cs_schema.specs.Values.{value_cmp}
@@ -36,6 +36,3 @@ module _ (C : CatalogData) (cat : IsCatalog C) (L : Sites) (p : ℕ) (h : p < le
 
   pub kept_alive : IsAlive C L p → IsTrue (alive C L p)
   kept_alive k = let e = (cat.projections p h).sites in ap not (all_none (member L) (projection C p).sites (λ s l. k s (omega (arith, l, e))))
-
-  pub alive_is : IsTrue (alive C L p) ↔ IsAlive C L p
-  alive_is = (alive_kept, kept_alive)
