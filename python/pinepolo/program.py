@@ -74,7 +74,7 @@ def fault(verb: str, status: int, text: str) -> DataError:
         return DataError(f"pinepolo {verb} was killed by signal {-status}", "run it again, with more memory if it was short", DEVICE)
     found, before = {"fault": f"pinepolo {verb} ended with status {status}", "next": ""}, ""
     for line in text.splitlines():
-        label, _, rest = line.partition(": ")
+        label, _, rest = line.removeprefix("pinepolo: ").partition(": ")
         if label in found:
             found[label] = rest
         else:

@@ -73,19 +73,23 @@ fn print_answer<R: AllocGlobal + Files + Print>(
     Ok(())
 }
 
-/// What a verb runs on.
-fn host_of<'a, R>(
+/// What a verb runs on, over the folders of sites that were found.
+fn host_of<'a, R: AllocGlobal>(
     rt: &'a R,
-    alloc: Global,
-    sited: &'a SitedRequest<'_>,
+    sited: Option<&'a SitedRequest<'_>>,
     calls: &'a FailedCalls,
 ) -> Host<'a, R, OpenGate> {
+    let sites = match sited {
+        Some(sited) => sited.sites(),
+        None => None,
+    };
     Host {
         rt,
-        alloc,
+        alloc: rt.alloc(),
         gate: &OpenGate,
-        sites: sited.sites(),
+        sites,
         calls,
+        prefix: "",
     }
 }
 
@@ -97,10 +101,9 @@ pub fn answer<R: Threads + Sync + AllocGlobal + Files + Print, P: World>(
     calls: &FailedCalls,
     is_full: bool,
 ) -> Result<()> {
-    let alloc = rt.alloc();
-    let host = host_of(rt, alloc, sited, calls);
-    let mut out = Vec::new(alloc);
-    let mut err = Vec::new(alloc);
+    let host = host_of(rt, Some(sited), calls);
+    let mut out = Vec::new(host.alloc);
+    let mut err = Vec::new(host.alloc);
     let status = if is_full {
         run(&host, &sited.parsed, places, &mut Full, &mut err)
     } else {
@@ -115,9 +118,9 @@ pub fn refuse<R: AllocGlobal + Files + Print>(
     refusal: &SitesRefusal<'_>,
     calls: &FailedCalls,
 ) -> Result<()> {
-    let alloc = rt.alloc();
-    let (mut out, mut err) = (Vec::new(alloc), Vec::new(alloc));
+    let host = host_of(rt, None, calls);
+    let (mut out, mut err) = (Vec::new(host.alloc), Vec::new(host.alloc));
     let (error, request) = (&refusal.error, &refusal.request);
-    let status = say_error(alloc, calls, error, request, &mut out, &mut err);
+    let status = say_error(&host, error, request, &mut out, &mut err);
     print_answer(rt, out.as_slice(), err.as_slice(), status)
 }

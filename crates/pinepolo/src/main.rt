@@ -25,20 +25,25 @@ fn no_failed_calls(alloc: Global) -> Result<Arc<FailedCalls>, AllocError> {
     }
 }
 
-/// What a verb runs on.
-fn host_of<'a, R, G>(
+/// What a verb runs on, over the folders of sites that were found.
+fn host_of<'a, R: AllocGlobal, G>(
     rt: &'a R,
-    alloc: Global,
     gate: &'a G,
-    sited: &'a SitedRequest<'_>,
+    sited: Option<&'a SitedRequest<'_>>,
     calls: &'a FailedCalls,
+    prefix: &'a str,
 ) -> Host<'a, R, G> {
+    let sites = match sited {
+        Some(sited) => sited.sites(),
+        None => None,
+    };
     Host {
         rt,
-        alloc,
+        alloc: rt.alloc(),
         gate,
-        sites: sited.sites(),
+        sites,
         calls,
+        prefix,
     }
 }
 
@@ -51,8 +56,13 @@ fn main(rt: HostRuntime) -> ExitCode {
     let mut out = rt.stdout();
     let mut err = rt.stderr();
     let gate = ProgressLine::new(rt, err, err.is_terminal(), u64::from(CUT));
+    let prefix = if out.is_terminal() && err.is_terminal() {
+        ""
+    } else {
+        "pinepolo: "
+    };
     let Ok(calls) = no_failed_calls(alloc) else {
-        return ExitCode::from(say_early(&VerbError::OutOfMemory, &mut err));
+        return ExitCode::from(say_early(&VerbError::OutOfMemory, prefix, &mut err));
     };
     let files = NotedFiles { rt, calls: &calls };
     let mut places = Folders::new(alloc, files);
@@ -61,25 +71,22 @@ fn main(rt: HostRuntime) -> ExitCode {
             Ok(words) => {
                 match places.find_sites_of(parse(alloc, words.as_slice(), processors)) {
                     Ok(sited) => {
-                        let host = host_of(&rt, alloc, &gate, &sited, &calls);
+                        let host = host_of(&rt, &gate, Some(&sited), &calls, prefix);
                         run(&host, &sited.parsed, &mut places, &mut out, &mut err)
                     }
-                    Err(refusal) => say_error(
-                        alloc,
-                        &calls,
-                        &refusal.error,
-                        &refusal.request,
-                        &mut out,
-                        &mut err,
-                    ),
+                    Err(refusal) => {
+                        let host = host_of(&rt, &gate, None, &calls, prefix);
+                        let (error, request) = (&refusal.error, &refusal.request);
+                        say_error(&host, error, request, &mut out, &mut err)
+                    }
                 }
             }
-            Err(_) => say_early(&VerbError::OutOfMemory, &mut err),
+            Err(_) => say_early(&VerbError::OutOfMemory, prefix, &mut err),
         },
         Err(e) if e.kind() == io::ErrorKind::OutOfMemory => {
-            say_early(&VerbError::OutOfMemory, &mut err)
+            say_early(&VerbError::OutOfMemory, prefix, &mut err)
         }
-        Err(_) => say_early(&VerbError::NotUtf8, &mut err),
+        Err(_) => say_early(&VerbError::NotUtf8, prefix, &mut err),
     };
     ExitCode::from(status)
 }

@@ -1,11 +1,11 @@
 //! A diagnosis as JSON.
+use crate::bad_json::bad_objects;
 use crate::disputed_json::dispute_objects;
 use cs_diagnosis::{Diagnosis, Explanation};
-use cs_reports::file_objects;
 use cs_reports::object::{Object, losses, number_or_null};
 use pinepolo_answers::{Diagnosed, files_of};
 use pinepolo_places::WorkKind;
-use pinepolo_text::{number_of, rows_of, verdict_word, with_unfinished};
+use pinepolo_text::{At, number_of, rows_of, verdict_word, with_unfinished};
 use serde_json::Value;
 use std::alloc::{AllocError, Global};
 
@@ -14,6 +14,7 @@ pub fn diagnosed_object(
     alloc: Global,
     diagnosed: &Diagnosed,
     unfinished: Option<WorkKind>,
+    at: At<'_>,
 ) -> Result<Value, AllocError> {
     let diagnosis = &diagnosed.diagnosis;
     let reach = &diagnosis.reach;
@@ -22,7 +23,7 @@ pub fn diagnosed_object(
     let object = Object::of_verb(alloc, "diagnose")
         .number("at_most", u64::from(reach.at_most))
         .member("certain", Ok(number_or_null(reach.certain)))
-        .member("files", file_objects(alloc, bad.as_slice()))
+        .member("files", bad_objects(alloc, at, bad.as_slice()))
         .sites("forced", diagnosis.forced)
         .member("explanations", explanation_objects(alloc, diagnosis))
         .text("verdict", verdict_word(diagnosis.verdict))

@@ -1,7 +1,7 @@
 //! Errors as JSON.
-use cs_file_system::FailedCall;
+use crate::bad_json::{bad_objects, with_call};
 use cs_reports::object::Object;
-use cs_reports::{file_objects, with_fault};
+use cs_reports::with_fault;
 use cs_schema::FileName;
 use pinepolo_places::{CsvPlace, Refusal, SitesError, StoreError, Subject, VerbError};
 use pinepolo_text::{ErrorText, ErrorWords};
@@ -87,57 +87,58 @@ fn with_refusal(object: Object, refusal: &Refusal) -> Object {
 }
 
 /// The object with a fault of a store, or with all bad files if they are known.
-fn with_store(alloc: Global, object: Object, error: &StoreError) -> Object {
-    if error.bad.is_empty() {
-        return with_fault(object, error.site, &error.fault);
+fn with_store(
+    alloc: Global,
+    object: Object,
+    error: &StoreError,
+    text: &ErrorText<'_>,
+) -> Result<Object, AllocError> {
+    match text.at {
+        Some(at) if !error.bad.is_empty() => {
+            let bad = bad_objects(alloc, at, error.bad.as_slice());
+            Ok(object.text("kind", "bad files").member("bad", bad))
+        }
+        _ => {
+            let object = with_fault(object, error.site, &error.fault);
+            match text.failed() {
+                Some(call) => with_call(alloc, object, call),
+                None => Ok(object),
+            }
+        }
     }
-    object
-        .text("kind", "bad files")
-        .member("bad", file_objects(alloc, error.bad.as_slice()))
 }
 
-/// The object with the call that failed, and the system's number of what is wrong.
-fn with_call(alloc: Global, object: Object, call: &FailedCall) -> Result<Object, AllocError> {
-    let operation = format!(in alloc; "{}", call.operation)?;
-    let object = object
-        .text("operation", operation.as_str())
-        .text("path", call.path.as_str());
-    Ok(match call.error.raw_os_error() {
-        Some(number) => object.number("os_error", u64::from(number.unsigned_abs())),
-        None => object,
-    })
+/// The object of a failed call, or of what failed at a path.
+fn with_device(
+    alloc: Global,
+    object: Object,
+    subject: &Subject,
+    text: &ErrorText<'_>,
+) -> Result<Object, AllocError> {
+    let object = object.text("kind", "device");
+    match text.failed() {
+        Some(call) => { with_call(alloc, object.text("path", call.path.as_str()), call) }
+        None => Ok(with_path(object, subject)),
+    }
 }
 
 /// Why a verb ended early, as one object.
-pub fn error_object<'a>(
-    alloc: Global,
-    verb: &str,
-    error: &'a VerbError,
-    failed: Option<&'a FailedCall>,
-) -> Result<Value, AllocError> {
-    let words = ErrorWords(ErrorText {
-        error,
-        sites: None,
-        failed,
-    });
-    let text = format!(in alloc; "{words}")?;
+pub fn error_object(alloc: Global, verb: &str, text: &ErrorText<'_>) -> Result<Value, AllocError> {
+    let words = ErrorWords(*text);
+    let fault = format!(in alloc; "{words}")?;
     let object = Object::of_verb(alloc, verb)
         .truth("ok", false)
         .member("files", Ok(Value::Array(Vec::new(alloc))))
-        .text("fault", text.as_str());
-    let object = match error {
+        .text("fault", fault.as_str());
+    let object = match text.error {
         VerbError::NotUtf8 | VerbError::OutOfMemory => object,
         VerbError::Catalog(_, subject) => with_path(object.text("kind", "catalog"), subject),
-        VerbError::Device(_, subject) => {
-            let object = object.text("kind", "device");
-            match failed {
-                Some(call) => with_call(alloc, object, call)?,
-                None => with_path(object, subject),
-            }
-        }
+        VerbError::Device(_, subject) => with_device(alloc, object, subject, text)?,
         VerbError::Refused(refusal, subject) => with_path(with_refusal(object, refusal), subject),
         VerbError::Sites(error) => object.text("kind", sites_kind(error)),
-        VerbError::Store(error) => with_path(with_store(alloc, object, error), &error.subject),
+        VerbError::Store(error) => {
+            with_path(with_store(alloc, object, error, text)?, &error.subject)
+        }
     };
     object.finish()
 }

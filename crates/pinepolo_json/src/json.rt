@@ -1,5 +1,6 @@
 //! Answers as JSON.
 use crate::away_json::with_away;
+use crate::bad_json::bad_objects;
 use crate::diagnosed_json::diagnosed_object;
 use crate::drilled_json::drilled_object;
 use crate::new_store_json::new_store_object;
@@ -7,36 +8,35 @@ use crate::restored_json::{found_object, restoration_object};
 use crate::undone_json::undone_object;
 use crate::verified_json::verified_object;
 use cs_reports::object::{Object, number_or_null};
-use cs_reports::{design_object, fault_site, file_object, file_objects, site_of, with_fault};
+use cs_reports::{design_object, fault_site, file_object, site_of, with_fault};
 use cs_schema::{Catalog, FileName};
 use pinepolo_answers::{Answer, Checked, Recovered, Verdict, files_of};
-use pinepolo_places::Sited;
-use pinepolo_text::{Wrong, file_object as shown_file_object, store_object, with_unfinished};
+use pinepolo_text::{
+    AnswerText, At, Wrong, file_object as shown_file_object, store_object, with_unfinished,
+};
 use serde_json::Value;
 use std::alloc::{AllocError, Global};
 
 /// An answer as one object, with the sites that are away if it is on a store whose sites have folders of their own; null if it
 /// is a text itself, whose verb has no JSON.
-pub fn answer_object(
-    alloc: Global,
-    answer: &Answer,
-    sites: Option<Sited<'_>>,
-) -> Result<Value, AllocError> {
-    with_away(alloc, answer, sites, object_of(alloc, answer))
+pub fn answer_object(alloc: Global, text: &AnswerText<'_>) -> Result<Value, AllocError> {
+    with_away(alloc, text, object_of(alloc, text.answer, text.at))
 }
 
 /// An answer as one object.
-fn object_of(alloc: Global, answer: &Answer) -> Result<Value, AllocError> {
+fn object_of(alloc: Global, answer: &Answer, at: At<'_>) -> Result<Value, AllocError> {
     match answer {
-        Answer::Checked(checked) => checked_object(alloc, checked),
+        Answer::Checked(checked) => checked_object(alloc, checked, at),
         Answer::Drilled(drilled) => drilled_object(alloc, drilled),
         Answer::Shown(view) => store_object(alloc, view),
         Answer::ShownFile(view) => shown_file_object(alloc, view),
-        Answer::Diagnosed(diagnosed) => diagnosed_object(alloc, diagnosed, diagnosed.unfinished),
+        Answer::Diagnosed(diagnosed) => {
+            diagnosed_object(alloc, diagnosed, diagnosed.unfinished, at)
+        }
         Answer::Recovered(recovered) => recovered_object(alloc, recovered),
-        Answer::Restored(restoration) => restoration_object(alloc, restoration),
-        Answer::RestoredFound(found) => found_object(alloc, found),
-        Answer::Verified(verified) => verified_object(alloc, verified),
+        Answer::Restored(restoration) => restoration_object(alloc, restoration, at),
+        Answer::RestoredFound(found) => found_object(alloc, found, at),
+        Answer::Verified(verified) => verified_object(alloc, verified, at),
         Answer::Undone(undone) => undone_object(alloc, undone),
         Answer::Designed(designed) => design_object(alloc, &designed.design),
         Answer::Loaded(store) => new_store_object(alloc, "load", store),
@@ -46,9 +46,9 @@ fn object_of(alloc: Global, answer: &Answer) -> Result<Value, AllocError> {
 }
 
 /// What a check came to.
-fn checked_object(alloc: Global, checked: &Checked) -> Result<Value, AllocError> {
+fn checked_object(alloc: Global, checked: &Checked, at: At<'_>) -> Result<Value, AllocError> {
     let bad = files_of(alloc, &checked.catalog, checked.bad.as_slice(), &[])?;
-    let files = file_objects(alloc, bad.as_slice());
+    let files = bad_objects(alloc, at, bad.as_slice());
     let object = Object::of_verb(alloc, "check").member("files", files);
     let object = with_unfinished(object, checked.unfinished);
     let object = match &checked.verdict {

@@ -2,6 +2,7 @@
 #![tactic(auto)]
 
 mod away_json;
+mod bad_json;
 mod diagnosed_json;
 mod disputed_json;
 mod drilled_json;

@@ -6,20 +6,24 @@ use cs_reports::object::{Object, count_or_null};
 use cs_schema::Loss;
 use pinepolo_answers::{Doubted, FoundRestore, Restoration, Restored, spare_sites};
 use pinepolo_places::WorkKind;
-use pinepolo_text::{verdict_word, what_word};
+use pinepolo_text::{At, verdict_word, what_word};
 use serde_json::Value;
 use std::alloc::{AllocError, Global};
 
 /// What a restore came to.
-pub fn restoration_object(alloc: Global, restoration: &Restoration) -> Result<Value, AllocError> {
+pub fn restoration_object(
+    alloc: Global,
+    restoration: &Restoration,
+    at: At<'_>,
+) -> Result<Value, AllocError> {
     match restoration {
         Restoration::Done(restored) => restored_object(alloc, restored),
-        Restoration::Doubted(doubted) => doubted_object(alloc, doubted),
+        Restoration::Doubted(doubted) => doubted_object(alloc, doubted, at),
     }
 }
 
 /// A loss that is in doubt, with the diagnosis that makes it so, and the sites that need not be lost.
-fn doubted_object(alloc: Global, doubted: &Doubted) -> Result<Value, AllocError> {
+fn doubted_object(alloc: Global, doubted: &Doubted, at: At<'_>) -> Result<Value, AllocError> {
     let diagnosed = &doubted.diagnosed;
     let spare = spare_sites(&diagnosed.diagnosis, doubted.lost);
     let unfinished = if doubted.resumes {
@@ -34,19 +38,22 @@ fn doubted_object(alloc: Global, doubted: &Doubted) -> Result<Value, AllocError>
         .member("files", Ok(Value::Array(Vec::new(alloc))))
         .sites("lost", doubted.lost)
         .sites("spare", spare)
-        .member("diagnosis", diagnosed_object(alloc, diagnosed, unfinished))
+        .member(
+            "diagnosis",
+            diagnosed_object(alloc, diagnosed, unfinished, at),
+        )
         .finish()
 }
 
 /// What a restore came to that found by itself what was lost, with its diagnosis.
-pub fn found_object(alloc: Global, found: &FoundRestore) -> Result<Value, AllocError> {
+pub fn found_object(alloc: Global, found: &FoundRestore, at: At<'_>) -> Result<Value, AllocError> {
     let object = match &found.restoration {
         Some(Restoration::Done(restored)) => restored_members(alloc, restored),
-        Some(Restoration::Doubted(doubted)) => return doubted_object(alloc, doubted),
+        Some(Restoration::Doubted(doubted)) => return doubted_object(alloc, doubted, at),
         None => unrestored_members(alloc, found),
     };
     let diagnosed = &found.diagnosed;
-    let diagnosis = diagnosed_object(alloc, diagnosed, diagnosed.unfinished);
+    let diagnosis = diagnosed_object(alloc, diagnosed, diagnosed.unfinished, at);
     object.member("diagnosis", diagnosis).finish()
 }
 

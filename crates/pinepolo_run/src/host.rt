@@ -3,7 +3,9 @@ ghost use Rattle.std.specs.Prelude.{◌≤◌};
 
 use cs_file_system::FailedCalls;
 use cs_rebuild::Run;
+use pinepolo_args::Request;
 use pinepolo_places::Sited;
+use pinepolo_text::At;
 use std::alloc::Global;
 
 /// How many rows a piece of work has.
@@ -20,6 +22,8 @@ pub struct Host<'a, R, G> {
     pub sites: Option<Sited<'a>>,
     /// The calls on files that failed, with what the system said of them.
     pub calls: &'a FailedCalls,
+    /// What stands before each fault: the program's name, unless a terminal shows it.
+    pub prefix: &'a str,
 }
 
 impl<'a, R, G> Host<'a, R, G> {
@@ -33,6 +37,20 @@ impl<'a, R, G> Host<'a, R, G> {
             workers,
             cut: CUT,
             gate: self.gate,
+        }
+    }
+
+    /// Where the store of a request is.
+    pub fn at(&self, request: &Request<'a>) -> At<'a> {
+        let sites = match (self.sites, request.sites) {
+            (None, Some(file)) => Some(Sited { file, away: &[] }),
+            (sites, _) => sites,
+        };
+        At {
+            store: request.verb.path(),
+            sites,
+            calls: self.calls,
+            prefix: self.prefix,
         }
     }
 }

@@ -7,7 +7,7 @@ ghost use Rattle.pinepolo_places.specs.Status.{status_of};
 use pinepolo_answers::{Answer, Dumped, Listed};
 use pinepolo_json::{answer_object, error_object};
 use pinepolo_places::{DEVICE, DONE, MEMORY, WorkKind};
-use pinepolo_text::{AnswerText, ErrorText, ListedText, Unfinished, store_words};
+use pinepolo_text::{AnswerText, At, ErrorText, ListedText, Unfinished};
 use serde_json::Value;
 use std::alloc::{AllocError, Global};
 use std::io;
@@ -26,35 +26,45 @@ fn object_text(alloc: Global, object: Result<Value, AllocError>) -> Option<Strin
 /// An answer's text, as JSON or as lines.
 fn text_of(alloc: Global, text: &AnswerText<'_>, json: bool) -> Option<String> {
     if json {
-        object_text(alloc, answer_object(alloc, text.answer, text.sites))
+        object_text(alloc, answer_object(alloc, text))
     } else {
         format!(in alloc; "{text}").ok()
     }
 }
 
-/// The status if standard output took what was written, or that of a device, which is said on `err`. Who closed a pipe that was
-/// written to is told nothing.
-fn written<E: Write>(done: io::Result<()>, status: u8, err: &mut E) -> u8
+/// The status if standard output took what was written, or that of a device, which is said on `err` behind a prefix. Who closed a
+/// pipe that was written to is told nothing.
+fn written<E: Write>(done: io::Result<()>, status: u8, prefix: &str, err: &mut E) -> u8
     ensures { (result ≡ status) ⊎ (result ≡ DEVICE) }
 {
     match done {
         Ok(()) => status,
         Err(e) if e.kind() == ErrorKind::BrokenPipe => DEVICE,
         Err(e) => {
-            let _said = writeln!(err, "fault: could not write to standard output: {e}").is_ok();
+            let _said = writeln!(
+                err,
+                "{prefix}fault: could not write to standard output: {e}"
+            )
+            .is_ok();
             DEVICE
         }
     }
 }
 
 /// Writes a text, and gives the status if that was possible.
-fn print<W: Write, E: Write>(text: Option<String>, status: u8, out: &mut W, err: &mut E) -> u8
+fn print<W: Write, E: Write>(
+    text: Option<String>,
+    status: u8,
+    prefix: &str,
+    out: &mut W,
+    err: &mut E,
+) -> u8
     ensures { (result ≡ status) ⊎ ((result ≡ MEMORY) ⊎ (result ≡ DEVICE)) }
 {
     let Some(text) = text else {
         return MEMORY;
     };
-    written(out.write_all(text.as_bytes()), status, err)
+    written(out.write_all(text.as_bytes()), status, prefix, err)
 }
 
 /// Prints an answer, and gives its status: that of a device where it can't be written. What is said beside the text of a table
@@ -68,9 +78,9 @@ pub fn say<W: Write, E: Write>(
 ) -> u8
     ensures { (result ≡ answer_status text.now.answer.now) ⊎ ((result ≡ MEMORY) ⊎ (result ≡ DEVICE)) }
 {
-    let answer = text.answer;
+    let (answer, prefix) = (text.answer, text.at.prefix);
     if let Some(kind) = unfinished(answer) {
-        let store = store_words(text.store, text.sites);
+        let store = text.at.words();
         if warn(Unfinished { kind, store }, err) != DONE {
             return DEVICE;
         }
@@ -81,9 +91,15 @@ pub fn say<W: Write, E: Write>(
                 text: Some(text),
                 ..
             },
-        ) => print_bytes(text.as_slice(), DONE, out, err),
-        Answer::Listed(listed) => print_listed(listed, out, err),
-        _ => print(text_of(alloc, text, json), answer.status(), out, err),
+        ) => print_bytes(text.as_slice(), DONE, prefix, out, err),
+        Answer::Listed(listed) => print_listed(listed, text.at, out, err),
+        _ => print(
+            text_of(alloc, text, json),
+            answer.status(),
+            prefix,
+            out,
+            err,
+        ),
     }
 }
 
@@ -104,18 +120,24 @@ fn warn<E: Write>(unfinished: Unfinished<'_>, err: &mut E) -> u8 {
 }
 
 /// Writes a text, and gives this status: that of a device if it can't be written.
-pub fn print_bytes<W: Write, E: Write>(text: &[u8], status: u8, out: &mut W, err: &mut E) -> u8
+pub fn print_bytes<W: Write, E: Write>(
+    text: &[u8],
+    status: u8,
+    prefix: &str,
+    out: &mut W,
+    err: &mut E,
+) -> u8
     ensures { (result ≡ status) ⊎ (result ≡ DEVICE) }
 {
-    written(out.write_all(text), status, err)
+    written(out.write_all(text), status, prefix, err)
 }
 
 /// Writes a manifest, and on `err` the files that have no line in it, and gives the status where that was possible.
-fn print_listed<W: Write, E: Write>(listed: &Listed, out: &mut W, err: &mut E) -> u8
+fn print_listed<W: Write, E: Write>(listed: &Listed, at: At<'_>, out: &mut W, err: &mut E) -> u8
     ensures { (result ≡ listed_status listed.now.files.items) ⊎ (result ≡ DEVICE) }
 {
-    let status = print_bytes(listed.text.as_slice(), listed.status(), out, err);
-    let text = ListedText(listed);
+    let status = print_bytes(listed.text.as_slice(), listed.status(), at.prefix, out, err);
+    let text = ListedText { listed, at };
     match write!(err, "{text}") {
         Ok(()) => status,
         Err(_) => DEVICE,
@@ -143,6 +165,6 @@ pub fn say_object<W: Write, E: Write>(
     ensures { (result ≡ status_of text.now.error.now) ⊎ ((result ≡ MEMORY) ⊎ (result ≡ DEVICE)) }
 {
     let status = text.error.status();
-    let object = object_text(alloc, error_object(alloc, verb, text.error, text.failed));
-    print(object, status, out, err)
+    let object = object_text(alloc, error_object(alloc, verb, text));
+    print(object, status, text.prefix, out, err)
 }

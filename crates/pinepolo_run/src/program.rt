@@ -6,22 +6,20 @@ ghost use Rattle.pinepolo_run.specs.Requests.{IsSaid, Runs, exit_status};
 
 use crate::host::Host;
 use crate::printing::{print_bytes, report, say, say_object};
-use cs_file_system::FailedCalls;
 use pinepolo_args::{ParseExit, Request};
 use pinepolo_places::{DEVICE, DONE, USAGE, VerbError, World};
 use pinepolo_progress::Progress;
-use pinepolo_text::{AnswerText, ErrorText, failed_call};
+use pinepolo_text::{AnswerText, ErrorText};
 use pinepolo_verbs::perform;
-use std::alloc::Global;
 use std::io::Write;
 use std::marker::Sync;
 use std::thread::Threads;
 
 /// Does what was asked for, prints its answer, and gives its status: 0 done or sound, 1 refused, 2 a usage error, 3 out
 /// of memory, 4 a file, a folder or a stream failed, 5 ambiguous, 6 not recoverable. If there is no request, it prints why.
-pub fn run<R: Threads + Sync, G: Progress + Sync, P: World, W: Write, E: Write>(
-    host: &Host<'_, R, G>,
-    parsed: &Result<Request<'_>, ParseExit>,
+pub fn run<'a, R: Threads + Sync, G: Progress + Sync, P: World, W: Write, E: Write>(
+    host: &Host<'a, R, G>,
+    parsed: &Result<Request<'a>, ParseExit>,
     places: &mut P,
     out: &mut W,
     err: &mut E,
@@ -58,7 +56,7 @@ pub fn run<R: Threads + Sync, G: Progress + Sync, P: World, W: Write, E: Write>(
 {
     let request = match parsed {
         Ok(request) => request,
-        Err(exit) => return say_exit(exit, out, err),
+        Err(exit) => return say_exit(host.prefix, exit, out, err),
     };
     if request.quiet {
         host.gate.silence();
@@ -68,25 +66,23 @@ pub fn run<R: Threads + Sync, G: Progress + Sync, P: World, W: Write, E: Write>(
     host.gate.erase();
     match done {
         Ok(answer) => {
-            let store = request.verb.path();
             let text = AnswerText {
                 answer: &answer,
-                store,
-                sites: host.sites,
+                at: host.at(request),
             };
             say(host.alloc, &text, request.json, out, err)
         }
-        Err(error) => say_error(host.alloc, host.calls, &error, request, out, err),
+        Err(error) => say_error(host, &error, request, out, err),
     }
 }
 
 /// Prints why there is no request, and gives the status.
-fn say_exit<W: Write, E: Write>(exit: &ParseExit, out: &mut W, err: &mut E) -> u8
+fn say_exit<W: Write, E: Write>(prefix: &str, exit: &ParseExit, out: &mut W, err: &mut E) -> u8
     ensures { IsSaid (exit_status exit.now) result }
 {
     match exit {
-        ParseExit::OutOfMemory => say_early(&VerbError::OutOfMemory, err),
-        ParseExit::Help(text) => print_bytes(text.as_bytes(), DONE, out, err),
+        ParseExit::OutOfMemory => say_early(&VerbError::OutOfMemory, prefix, err),
+        ParseExit::Help(text) => print_bytes(text.as_bytes(), DONE, prefix, out, err),
         ParseExit::Usage(text) => match err.write_all(text.as_bytes()) {
             Ok(()) => USAGE,
             Err(_) => DEVICE,
@@ -96,43 +92,31 @@ fn say_exit<W: Write, E: Write>(exit: &ParseExit, out: &mut W, err: &mut E) -> u
 
 /// Prints why a verb stopped early, with what the system said of the call that failed, and gives the status: as JSON if that is
 /// wanted, and else as text.
-pub fn say_error<'a, W: Write, E: Write>(
-    alloc: Global,
-    calls: &'a FailedCalls,
+pub fn say_error<'a, R, G, W: Write, E: Write>(
+    host: &Host<'a, R, G>,
     error: &'a VerbError,
-    request: &'a Request<'a>,
+    request: &Request<'a>,
     out: &mut W,
     err: &mut E,
 ) -> u8
     ensures { IsSaid (status_of error.now) result }
 {
-    let sites = match request.sites {
-        Some(file) if error.is_about(request.verb.path()) => Some(file),
-        _ => None,
-    };
-    let failed = failed_call(error, calls);
     let text = ErrorText {
         error,
-        sites,
-        failed,
+        at: Some(host.at(request)),
+        prefix: host.prefix,
     };
     match error {
         VerbError::OutOfMemory => report(&text, err),
-        _ if request.json => say_object(alloc, request.verb.name(), &text, out, err),
+        _ if request.json => say_object(host.alloc, request.verb.name(), &text, out, err),
         _ => report(&text, err),
     }
 }
 
-/// Says why there was no request to perform, and gives the status.
-pub fn say_early<E: Write>(error: &VerbError, err: &mut E) -> u8
+/// Says why there was no request to perform, behind a prefix, and gives the status.
+pub fn say_early<E: Write>(error: &VerbError, prefix: &str, err: &mut E) -> u8
     ensures { IsSaid (status_of error.now) result }
 {
-    report(
-        &ErrorText {
-            error,
-            sites: None,
-            failed: None,
-        },
-        err,
-    )
+    let at = None;
+    report(&ErrorText { error, at, prefix }, err)
 }

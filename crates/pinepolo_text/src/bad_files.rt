@@ -1,8 +1,10 @@
 //! Bad files in lines, one for each, or one for a site of which no file is left.
+use crate::at::{At, has};
+use crate::unread::{BadFileLine, Mend};
 use cs_inspection::Badness;
 use cs_reports::{BadFile, site_of, with_site};
 use cs_schema::{Catalog, FileName, Loss};
-use pinepolo_answers::{ChangedFile, problem_in};
+use pinepolo_answers::{ChangedFile, problem_in, problem_of};
 use std::fmt;
 
 /// A line for each bad file, and one for each site whose files are all missing.
@@ -12,8 +14,8 @@ pub struct BadLines<'a> {
     pub bad: &'a [(FileName, Badness)],
     /// Those of which a manifest says another digest.
     pub changed: &'a [ChangedFile],
-    /// The sites that are away, whose files have no lines.
-    pub away: Loss,
+    /// Where the store is. The files of sites that are away have no lines.
+    pub at: At<'a>,
 }
 
 /// How many files a catalog has on a site.
@@ -59,21 +61,29 @@ impl BadLines<'_> {
     }
 }
 
-/// Whether a loss has a site.
-pub fn has(loss: Loss, site: u8) -> bool {
-    (1..=16).contains(&site) && loss.has(site)
+/// What is to be mended before the first of these bad files can be read, if anything is.
+pub fn mend_of<'a>(at: At<'a>, catalog: &Catalog, bad: &[(FileName, Badness)]) -> Option<Mend<'a>> {
+    for (name, badness) in bad {
+        let file = BadFile::new(catalog, *name, problem_of(*badness));
+        let mend = Mend::of(at, &file);
+        if mend.is_some() {
+            return mend;
+        }
+    }
+    None
 }
 
 impl fmt::Display for BadLines<'_> {
     fn fmt<W: fmt::Write>(&self, f: &mut fmt::Formatter<W>) -> fmt::Result {
-        let gone = self.gone();
-        let mut said = self.away;
+        let (at, gone, away) = (self.at, self.gone(), self.at.away_sites());
+        let mut said = away;
         for (name, badness) in self.bad {
             let site = site_of(self.catalog, name.projection(), name.segment()).unwrap_or(0);
-            if !has(gone, site) && !has(self.away, site) {
+            if !has(gone, site) && !has(away, site) {
                 let problem = problem_in(self.changed, *name, *badness);
-                let file = BadFile::new(self.catalog, *name, problem);
-                write!(f, "{file}")?;
+                let file = &BadFile::new(self.catalog, *name, problem);
+                let line = BadFileLine { file, at };
+                write!(f, "{line}")?;
             } else if !has(said, site) {
                 said = with_site(said, Some(site));
                 let count = files_on(self.catalog, site);

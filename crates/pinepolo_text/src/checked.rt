@@ -1,12 +1,13 @@
 //! What a check answers, in words.
-use crate::Unfinished;
-use crate::bad_files::BadLines;
-use crate::sited::{AwayLines, ToWords, away_sites, store_words};
-use cs_reports::{FaultWords, Next, SiteWords};
+use crate::at::At;
+use crate::bad_files::{BadLines, mend_of};
+use crate::next_step::{NextLine, NextStep, Restoring};
+use crate::sited::AwayLines;
+use crate::unfinished::write_unfinished;
+use cs_reports::FaultWords;
 use cs_safety::safe;
 use cs_store::Fault;
 use pinepolo_answers::{Checked, Verdict};
-use pinepolo_places::Sited;
 use std::fmt;
 
 /// What is wrong with a store that is not sound, in words of one line.
@@ -36,74 +37,69 @@ impl fmt::Display for Wrong<'_> {
     }
 }
 
-/// What a check of the store at a path found, as lines.
+/// What a check of a store found, as lines.
 #[derive(Clone, Copy)]
 pub struct CheckedText<'a> {
     pub checked: &'a Checked,
-    /// The folder of the store.
-    pub store: &'a str,
-    /// Where its sites stand, if not there.
-    pub sites: Option<Sited<'a>>,
+    pub at: At<'a>,
 }
 
-impl CheckedText<'_> {
+impl<'a> CheckedText<'a> {
     /// What to do next about bad files.
-    fn write_recovery<W: fmt::Write>(&self, f: &mut fmt::Formatter<W>) -> fmt::Result {
-        let loss = self.checked.bad_sites();
-        let (store, sites) = (store_words(self.store, self.sites), SiteWords(loss));
-        if safe(&self.checked.catalog, loss) {
-            let to = ToWords {
-                sites: self.sites,
+    fn recovery(&self) -> NextStep<'a> {
+        let (checked, at) = (self.checked, self.at);
+        let loss = checked.bad_sites();
+        let mend = mend_of(at, &checked.catalog, checked.bad.as_slice());
+        if safe(&checked.catalog, loss) {
+            return NextStep::Restore(Restoring {
+                at,
+                verb: "check",
+                mend,
+                accepts_loss: false,
                 loss,
-            };
-            writeln!(f, "next: pinepolo restore {to}{store}{sites}")
-        } else {
-            writeln!(
-                f,
-                "next: bring back files of some of these sites: {loss} can't be recovered together"
-            )
+            });
+        }
+        match mend {
+            Some(mend) => NextStep::Again(mend),
+            None => NextStep::BringBack(loss),
         }
     }
 
-    /// What to do next.
-    fn write_next<W: fmt::Write>(&self, f: &mut fmt::Formatter<W>) -> fmt::Result {
+    /// What to do next, if anything.
+    pub fn next(&self) -> Option<NextStep<'a>> {
+        let store = self.at.words();
         if let Some(kind) = self.checked.unfinished {
-            let store = store_words(self.store, self.sites);
-            let unfinished = Unfinished { kind, store };
-            return write!(f, "{unfinished}");
+            return Some(NextStep::Resume(kind, store));
         }
-        let fault = match &self.checked.verdict {
-            Verdict::Sound { .. } => return Ok(()),
-            Verdict::BadFiles => return self.write_recovery(f),
-            Verdict::Fatal { loss, .. } => Fault::Unsafe(*loss),
-            Verdict::Unsound(fault) => *fault,
-        };
-        let next = Next {
-            store: store_words(self.store, self.sites),
-            fault: &fault,
-        };
-        writeln!(f, "next: {next}")
+        match &self.checked.verdict {
+            Verdict::Sound { .. } => None,
+            Verdict::BadFiles => Some(self.recovery()),
+            Verdict::Fatal { .. } => Some(NextStep::Ask("design", store)),
+            Verdict::Unsound(fault) => Some(NextStep::ByFault(*fault, store)),
+        }
     }
 }
 
 impl fmt::Display for CheckedText<'_> {
     fn fmt<W: fmt::Write>(&self, f: &mut fmt::Formatter<W>) -> fmt::Result {
-        let checked = self.checked;
+        let (checked, at) = (self.checked, self.at);
         let lines = BadLines {
             catalog: &checked.catalog,
             bad: checked.bad.as_slice(),
             changed: &[],
-            away: away_sites(self.sites),
+            at,
         };
-        let away = AwayLines(self.sites);
+        let away = AwayLines(at);
         write!(f, "{away}{lines}")?;
         match &checked.verdict {
             Verdict::Sound { rows, k } => writeln!(f, "ok rows={rows} k={k}")?,
             _ => {
-                let wrong = Wrong(checked);
-                writeln!(f, "fault: {wrong}")?;
+                let (prefix, wrong) = (at.prefix, Wrong(checked));
+                writeln!(f, "{prefix}fault: {wrong}")?;
             }
         }
-        self.write_next(f)
+        write_unfinished(f, checked.unfinished)?;
+        let next = NextLine(self.next());
+        write!(f, "{next}")
     }
 }

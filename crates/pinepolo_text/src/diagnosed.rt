@@ -1,35 +1,69 @@
 //! What a diagnosis answers, in words.
-use crate::Unfinished;
-use crate::bad_files::BadLines;
+use crate::at::At;
+use crate::bad_files::{BadLines, mend_of};
 use crate::disputed::DisputeLines;
 use crate::explained::{ExplanationLines, VerdictLine};
-use crate::sited::{AwayLines, ToWords, away_sites, store_words};
+use crate::next_step::{NextLine, NextStep, Restoring};
+use crate::sited::AwayLines;
+use crate::unfinished::write_unfinished;
 use crate::unrecoverable::BringBack;
 use cs_diagnosis::Verdict;
-use cs_reports::SiteWords;
 use pinepolo_answers::{Diagnosed, only_loss, reads_well};
-use pinepolo_places::Sited;
 use std::fmt;
 
-/// What a diagnosis of the store at a path found, as lines.
+/// What a diagnosis of a store found, as lines.
 #[derive(Clone, Copy)]
 pub struct DiagnosedText<'a> {
     pub diagnosed: &'a Diagnosed,
-    /// The folder of the store.
-    pub store: &'a str,
-    /// Where its sites stand, if not there.
-    pub sites: Option<Sited<'a>>,
+    pub at: At<'a>,
 }
 
-impl DiagnosedText<'_> {
-    /// That work was left unfinished, and how it is resumed.
-    fn write_unfinished<W: fmt::Write>(&self, f: &mut fmt::Formatter<W>) -> fmt::Result {
-        let Some(kind) = self.diagnosed.unfinished else {
-            return Ok(());
-        };
-        let store = store_words(self.store, self.sites);
-        let unfinished = Unfinished { kind, store };
-        write!(f, "{unfinished}")
+impl<'a> DiagnosedText<'a> {
+    /// The restoring that one table allows, or what makes it needless.
+    fn restoring(&self) -> Option<NextStep<'a>> {
+        let (diagnosed, at) = (self.diagnosed, self.at);
+        let loss = only_loss(&diagnosed.diagnosis)?;
+        Some(NextStep::Restore(Restoring {
+            at,
+            verb: "diagnose",
+            mend: mend_of(at, &diagnosed.catalog, diagnosed.diagnosis.bad.as_slice()),
+            // (a restore finds nothing wrong with what a manifest alone says is changed)
+            accepts_loss: reads_well(diagnosed.changed.as_slice()),
+            loss,
+        }))
+    }
+
+    /// The sites that lack too much, if nothing explains the store.
+    fn lacking(&self) -> BringBack<'a> {
+        BringBack {
+            catalog: &self.diagnosed.catalog,
+            forced: self.diagnosed.diagnosis.forced,
+        }
+    }
+
+    /// What to do next about a store that nothing explains.
+    fn bringing_back(&self) -> Option<NextStep<'a>> {
+        let diagnosis = &self.diagnosed.diagnosis;
+        match mend_of(self.at, &self.diagnosed.catalog, diagnosis.bad.as_slice()) {
+            Some(mend) => Some(NextStep::Again(mend)),
+            None => self
+                .lacking()
+                .next(diagnosis.reach.at_most, self.at.words()),
+        }
+    }
+
+    /// What to do next, if anything.
+    pub fn next(&self) -> Option<NextStep<'a>> {
+        let store = self.at.words();
+        if let Some(kind) = self.diagnosed.unfinished {
+            return Some(NextStep::Resume(kind, store));
+        }
+        match self.diagnosed.diagnosis.verdict {
+            Verdict::Sound => None,
+            Verdict::OneTable => self.restoring(),
+            Verdict::Ambiguous => Some(NextStep::Compare(store)),
+            Verdict::NotRecoverable => self.bringing_back(),
+        }
     }
 
     /// The sites whose files must be replaced.
@@ -41,23 +75,8 @@ impl DiagnosedText<'_> {
         writeln!(f, "must be replaced: sites {forced}")
     }
 
-    /// The restoring that one table allows, and what must not be lost after the first explanation.
-    fn write_restoring<W: fmt::Write>(&self, f: &mut fmt::Formatter<W>) -> fmt::Result {
-        let Some(loss) = only_loss(&self.diagnosed.diagnosis) else {
-            return Ok(());
-        };
-        let (store, sites) = (store_words(self.store, self.sites), SiteWords(loss));
-        // (a restore finds nothing wrong with what a manifest alone says is changed)
-        let option = if reads_well(self.diagnosed.changed.as_slice()) {
-            " --accept-loss"
-        } else {
-            ""
-        };
-        let to = ToWords {
-            sites: self.sites,
-            loss,
-        };
-        writeln!(f, "next: pinepolo restore{option} {to}{store}{sites}")?;
+    /// What must not be lost after the first explanation.
+    fn write_fatal<W: fmt::Write>(&self, f: &mut fmt::Formatter<W>) -> fmt::Result {
         if self.diagnosed.fatal.is_empty() {
             return Ok(());
         }
@@ -69,7 +88,7 @@ impl DiagnosedText<'_> {
         writeln!(f)
     }
 
-    /// Where the tables differ, and what may tell which is the store's.
+    /// Where the tables differ.
     fn write_disputes<W: fmt::Write>(&self, f: &mut fmt::Formatter<W>) -> fmt::Result {
         for of in &self.diagnosed.disputes {
             let lines = DisputeLines {
@@ -79,31 +98,24 @@ impl DiagnosedText<'_> {
             };
             write!(f, "{lines}")?;
         }
-        let store = store_words(self.store, self.sites);
-        writeln!(
-            f,
-            "the files alone cannot tell which table is right: compare them with a manifest (pinepolo diagnose --manifest FILE {store}) or a backup, or look at the files (pinepolo show {store} FILE)"
-        )
+        Ok(())
     }
 
-    /// What to do next.
-    fn write_next<W: fmt::Write>(&self, f: &mut fmt::Formatter<W>) -> fmt::Result {
+    /// What to do next, with what tells it.
+    fn write_end<W: fmt::Write>(&self, f: &mut fmt::Formatter<W>) -> fmt::Result {
         match self.diagnosed.diagnosis.verdict {
-            Verdict::Sound => Ok(()),
-            Verdict::OneTable => self.write_restoring(f),
-            Verdict::Ambiguous => self.write_disputes(f),
+            Verdict::Ambiguous => self.write_disputes(f)?,
             Verdict::NotRecoverable => {
-                let back = BringBack {
-                    catalog: &self.diagnosed.catalog,
-                    forced: self.diagnosed.diagnosis.forced,
-                };
-                write!(f, "{back}")
+                let lacking = self.lacking();
+                write!(f, "{lacking}")?;
             }
+            _ => {}
         }
+        let next = NextLine(self.next());
+        write!(f, "{next}")?;
+        self.write_fatal(f)
     }
-}
 
-impl DiagnosedText<'_> {
     /// The bad files, the explanations and the verdict.
     pub(crate) fn write_found<W: fmt::Write>(&self, f: &mut fmt::Formatter<W>) -> fmt::Result {
         let diagnosis = &self.diagnosed.diagnosis;
@@ -111,7 +123,7 @@ impl DiagnosedText<'_> {
             catalog: &self.diagnosed.catalog,
             bad: diagnosis.bad.as_slice(),
             changed: self.diagnosed.changed.as_slice(),
-            away: away_sites(self.sites),
+            at: self.at,
         };
         write!(f, "{bad}")?;
         self.write_forced(f)?;
@@ -122,18 +134,20 @@ impl DiagnosedText<'_> {
 
 impl fmt::Display for DiagnosedText<'_> {
     fn fmt<W: fmt::Write>(&self, f: &mut fmt::Formatter<W>) -> fmt::Result {
-        let diagnosis = &self.diagnosed.diagnosis;
-        let away = AwayLines(self.sites);
+        let away = AwayLines(self.at);
         write!(f, "{away}")?;
-        if let Verdict::Sound = diagnosis.verdict {
-            let verdict = VerdictLine(diagnosis);
-            write!(f, "{verdict}")?;
-            return self.write_unfinished(f);
+        match self.diagnosed.diagnosis.verdict {
+            Verdict::Sound => {
+                let verdict = VerdictLine(&self.diagnosed.diagnosis);
+                write!(f, "{verdict}")?;
+            }
+            _ => self.write_found(f)?,
         }
-        self.write_found(f)?;
         if self.diagnosed.unfinished.is_some() {
-            return self.write_unfinished(f);
+            write_unfinished(f, self.diagnosed.unfinished)?;
+            let next = NextLine(self.next());
+            return write!(f, "{next}");
         }
-        self.write_next(f)
+        self.write_end(f)
     }
 }

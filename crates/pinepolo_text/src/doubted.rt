@@ -1,29 +1,48 @@
 //! What a restore answers if it is doubtful what was lost, in words.
+use crate::at::At;
 use crate::diagnosed::DiagnosedText;
-use crate::sited::store_words;
-use cs_reports::SiteWords;
+use crate::next_step::NextStep;
 use pinepolo_answers::{Doubted, spare_sites};
-use pinepolo_places::Sited;
 use std::fmt;
 
-/// What makes a restore of the store at a path doubtful, as lines.
+/// What makes a restore of a store doubtful, as lines.
 #[derive(Clone, Copy)]
 pub struct DoubtedText<'a> {
     pub doubted: &'a Doubted,
-    /// The folder of the store.
-    pub store: &'a str,
-    /// Where its sites stand, if not there.
-    pub sites: Option<Sited<'a>>,
+    pub at: At<'a>,
+}
+
+impl<'a> DoubtedText<'a> {
+    /// How the loss is accepted.
+    fn accepting(&self) -> NextStep<'a> {
+        let (lost, store) = (self.doubted.lost, self.at.words());
+        if self.doubted.resumes {
+            NextStep::AcceptResumed(lost, store)
+        } else {
+            NextStep::Accept(lost, store)
+        }
+    }
+
+    /// What to do next: what the diagnosis says comes before the loss is accepted.
+    pub fn next(&self) -> NextStep<'a> {
+        let text = DiagnosedText {
+            diagnosed: &self.doubted.diagnosed,
+            at: self.at,
+        };
+        match text.next() {
+            Some(step) => step,
+            None => self.accepting(),
+        }
+    }
 }
 
 impl fmt::Display for DoubtedText<'_> {
     fn fmt<W: fmt::Write>(&self, f: &mut fmt::Formatter<W>) -> fmt::Result {
-        let (store, sites, lost) = (self.store, self.sites, self.doubted.lost);
+        let lost = self.doubted.lost;
         let diagnosed = &self.doubted.diagnosed;
         let text = DiagnosedText {
             diagnosed,
-            store,
-            sites,
+            at: self.at,
         };
         write!(f, "{text}")?;
         let spare = spare_sites(&diagnosed.diagnosis, lost);
@@ -41,17 +60,7 @@ impl fmt::Display for DoubtedText<'_> {
                 )?;
             }
         }
-        let store = store_words(store, sites);
-        if self.doubted.resumes {
-            return writeln!(
-                f,
-                "if sites {lost} are known to be gone: pinepolo restore --resume --accept-loss {store}"
-            );
-        }
-        let sites = SiteWords(lost);
-        writeln!(
-            f,
-            "if these sites are known to be gone: pinepolo restore --accept-loss {store}{sites}"
-        )
+        let accepting = self.accepting();
+        writeln!(f, "{accepting}")
     }
 }

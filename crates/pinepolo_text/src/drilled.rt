@@ -1,6 +1,7 @@
 //! What a drill answers, in words.
+use crate::at::At;
+use crate::next_step::{NextLine, NextStep};
 use crate::trial_words::{Lost, MeasureWords, TrialLine};
-use cs_reports::StoreWords;
 use pinepolo_answers::Drilled;
 use std::fmt;
 
@@ -8,10 +9,23 @@ use std::fmt;
 #[derive(Clone, Copy)]
 pub struct DrilledText<'a> {
     pub drilled: &'a Drilled,
-    pub store: StoreWords<'a>,
+    pub at: At<'a>,
 }
 
-impl DrilledText<'_> {
+impl<'a> DrilledText<'a> {
+    /// What to do next, if a loss failed.
+    pub fn next(&self) -> Option<NextStep<'a>> {
+        if self.drilled.failures() == 0 {
+            return None;
+        }
+        let verb = if self.drilled.fails_by_design() {
+            "design"
+        } else {
+            "diagnose"
+        };
+        Some(NextStep::Ask(verb, self.at.words()))
+    }
+
     /// The verdict, and what to do next.
     fn write_verdict<W: fmt::Write>(&self, f: &mut fmt::Formatter<W>) -> fmt::Result {
         let drilled = self.drilled;
@@ -20,16 +34,13 @@ impl DrilledText<'_> {
         if failures == 0 {
             return writeln!(f, "ok losses={losses} at_most={sites}");
         }
-        let store = self.store;
-        let verb = if drilled.fails_by_design() {
-            "design"
-        } else {
-            "diagnose"
-        };
+        let prefix = self.at.prefix;
         writeln!(
             f,
-            "fault: {failures} of {losses} losses are not rebuilt as the store stands\nnext: pinepolo {verb} {store}"
-        )
+            "{prefix}fault: {failures} of {losses} losses are not rebuilt as the store stands"
+        )?;
+        let next = NextLine(self.next());
+        write!(f, "{next}")
     }
 }
 

@@ -1,78 +1,15 @@
 //! Errors in words.
+use crate::at::At;
 use crate::error_parts::write_text;
-use crate::failure_texts::failure_text;
-use crate::refusal_texts::refusal_texts;
-use crate::sites_words::{SitesWords, sites_advice};
-use crate::system_words::mend_text;
+use crate::error_texts::error_texts;
+use crate::sites_words::SitesWords;
+use crate::system_words::failed_call;
+use crate::unread::{BadFileLine, Mend, Unread};
 use cs_file_system::FailedCall;
-use cs_reports::{Next, ShellWord, StoreWords, fill};
-use pinepolo_places::{Halfway, Step, StoreError, VerbError, WorkKind};
+use cs_reports::{Next, StoreWords};
+use cs_store::Fault;
+use pinepolo_places::{AwaySite, Failure, Step, StoreError, VerbError};
 use std::fmt;
-
-/// What is said of a fault of a store, and what to do next, if that is not what the fault asks for.
-fn store_texts(error: &StoreError) -> (&'static str, &'static str) {
-    let said = if error.bad.is_empty() {
-        "{2}"
-    } else {
-        "bad files: {3}"
-    };
-    match error.step {
-        Step::ByFault => (said, ""),
-        Step::Resume(kind) | Step::GoOn(Halfway { kind, .. }) => match kind {
-            WorkKind::Restore => (said, "pinepolo restore --resume {5}"),
-            WorkKind::Undo => (said, "pinepolo undo --resume {5}"),
-        },
-        Step::Diagnose => (said, "pinepolo diagnose {5}"),
-    }
-}
-
-/// What is said of an error of which the system said nothing, and what to do next.
-fn texts_of(error: &VerbError) -> (&'static str, &'static str) {
-    match error {
-        VerbError::NotUtf8 => (
-            "the command line is not UTF-8",
-            "give each word and each path in UTF-8",
-        ),
-        VerbError::OutOfMemory => (
-            "out of memory",
-            "run it with fewer workers, or with more memory",
-        ),
-        VerbError::Catalog(_, subject) => {
-            if subject.words.is_empty() {
-                ("{3}", "change it, then pinepolo design {5}")
-            } else {
-                ("{3}: {2}", "change it, then pinepolo design {5}")
-            }
-        }
-        VerbError::Device(failure, _) => {
-            let text = failure_text(failure);
-            (text.said, text.check)
-        }
-        VerbError::Refused(refusal, _) => refusal_texts(refusal),
-        VerbError::Sites(error) => ("", sites_advice(error)),
-        VerbError::Store(error) => store_texts(error),
-    }
-}
-
-/// What an error means for the work that failed; empty if it changed nothing.
-fn state_of(error: &VerbError) -> &'static str {
-    match error {
-        VerbError::Device(failure, _) => failure_text(failure).state,
-        _ => "",
-    }
-}
-
-/// What to do once it is mended what the system refused.
-fn again_of(error: &VerbError) -> &'static str {
-    match error {
-        VerbError::Device(failure, _) => failure_text(failure).again,
-        VerbError::Store(error) => match store_texts(error) {
-            (_, "") => "run it again",
-            (_, next) => next,
-        },
-        _ => "run it again",
-    }
-}
 
 /// Writes what the store is now, if work on it stopped halfway.
 fn write_state<W: fmt::Write>(f: &mut fmt::Formatter<W>, error: &StoreError) -> fmt::Result {
@@ -97,29 +34,70 @@ fn write_state<W: fmt::Write>(f: &mut fmt::Formatter<W>, error: &StoreError) -> 
     }
 }
 
-/// An error with what the system said of it.
+/// An error, with what the system said of it.
 #[derive(Clone, Copy)]
 pub struct ErrorText<'a> {
     pub error: &'a VerbError,
-    /// The path of the SITES file, if the sites of the store have folders of their own.
-    pub sites: Option<&'a str>,
-    /// The call that failed, if the system said why.
-    pub failed: Option<&'a FailedCall>,
+    /// Where the store is that the verb was given; none if there was no verb.
+    pub at: Option<At<'a>>,
+    /// What stands before each fault: the program's name, unless a terminal shows it.
+    pub prefix: &'a str,
 }
 
-/// Writes what the system said, behind what failed: of a call on the path that the error is about, only why.
-fn write_call<W: fmt::Write>(
-    f: &mut fmt::Formatter<W>,
-    error: &VerbError,
-    failed: Option<&FailedCall>,
-) -> fmt::Result {
-    match failed {
-        Some(call) if error.is_about(call.path.as_str()) => {
-            let why = call.error;
-            write!(f, ": {why}")
+impl<'a> ErrorText<'a> {
+    /// The failed call that it tells of, if the system said anything of it.
+    pub fn failed(&self) -> Option<&'a FailedCall> {
+        failed_call(self.error, self.at?.calls)
+    }
+
+    /// The path of the SITES file, if the error is about a store whose sites have folders of their own.
+    fn sites(&self) -> Option<&'a str> {
+        let at = self.at?;
+        if self.error.is_about(at.store) {
+            Some(at.sites?.file)
+        } else {
+            None
         }
-        Some(call) => write!(f, ": {call}"),
-        None => Ok(()),
+    }
+
+    /// The site that is away, if the error is that its folder was not found.
+    fn missed(&self) -> Option<&'a AwaySite> {
+        match self.error {
+            VerbError::Device(Failure::ReachSite(site), _) => self.at?.away_site(*site),
+            _ => None,
+        }
+    }
+
+    /// Why the file was not read that the error is about, if it is about one alone.
+    fn unread(&self) -> Option<Unread<'a>> {
+        match self.error {
+            VerbError::Store(
+                StoreError {
+                    fault: Fault::Read(name),
+                    site,
+                    bad,
+                    ..
+                },
+            ) if bad.is_empty() => Some(Unread::of(self.at?, *site, *name)),
+            _ => None,
+        }
+    }
+
+    /// What is to be mended first, if that is known.
+    fn mend(&self) -> Option<Mend<'a>> {
+        let at = self.at?;
+        if let Some(away) = self.missed() {
+            return Some(Mend::reach(at, away));
+        }
+        if let Some(why) = self.unread() {
+            return Mend::before(at, why);
+        }
+        match self.error {
+            VerbError::Store(error) if !error.bad.is_empty() => {
+                Mend::first(at, error.bad.as_slice())
+            }
+            _ => Mend::after(self.failed()?),
+        }
     }
 }
 
@@ -127,58 +105,92 @@ fn write_call<W: fmt::Write>(
 #[derive(Clone, Copy)]
 pub struct ErrorWords<'a>(pub ErrorText<'a>);
 
+impl ErrorWords<'_> {
+    /// Writes what failed, and what the system said of it: of a call on the path that the error is about, only why.
+    fn write_failed<W: fmt::Write>(&self, f: &mut fmt::Formatter<W>) -> fmt::Result {
+        let error = self.0.error;
+        let texts = error_texts(error);
+        if let (
+            VerbError::Store(
+                StoreError {
+                    fault: Fault::Write(_),
+                    ..
+                },
+            ),
+            Some(call),
+        ) = (error, self.0.failed())
+        {
+            return write!(f, "could not {call}");
+        }
+        write_text(f, error, texts.said, None)?;
+        match (error, self.0.failed()) {
+            (VerbError::Store(_), _) => Ok(()),
+            (error, Some(call)) if error.is_about(call.path.as_str()) => {
+                let why = call.error;
+                write!(f, ": {why}")
+            }
+            (_, Some(call)) => write!(f, ": {call}"),
+            (_, None) => f.write_str(texts.found),
+        }
+    }
+
+    /// Writes what was not read, and why.
+    fn write_unread<W: fmt::Write>(
+        &self,
+        f: &mut fmt::Formatter<W>,
+        why: Unread<'_>,
+    ) -> fmt::Result {
+        match (why, self.0.error) {
+            (
+                Unread::Failed(_),
+                VerbError::Store(
+                    StoreError {
+                        site: Some(site),
+                        ..
+                    },
+                ),
+            ) => { write!(f, "site {site}: {why}") }
+            (_, error) => {
+                write_text(f, error, "{2}", None)?;
+                write!(f, ": {why}")
+            }
+        }
+    }
+}
+
 impl fmt::Display for ErrorWords<'_> {
     fn fmt<W: fmt::Write>(&self, f: &mut fmt::Formatter<W>) -> fmt::Result {
-        let ErrorText {
-            error,
-            sites: _,
-            failed,
-        } = self.0;
+        let error = self.0.error;
         if let VerbError::Sites(error) = error {
             let words = SitesWords(error);
             return write!(f, "{words}");
         }
-        match (error, failed) {
-            (VerbError::Store(error), Some(call)) => {
-                if let Some(site) = error.site {
-                    write!(f, "site {site}: ")?;
-                }
-                write!(f, "could not {call}")?;
-            }
-            (error, failed) => {
-                write_text(f, error, texts_of(error).0, None)?;
-                write_call(f, error, failed)?;
-            }
+        if let Some(away) = self.0.missed() {
+            let (site, folder) = (away.site, away.folder.as_str());
+            return write!(f, "the folder of site {site} is away: {folder}");
         }
-        write_text(f, error, state_of(error), None)
+        match self.0.unread() {
+            Some(why) => self.write_unread(f, why)?,
+            None => self.write_failed(f)?,
+        }
+        write_text(f, error, error_texts(error).state, None)
     }
 }
 
-impl ErrorText<'_> {
-    /// Writes what to do next.
-    fn write_next<W: fmt::Write>(&self, f: &mut fmt::Formatter<W>) -> fmt::Result {
-        let ErrorText {
-            error,
-            sites,
-            failed,
-        } = *self;
-        if let Some(call) = failed {
-            if let Some(mend) = mend_text(call) {
-                fill(f, mend, &[ShellWord(call.path.as_str())])?;
-                f.write_str(", then ")?;
-                return write_text(f, error, again_of(error), sites);
-            }
+/// What to do next about an error: a command that can be pasted, or advice.
+#[derive(Clone, Copy)]
+pub struct ErrorNext<'a>(pub ErrorText<'a>);
+
+impl fmt::Display for ErrorNext<'_> {
+    fn fmt<W: fmt::Write>(&self, f: &mut fmt::Formatter<W>) -> fmt::Result {
+        let (error, sites) = (self.0.error, self.0.sites());
+        let texts = error_texts(error);
+        if let Some(mend) = self.0.mend() {
+            write!(f, "{mend}, then ")?;
+            return write_text(f, error, texts.again, sites);
         }
-        write_text(f, error, texts_of(error).1, sites)?;
         match error {
-            VerbError::Store(
-                StoreError {
-                    step: Step::ByFault,
-                    fault,
-                    subject,
-                    ..
-                },
-            ) => {
+            VerbError::Store(StoreError { fault, subject, .. }) if texts.next.is_empty() => {
                 let store = StoreWords {
                     store: subject.path.as_str(),
                     sites,
@@ -186,7 +198,7 @@ impl ErrorText<'_> {
                 let next = Next { store, fault };
                 write!(f, "{next}")
             }
-            _ => Ok(()),
+            _ => write_text(f, error, texts.next, sites),
         }
     }
 }
@@ -194,16 +206,18 @@ impl ErrorText<'_> {
 /// What is wrong, and what to do next, as lines.
 impl fmt::Display for ErrorText<'_> {
     fn fmt<W: fmt::Write>(&self, f: &mut fmt::Formatter<W>) -> fmt::Result {
-        let words = ErrorWords(*self);
-        writeln!(f, "fault: {words}")?;
+        let (words, next) = (ErrorWords(*self), ErrorNext(*self));
+        let prefix = self.prefix;
+        writeln!(f, "{prefix}fault: {words}")?;
         if let VerbError::Store(error) = self.error {
-            for file in &error.bad {
-                write!(f, "{file}")?;
+            if let Some(at) = self.at {
+                for file in &error.bad {
+                    let line = BadFileLine { file, at };
+                    write!(f, "{line}")?;
+                }
             }
             write_state(f, error)?;
         }
-        f.write_str("next: ")?;
-        self.write_next(f)?;
-        f.write_str("\n")
+        writeln!(f, "next: {next}")
     }
 }

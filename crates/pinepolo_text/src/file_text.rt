@@ -1,11 +1,12 @@
 //! What is said of one file, as text.
 ghost use Rattle.std.specs.Prelude.{◌≤◌, length};
 
+use crate::at::At;
 use crate::catalog_words::{code_at, kind_word};
 use crate::counted::Counted;
+use crate::next_step::{NextLine, NextStep};
 use crate::row_words::{BaseRow, Hex, ItemWords};
 use crate::samples::{first_end, has_gap, last_begin};
-use crate::sited::store_words;
 use cs_delta::{Delta, Layer};
 use cs_file_decode::{Content, Digests, Nonsense};
 use cs_jix::JoinIndex;
@@ -13,7 +14,6 @@ use cs_reports::{ColumnNames, site_of};
 use cs_schema::{Catalog, FileName};
 use cs_segment::Segment;
 use pinepolo_answers::FileView;
-use pinepolo_places::Sited;
 use std::fmt;
 
 /// Writes how many rows a segment has, and the first and the last of them with their keys.
@@ -191,17 +191,22 @@ fn write_columns<W: fmt::Write>(
     writeln!(f)
 }
 
-/// What is said of a file of the store at a path, as lines.
+/// What is said of a file of a store, as lines.
 #[derive(Clone, Copy)]
 pub struct FileText<'a> {
     pub view: &'a FileView,
-    /// The folder of the store.
-    pub store: &'a str,
-    /// Where its sites stand, if not there.
-    pub sites: Option<Sited<'a>>,
+    pub at: At<'a>,
 }
 
-impl FileText<'_> {
+impl<'a> FileText<'a> {
+    /// What to do next, if the file is damaged.
+    pub fn next(&self) -> Option<NextStep<'a>> {
+        match &self.view.report.content {
+            Content::Nonsense(_) => Some(NextStep::Ask("diagnose", self.at.words())),
+            _ => None,
+        }
+    }
+
     /// What kind of file it is, of which segment, and how long.
     fn write_head<W: fmt::Write>(&self, f: &mut fmt::Formatter<W>) -> fmt::Result {
         let name = self.view.name;
@@ -234,11 +239,12 @@ impl FileText<'_> {
     ) -> fmt::Result {
         let length = self.view.report.length;
         let (at, wanted) = (nonsense.at, nonsense.wanted);
-        let store = store_words(self.store, self.sites);
         writeln!(
             f,
-            "damaged: invalid at byte {at} of {length}; expected: {wanted}\nnext: pinepolo diagnose {store}"
-        )
+            "damaged: invalid at byte {at} of {length}; expected: {wanted}"
+        )?;
+        let next = NextLine(self.next());
+        write!(f, "{next}")
     }
 }
 

@@ -2,7 +2,23 @@
 //!
 //! In a text `{0}` stands for the path, `{1}` for the path as a word of a command line, `{2}` for what is wrong there in words,
 //! `{3}` for a number or a verb, `{4}` for a file, and `{5}` for the path as words of a command line with its SITES file.
-use pinepolo_places::{Refusal, WorkKind};
+use pinepolo_places::{CsvPlace, Refusal, WorkKind};
+
+/// How many rows a catalog has room for, at most.
+const ROWS: u64 = 16_777_216;
+
+/// What to do next about a CSV that makes no store, because of what is at this place.
+fn table_advice(place: &CsvPlace) -> &'static str {
+    match (place.record, place.column) {
+        (Some(record), None) if record > ROWS => {
+            "split the table into stores of at most 16777216 rows each, or import it by pinepolo-data import --rows-per-store"
+        }
+        (Some(_), Some(_)) => {
+            "change {0}, or the catalog, and load it again; an int has 64 bits, a text at most 255 bytes of UTF-8"
+        }
+        _ => "change {0}, or the catalog, and load it again",
+    }
+}
 
 /// What is said of a refusal, and what to do next.
 pub fn refusal_texts(refusal: &Refusal) -> (&'static str, &'static str) {
@@ -22,7 +38,7 @@ pub fn refusal_texts(refusal: &Refusal) -> (&'static str, &'static str) {
             "{0}: {2}",
             "give a manifest, as pinepolo manifest prints it",
         ),
-        Refusal::Table(_) => ("{2}", "change {0}, or the catalog, and load it again"),
+        Refusal::Table(place) => ("{2}", table_advice(place)),
         Refusal::Layout => ("{2}", "change {0}, and lay the store out again"),
         Refusal::Unfinished(WorkKind::Restore) => (
             "a restore of {0} is not finished",

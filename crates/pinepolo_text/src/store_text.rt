@@ -1,14 +1,16 @@
 //! What is said of a store as a whole, as text.
-use crate::bad_files::has;
+use crate::at::{At, has};
 use crate::catalog_words::CatalogWords;
 use crate::counted::Counted;
 use crate::memory::recovery_memory;
-use crate::sited::{AwayLines, away_sites, store_words};
-use crate::unfinished::Unfinished;
+use crate::next_step::{NextLine, NextStep};
+use crate::sited::AwayLines;
+use crate::unfinished::write_unfinished;
+use crate::unread::Unread;
+use cs_inspection::Badness;
 use cs_reports::{DesignHead, site_of};
 use cs_schema::{FileName, Loss};
 use pinepolo_answers::{FileLine, StoreView, problem_of};
-use pinepolo_places::Sited;
 use std::fmt;
 
 /// How many bytes a mebibyte has.
@@ -48,17 +50,20 @@ pub fn count_word(name: FileName, count: Option<u64>) -> &'static str {
     }
 }
 
-/// What is said of the store at a path, as lines.
+/// What is said of a store, as lines.
 #[derive(Clone, Copy)]
 pub struct StoreText<'a> {
     pub view: &'a StoreView,
-    /// The folder of the store.
-    pub store: &'a str,
-    /// Where its sites stand, if not there.
-    pub sites: Option<Sited<'a>>,
+    pub at: At<'a>,
 }
 
-impl StoreText<'_> {
+impl<'a> StoreText<'a> {
+    /// What to do next, if work was left unfinished.
+    pub fn next(&self) -> Option<NextStep<'a>> {
+        let kind = self.view.unfinished?;
+        Some(NextStep::Resume(kind, self.at.words()))
+    }
+
     /// The line of a file, if it stands on this site.
     fn write_line<W: fmt::Write>(
         &self,
@@ -81,10 +86,15 @@ impl StoreText<'_> {
         let word = count_word(name, line.count);
         let (count, bytes) = (NumberOrStroke(line.count), NumberOrStroke(line.bytes));
         let state = state_word(line);
-        writeln!(
+        write!(
             f,
             "{site:>4}  {path:<13} {projection:<12}{count} {word:<7}{bytes} bytes  {state}"
-        )
+        )?;
+        if line.badness == Some(Badness::Unreadable) {
+            let why = Unread::of(self.at, Some(site), name);
+            write!(f, ": {why}")?;
+        }
+        f.write_str("\n")
     }
 
     /// The table of files, by sites. A site that is away has one line.
@@ -140,16 +150,13 @@ impl fmt::Display for StoreText<'_> {
             catalog: &view.catalog,
             design: &view.design,
         };
-        let away = AwayLines(self.sites);
+        let away = AwayLines(self.at);
         write!(f, "{away}{catalog}{head}")?;
-        self.write_table(f, away_sites(self.sites))?;
+        self.write_table(f, self.at.away_sites())?;
         self.write_sums(f)?;
         self.write_strays(f)?;
-        let Some(kind) = view.unfinished else {
-            return Ok(());
-        };
-        let store = store_words(self.store, self.sites);
-        let unfinished = Unfinished { kind, store };
-        write!(f, "{unfinished}")
+        write_unfinished(f, view.unfinished)?;
+        let next = NextLine(self.next());
+        write!(f, "{next}")
     }
 }

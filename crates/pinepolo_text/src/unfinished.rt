@@ -1,4 +1,5 @@
 //! That work on a store was left unfinished.
+use crate::next_step::{NextLine, NextStep};
 use cs_reports::StoreWords;
 use cs_reports::object::Object;
 use pinepolo_places::{RESTORING, WorkKind};
@@ -13,13 +14,22 @@ pub struct Unfinished<'a> {
     pub store: StoreWords<'a>,
 }
 
+/// Writes that work on a store was left unfinished, if any was.
+pub fn write_unfinished<W: fmt::Write>(
+    f: &mut fmt::Formatter<W>,
+    unfinished: Option<WorkKind>,
+) -> fmt::Result {
+    match unfinished {
+        Some(kind) => writeln!(f, "unfinished {kind}: {RESTORING} is there"),
+        None => Ok(()),
+    }
+}
+
 impl fmt::Display for Unfinished<'_> {
     fn fmt<W: fmt::Write>(&self, f: &mut fmt::Formatter<W>) -> fmt::Result {
-        let (kind, store) = (self.kind, self.store);
-        writeln!(
-            f,
-            "unfinished {kind}: {RESTORING} is there\nnext: pinepolo {kind} --resume {store}"
-        )
+        write_unfinished(f, Some(self.kind))?;
+        let next = NextLine(Some(NextStep::Resume(self.kind, self.store)));
+        write!(f, "{next}")
     }
 }
 

@@ -1,11 +1,12 @@
 //! What a store lacks that nothing explains.
-use cs_reports::FaultWords;
+use crate::next_step::NextStep;
+use cs_reports::{FaultWords, StoreWords};
 use cs_safety::safe;
 use cs_schema::{Catalog, Loss};
 use cs_store::Fault;
 use std::fmt;
 
-/// Why forced sites are no safe loss, and which of them would make it one if it came back. No line where they are safe.
+/// The forced sites of a store that nothing explains.
 #[derive(Clone, Copy)]
 pub struct BringBack<'a> {
     pub catalog: &'a Catalog,
@@ -34,8 +35,27 @@ impl BringBack<'_> {
         }
         enough
     }
+
+    /// What to do next, once losses of at most so many sites were tried, if anything.
+    pub fn next<'s>(&self, tried: u8, store: StoreWords<'s>) -> Option<NextStep<'s>> {
+        let catalog = self.catalog;
+        if safe(catalog, self.forced) {
+            return if tried < catalog.sites {
+                Some(NextStep::TryMore(tried.saturating_add(1), store))
+            } else {
+                None
+            };
+        }
+        let enough = self.enough();
+        Some(if enough.count() == 0 {
+            NextStep::BringBack(self.forced)
+        } else {
+            NextStep::BringBackOne(enough)
+        })
+    }
 }
 
+/// Why the sites are no safe loss, as a line; none if they are one.
 impl fmt::Display for BringBack<'_> {
     fn fmt<W: fmt::Write>(&self, f: &mut fmt::Formatter<W>) -> fmt::Result {
         let catalog = self.catalog;
@@ -44,11 +64,6 @@ impl fmt::Display for BringBack<'_> {
         }
         let fault = &Fault::Unsafe(self.forced);
         let words = FaultWords { catalog, fault };
-        writeln!(f, "{words}")?;
-        let enough = self.enough();
-        if enough.count() == 0 {
-            return Ok(());
-        }
-        writeln!(f, "it is enough to bring back one of the sites {enough}")
+        writeln!(f, "{words}")
     }
 }

@@ -52,6 +52,8 @@ fn place_of(fault: &LoadFault) -> (Option<u64>, Option<usize>) {
     match fault {
         LoadFault::Twice(repeat) => (Some((repeat.again as u64).saturating_add(1)), None),
         LoadFault::Text(fault) => match fault {
+            // (the first that no catalog has room for)
+            CsvFault::TooMany => (Some(16_777_217), None),
             CsvFault::Unclosed { before: 0 } => (None, None),
             CsvFault::Unclosed { before } => (Some(*before), None),
             CsvFault::Width { record, .. } => (Some(record.saturating_add(1)), None),

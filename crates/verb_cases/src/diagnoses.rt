@@ -8,7 +8,8 @@ use cs_rebuild::{check, rebuild};
 use cs_schema::{Catalog, Loss};
 use cs_store::FileSet;
 use pinepolo_answers::Diagnosed;
-use pinepolo_text::DiagnosedText;
+use pinepolo_run::FailedCalls;
+use pinepolo_text::{At, DiagnosedText};
 use std::alloc::Global;
 use std::marker::Sync;
 use std::thread::Threads;
@@ -50,6 +51,17 @@ fn recovered<R: Threads + Sync>(
         .ok_or(anyhow!("not sound"))
 }
 
+/// The text of a diagnosis.
+fn text_of<'a>(diagnosed: &'a Diagnosed, calls: &'a FailedCalls) -> DiagnosedText<'a> {
+    let at = At {
+        store: "store",
+        sites: None,
+        calls,
+        prefix: "",
+    };
+    DiagnosedText { diagnosed, at }
+}
+
 /// Prints what a diagnosis says of a case, and that each loss which explains it recovers it.
 pub fn tell<R: Threads + Sync + AllocGlobal + Print>(rt: &R, case: &Case<'_>) -> Result<()> {
     let alloc = rt.alloc();
@@ -77,11 +89,8 @@ pub fn tell<R: Threads + Sync + AllocGlobal + Print>(rt: &R, case: &Case<'_>) ->
         changed: Vec::new(alloc),
         unfinished: None,
     };
-    let text = DiagnosedText {
-        diagnosed: &diagnosed,
-        store: "store",
-        sites: None,
-    };
+    let calls = FailedCalls::new(alloc)?;
+    let text = text_of(&diagnosed, &calls);
     print!(rt; "{text}")?;
     Ok(())
 }

@@ -25,13 +25,14 @@ impl World for MemoryPlaces {}
 const PROCESSORS: u32 = 2;
 
 /// What verbs run on.
-fn host_of<'a, R>(rt: &'a R, alloc: Global, calls: &'a FailedCalls) -> Host<'a, R, OpenGate> {
+fn host_of<'a, R: AllocGlobal>(rt: &'a R, calls: &'a FailedCalls) -> Host<'a, R, OpenGate> {
     Host {
         rt,
-        alloc,
+        alloc: rt.alloc(),
         gate: &OpenGate,
         sites: None,
         calls,
+        prefix: "",
     }
 }
 
@@ -47,7 +48,7 @@ pub fn answered<R: Threads + Sync + AllocGlobal + Print>(
         owned.push(String::from_str(alloc, word)?)?;
     }
     let calls = FailedCalls::new(alloc)?;
-    let host = host_of(rt, alloc, &calls);
+    let host = host_of(rt, &calls);
     let mut out = Vec::new(alloc);
     let mut err = Vec::new(alloc);
     let parsed = parse(alloc, owned.as_slice(), PROCESSORS);
