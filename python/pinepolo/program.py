@@ -77,6 +77,8 @@ def fault(verb: str, status: int, text: str) -> DataError:
         label, _, rest = line.removeprefix("pinepolo: ").partition(": ")
         if label in found:
             found[label] = rest
+        elif found["next"]:
+            found["next"] += f"\n{line}"
         else:
             before += f"{line}\n"
     return DataError(found["fault"], found["next"], status, before)

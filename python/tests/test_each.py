@@ -50,7 +50,7 @@ class TestReading(Partitions):
         os.remove(self.table / "001.1/p0.s0.seg")
         status, told, faults = self.run_data("each", self.table, "--", "check", "--quiet")
         self.assertEqual((status, faults.splitlines()[0]), (1, "fault: pinepolo check: 1 of 3 stores ended with another status than 0"))
-        self.assertEqual(told.splitlines()[1:3], ["001.1\tsite 1  missing  p0.s0.seg", "001.1\tfault: bad files: 1"])
+        self.assertEqual(told.splitlines()[1:3], ["001.1\tsite 1  missing  p0.s0.seg", "001.1\tpinepolo: fault: bad files: 1"])
 
     def test_a_lost_disk(self):
         """One disk is lost for all stores, and restored on another one."""

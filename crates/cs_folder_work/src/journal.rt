@@ -129,7 +129,7 @@ fn change_values<R: Files>(
 }
 
 /// This moment, as a text of UTC in seconds.
-fn now<R: Clock>(alloc: Global, rt: &R) -> io::Result<String> {
+pub fn now<R: Clock>(alloc: Global, rt: &R) -> io::Result<String> {
     let seconds = rt.since_1970()?.as_secs();
     let time = match i64::try_from(seconds) {
         Ok(seconds) => Timestamp::from_second(seconds),

@@ -28,6 +28,7 @@ mod taking;
 mod undoing;
 
 pub use giving_back::Ended;
+pub use journal::now;
 pub use keeping::keep_names;
 pub use pending::pending_work;
 pub use record::Change;

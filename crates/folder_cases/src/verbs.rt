@@ -11,6 +11,9 @@ use std::marker::Sync;
 use std::rt::Files;
 use std::thread::Threads;
 
+/// The time of each run: no test rests on a clock.
+const TIME: &str = "2026-01-01T00:00:00Z";
+
 /// The words of a verb.
 #[derive(Drop)]
 pub struct Asked {
@@ -90,6 +93,8 @@ fn host_of<'a, R: AllocGlobal>(
         sites,
         calls,
         prefix: "",
+        program: "pinepolo",
+        time: Some(TIME),
     }
 }
 

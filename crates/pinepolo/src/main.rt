@@ -5,7 +5,7 @@
 
 use cs_file_system::{FailedCalls, NotedFiles};
 use pinepolo_args::parse;
-use pinepolo_folders::{Folders, SitedRequest};
+use pinepolo_folders::{Folders, SitedRequest, now};
 use pinepolo_progress::ProgressLine;
 use pinepolo_run::{CUT, Host, VerbError, run, say_early, say_error};
 use std::alloc::{AllocError, Global};
@@ -13,6 +13,9 @@ use std::io::IsTerminal;
 use std::process::ExitCode;
 use std::sync::Arc;
 use std::{env, io, thread};
+
+/// The program, with the version that it prints.
+const PROGRAM: &str = "pinepolo 1.0.0";
 
 /// The number of processors if the system does not say.
 const ONE_PROCESSOR: u32 = 1;
@@ -32,6 +35,7 @@ fn host_of<'a, R: AllocGlobal, G>(
     sited: Option<&'a SitedRequest<'_>>,
     calls: &'a FailedCalls,
     prefix: &'a str,
+    time: Option<&'a str>,
 ) -> Host<'a, R, G> {
     let sites = match sited {
         Some(sited) => sited.sites(),
@@ -44,6 +48,8 @@ fn host_of<'a, R: AllocGlobal, G>(
         sites,
         calls,
         prefix,
+        program: PROGRAM,
+        time,
     }
 }
 
@@ -66,16 +72,21 @@ fn main(rt: HostRuntime) -> ExitCode {
     };
     let files = NotedFiles { rt, calls: &calls };
     let mut places = Folders::new(alloc, files);
+    let time = now(alloc, &rt).ok();
+    let time = match &time {
+        Some(time) => Some(time.as_str()),
+        None => None,
+    };
     let status = match env::args(&rt) {
         Ok(args) => match args.skip(1).collect::<Vec<String>>(alloc) {
             Ok(words) => {
                 match places.find_sites_of(parse(alloc, words.as_slice(), processors)) {
                     Ok(sited) => {
-                        let host = host_of(&rt, &gate, Some(&sited), &calls, prefix);
+                        let host = host_of(&rt, &gate, Some(&sited), &calls, prefix, time);
                         run(&host, &sited.parsed, &mut places, &mut out, &mut err)
                     }
                     Err(refusal) => {
-                        let host = host_of(&rt, &gate, None, &calls, prefix);
+                        let host = host_of(&rt, &gate, None, &calls, prefix, time);
                         let (error, request) = (&refusal.error, &refusal.request);
                         say_error(&host, error, request, &mut out, &mut err)
                     }

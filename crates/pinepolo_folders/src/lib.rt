@@ -18,5 +18,6 @@ mod stamps;
 mod store_folders;
 mod tables;
 
+pub use cs_folder_work::now;
 pub use folders::Folders;
 pub use siting::{SitedRequest, SitesRefusal};

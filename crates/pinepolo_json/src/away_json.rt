@@ -17,10 +17,10 @@ fn away_objects(alloc: Global, at: At<'_>) -> Result<Value, AllocError> {
             .text("folder", folder);
         let object = match at.calls.last_below(folder) {
             Some(call) => {
-                let said = format!(in alloc; "could not {call}")?;
-                with_call(alloc, object.text("said", said.as_str()), call)?
+                let fault = format!(in alloc; "could not {call}")?;
+                with_call(alloc, object.text("fault", fault.as_str()), call)?
             }
-            None => object,
+            None => object.member("fault", Ok(Value::Null)),
         };
         list.push(object.finish()?)?;
     }

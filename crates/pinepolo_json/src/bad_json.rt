@@ -19,7 +19,7 @@ pub fn with_call(alloc: Global, object: Object, call: &FailedCall) -> Result<Obj
 /// The object with why a file could not be read.
 fn with_unread(alloc: Global, object: Object, why: Unread<'_>) -> Result<Object, AllocError> {
     let words = format!(in alloc; "{why}")?;
-    let object = object.text("said", words.as_str());
+    let object = object.text("fault", words.as_str());
     match why {
         Unread::Failed(call) => with_call(alloc, object, call),
         _ => Ok(object),
@@ -28,7 +28,9 @@ fn with_unread(alloc: Global, object: Object, why: Unread<'_>) -> Result<Object,
 
 /// A bad file, with why it could not be read if it could not.
 pub fn bad_object(alloc: Global, at: At<'_>, file: &BadFile) -> Result<Value, AllocError> {
-    let object = file_object(alloc, file.name, file.site).text("fault", file.problem.word());
+    let object = file_object(alloc, file.name, file.site)
+        .text("state", file.problem.word())
+        .member("fault", Ok(Value::Null));
     if file.problem != FileProblem::Unreadable {
         return object.finish();
     }

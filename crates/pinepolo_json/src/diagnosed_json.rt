@@ -1,7 +1,7 @@
 //! A diagnosis as JSON.
 use crate::bad_json::bad_objects;
 use crate::disputed_json::dispute_objects;
-use cs_diagnosis::{Diagnosis, Explanation};
+use cs_diagnosis::{Diagnosis, Explanation, Verdict};
 use cs_reports::object::{Object, losses, number_or_null};
 use pinepolo_answers::{Diagnosed, files_of};
 use pinepolo_places::WorkKind;
@@ -9,9 +9,30 @@ use pinepolo_text::{At, number_of, rows_of, verdict_word, with_unfinished};
 use serde_json::Value;
 use std::alloc::{AllocError, Global};
 
-/// What a diagnosis found of a store on which this kind of work was left unfinished.
+/// What is wrong with a store by a verdict, if anything is.
+fn verdict_fault(verdict: Verdict) -> Option<&'static str> {
+    match verdict {
+        Verdict::Sound => None,
+        Verdict::OneTable => Some("one table explains the store, after a loss"),
+        Verdict::Ambiguous => Some("more than one table explains the store"),
+        Verdict::NotRecoverable => Some("no table explains the store"),
+    }
+}
+
+/// The object with what is wrong with a store by a verdict, if anything is.
+pub fn with_verdict(object: Object, verdict: Verdict) -> Object {
+    match verdict_fault(verdict) {
+        Some(fault) => object
+            .text("kind", verdict_word(verdict))
+            .text("fault", fault),
+        None => object,
+    }
+}
+
+/// The object with what a diagnosis found of a store on which this kind of work was left unfinished.
 pub fn diagnosed_object(
     alloc: Global,
+    object: Object,
     diagnosed: &Diagnosed,
     unfinished: Option<WorkKind>,
     at: At<'_>,
@@ -20,7 +41,7 @@ pub fn diagnosed_object(
     let reach = &diagnosis.reach;
     let (bad, changed) = (diagnosis.bad.as_slice(), diagnosed.changed.as_slice());
     let bad = files_of(alloc, &diagnosed.catalog, bad, changed)?;
-    let object = Object::of_verb(alloc, "diagnose")
+    let object = object
         .number("at_most", u64::from(reach.at_most))
         .member("certain", Ok(number_or_null(reach.certain)))
         .member("files", bad_objects(alloc, at, bad.as_slice()))

@@ -4,22 +4,41 @@ use cs_reports::object::{Object, sites};
 use cs_reports::{FaultWords, fault_site, with_fault};
 use cs_schema::{Catalog, FileName};
 use pinepolo_answers::{Drilled, Measure, is_failed};
-use pinepolo_places::DONE;
 use serde_json::Value;
 use std::alloc::{AllocError, Global};
 
 /// What a drill found.
-pub fn drilled_object(alloc: Global, drilled: &Drilled) -> Result<Value, AllocError> {
+pub fn drilled_object(
+    alloc: Global,
+    object: Object,
+    drilled: &Drilled,
+) -> Result<Value, AllocError> {
     let slowest = match drilled.slowest() {
         Some((loss, _measure)) => sites(alloc, loss),
         None => Ok(Value::Null),
     };
-    Object::of_verb(alloc, "drill")
-        .truth("ok", drilled.status() == DONE)
+    with_failures(alloc, object, drilled)?
         .number("at_most", u64::from(drilled.at_most))
         .member("losses", trial_objects(alloc, drilled))
         .member("slowest", slowest)
         .finish()
+}
+
+/// The object with how many losses failed, if any did.
+fn with_failures(alloc: Global, object: Object, drilled: &Drilled) -> Result<Object, AllocError> {
+    let failures = drilled.failures();
+    if failures == 0 {
+        return Ok(object);
+    }
+    let losses = drilled.trials.len();
+    let fault = format!(in alloc;
+        "{failures} of {losses} losses are not rebuilt as the store stands"
+    )?;
+    Ok(
+        object
+            .text("kind", "not rebuilt")
+            .text("fault", fault.as_str()),
+    )
 }
 
 /// The losses that were tried.

@@ -1,10 +1,11 @@
 //! Errors as JSON.
 use crate::bad_json::{bad_objects, with_call};
+use crate::run_json::RunWords;
 use cs_reports::object::Object;
 use cs_reports::with_fault;
 use cs_schema::FileName;
 use pinepolo_places::{CsvPlace, Refusal, SitesError, StoreError, Subject, VerbError};
-use pinepolo_text::{ErrorText, ErrorWords};
+use pinepolo_text::{ErrorNext, ErrorText, ErrorWords};
 use serde_json::Value;
 use std::alloc::{AllocError, Global};
 
@@ -86,6 +87,14 @@ fn with_refusal(object: Object, refusal: &Refusal) -> Object {
     }
 }
 
+/// The object with the call that failed, if one did.
+fn with_failed(alloc: Global, object: Object, text: &ErrorText<'_>) -> Result<Object, AllocError> {
+    match text.failed() {
+        Some(call) => with_call(alloc, object, call),
+        None => Ok(object),
+    }
+}
+
 /// The object with a fault of a store, or with all bad files if they are known.
 fn with_store(
     alloc: Global,
@@ -95,16 +104,10 @@ fn with_store(
 ) -> Result<Object, AllocError> {
     match text.at {
         Some(at) if !error.bad.is_empty() => {
-            let bad = bad_objects(alloc, at, error.bad.as_slice());
-            Ok(object.text("kind", "bad files").member("bad", bad))
+            let files = bad_objects(alloc, at, error.bad.as_slice());
+            Ok(object.text("kind", "bad files").member("files", files))
         }
-        _ => {
-            let object = with_fault(object, error.site, &error.fault);
-            match text.failed() {
-                Some(call) => with_call(alloc, object, call),
-                None => Ok(object),
-            }
-        }
+        _ => { with_failed(alloc, with_fault(object, error.site, &error.fault), text) }
     }
 }
 
@@ -123,19 +126,30 @@ fn with_device(
 }
 
 /// Why a verb ended early, as one object.
-pub fn error_object(alloc: Global, verb: &str, text: &ErrorText<'_>) -> Result<Value, AllocError> {
+pub fn error_object(
+    alloc: Global,
+    run: &RunWords<'_>,
+    text: &ErrorText<'_>,
+) -> Result<Value, AllocError> {
     let words = ErrorWords(*text);
     let fault = format!(in alloc; "{words}")?;
-    let object = Object::of_verb(alloc, verb)
-        .truth("ok", false)
+    let step = ErrorNext(*text);
+    let next = format!(in alloc; "{step}")?;
+    let object = run
+        .object(alloc, text.error.status(), next.as_str())
         .member("files", Ok(Value::Array(Vec::new(alloc))))
         .text("fault", fault.as_str());
     let object = match text.error {
         VerbError::NotUtf8 | VerbError::OutOfMemory => object,
         VerbError::Catalog(_, subject) => with_path(object.text("kind", "catalog"), subject),
         VerbError::Device(_, subject) => with_device(alloc, object, subject, text)?,
-        VerbError::Refused(refusal, subject) => with_path(with_refusal(object, refusal), subject),
-        VerbError::Sites(error) => object.text("kind", sites_kind(error)),
+        VerbError::Refused(refusal, subject) => {
+            let object = with_path(with_refusal(object, refusal), subject);
+            with_failed(alloc, object, text)?
+        }
+        VerbError::Sites(error) => {
+            with_failed(alloc, object.text("kind", sites_kind(error)), text)?
+        }
         VerbError::Store(error) => {
             with_path(with_store(alloc, object, error, text)?, &error.subject)
         }

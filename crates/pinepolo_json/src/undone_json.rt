@@ -7,13 +7,11 @@ use serde_json::Value;
 use std::alloc::{AllocError, Global};
 
 /// A store that has again what stood there before.
-pub fn undone_object(alloc: Global, undone: &Undone) -> Result<Value, AllocError> {
-    Object::of_verb(alloc, "undo")
-        .truth("ok", true)
+pub fn undone_object(alloc: Global, object: Object, undone: &Undone) -> Result<Value, AllocError> {
+    object
         .number("of", u64::from(undone.undoable.number))
         .member("files", name_objects(alloc, undone))
         .member("kept", Ok(count_or_null(undone.kept.map(u64::from))))
-        .member("fault", Ok(Value::Null))
         .finish()
 }
 

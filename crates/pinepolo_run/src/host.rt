@@ -4,6 +4,7 @@ ghost use Rattle.std.specs.Prelude.{◌≤◌};
 use cs_file_system::FailedCalls;
 use cs_rebuild::Run;
 use pinepolo_args::Request;
+use pinepolo_json::RunWords;
 use pinepolo_places::Sited;
 use pinepolo_text::At;
 use std::alloc::Global;
@@ -24,6 +25,10 @@ pub struct Host<'a, R, G> {
     pub calls: &'a FailedCalls,
     /// What stands before each fault: the program's name, unless a terminal shows it.
     pub prefix: &'a str,
+    /// The program, with its version.
+    pub program: &'a str,
+    /// When it began, in UTC, if the system tells the time.
+    pub time: Option<&'a str>,
 }
 
 impl<'a, R, G> Host<'a, R, G> {
@@ -37,6 +42,16 @@ impl<'a, R, G> Host<'a, R, G> {
             workers,
             cut: CUT,
             gate: self.gate,
+        }
+    }
+
+    /// What the answer to a request says of its run in JSON.
+    pub fn words(&self, request: &Request<'a>) -> RunWords<'a> {
+        RunWords {
+            program: self.program,
+            time: self.time,
+            command: request.verb.name(),
+            store: request.verb.path(),
         }
     }
 

@@ -5,7 +5,7 @@ ghost use Rattle.pinepolo_answers.specs.Statuses.{listed_status};
 ghost use Rattle.pinepolo_places.specs.Status.{status_of};
 
 use pinepolo_answers::{Answer, Dumped, Listed};
-use pinepolo_json::{answer_object, error_object};
+use pinepolo_json::{RunWords, answer_object, error_object};
 use pinepolo_places::{DEVICE, DONE, MEMORY, WorkKind};
 use pinepolo_text::{AnswerText, At, ErrorText, ListedText, Unfinished};
 use serde_json::Value;
@@ -23,12 +23,11 @@ fn object_text(alloc: Global, object: Result<Value, AllocError>) -> Option<Strin
     }
 }
 
-/// An answer's text, as JSON or as lines.
-fn text_of(alloc: Global, text: &AnswerText<'_>, json: bool) -> Option<String> {
-    if json {
-        object_text(alloc, answer_object(alloc, text))
-    } else {
-        format!(in alloc; "{text}").ok()
+/// An answer's text, as JSON of a run or as lines.
+fn text_of(alloc: Global, text: &AnswerText<'_>, json: Option<&RunWords<'_>>) -> Option<String> {
+    match json {
+        Some(run) => object_text(alloc, answer_object(alloc, run, text)),
+        None => format!(in alloc; "{text}").ok(),
     }
 }
 
@@ -72,7 +71,7 @@ fn print<W: Write, E: Write>(
 pub fn say<W: Write, E: Write>(
     alloc: Global,
     text: &AnswerText<'_>,
-    json: bool,
+    json: Option<&RunWords<'_>>,
     out: &mut W,
     err: &mut E,
 ) -> u8
@@ -157,7 +156,7 @@ pub fn report<E: Write>(text: &ErrorText<'_>, err: &mut E) -> u8
 /// Prints as JSON why a verb ended early.
 pub fn say_object<W: Write, E: Write>(
     alloc: Global,
-    verb: &str,
+    run: &RunWords<'_>,
     text: &ErrorText<'_>,
     out: &mut W,
     err: &mut E,
@@ -165,6 +164,6 @@ pub fn say_object<W: Write, E: Write>(
     ensures { (result ≡ status_of text.now.error.now) ⊎ ((result ≡ MEMORY) ⊎ (result ≡ DEVICE)) }
 {
     let status = text.error.status();
-    let object = object_text(alloc, error_object(alloc, verb, text));
+    let object = object_text(alloc, error_object(alloc, run, text));
     print(object, status, text.prefix, out, err)
 }

@@ -70,7 +70,9 @@ pub fn run<'a, R: Threads + Sync, G: Progress + Sync, P: World, W: Write, E: Wri
                 answer: &answer,
                 at: host.at(request),
             };
-            say(host.alloc, &text, request.json, out, err)
+            let words = host.words(request);
+            let json = if request.json { Some(&words) } else { None };
+            say(host.alloc, &text, json, out, err)
         }
         Err(error) => say_error(host, &error, request, out, err),
     }
@@ -108,7 +110,7 @@ pub fn say_error<'a, R, G, W: Write, E: Write>(
     };
     match error {
         VerbError::OutOfMemory => report(&text, err),
-        _ if request.json => say_object(host.alloc, request.verb.name(), &text, out, err),
+        _ if request.json => say_object(host.alloc, &host.words(request), &text, out, err),
         _ => report(&text, err),
     }
 }

@@ -7,8 +7,9 @@ use crate::system_words::failed_call;
 use crate::unread::{BadFileLine, Mend, Unread};
 use cs_file_system::FailedCall;
 use cs_reports::{Next, StoreWords};
+use cs_schema::Loss;
 use cs_store::Fault;
-use pinepolo_places::{AwaySite, Failure, Step, StoreError, VerbError};
+use pinepolo_places::{AwaySite, Failure, Refusal, Step, StoreError, VerbError};
 use std::fmt;
 
 /// Writes what the store is now, if work on it stopped halfway.
@@ -93,10 +94,28 @@ impl<'a> ErrorText<'a> {
             return Mend::before(at, why);
         }
         match self.error {
+            // (what to see to is more than what the call failed at)
+            VerbError::Refused(Refusal::Unknown(_), _) => None,
             VerbError::Store(error) if !error.bad.is_empty() => {
                 Mend::first(at, error.bad.as_slice())
             }
-            _ => Mend::after(self.failed()?),
+            _ => match self.failed_mend() {
+                None if self.has_no_copy() => Some(Mend::Mount(Loss::none())),
+                mend => mend,
+            },
+        }
+    }
+
+    /// What is to be mended after the call that failed, if that is known.
+    fn failed_mend(&self) -> Option<Mend<'a>> {
+        Mend::after(self.failed()?)
+    }
+
+    /// Whether no folder of a site has a copy of the catalog.
+    fn has_no_copy(&self) -> bool {
+        match self.error {
+            VerbError::Device(Failure::ReadCatalog, _) => self.sites().is_some(),
+            _ => false,
         }
     }
 }
@@ -105,32 +124,51 @@ impl<'a> ErrorText<'a> {
 #[derive(Clone, Copy)]
 pub struct ErrorWords<'a>(pub ErrorText<'a>);
 
+/// Writes the site that an error is about, if it is about one.
+fn write_site<W: fmt::Write>(f: &mut fmt::Formatter<W>, error: &VerbError) -> fmt::Result {
+    match error {
+        VerbError::Store(
+            StoreError {
+                site: Some(site),
+                ..
+            },
+        ) => write!(f, "site {site}: "),
+        _ => Ok(()),
+    }
+}
+
 impl ErrorWords<'_> {
     /// Writes what failed, and what the system said of it: of a call on the path that the error is about, only why.
     fn write_failed<W: fmt::Write>(&self, f: &mut fmt::Formatter<W>) -> fmt::Result {
         let error = self.0.error;
         let texts = error_texts(error);
-        if let (
-            VerbError::Store(
-                StoreError {
-                    fault: Fault::Write(_),
-                    ..
-                },
-            ),
-            Some(call),
-        ) = (error, self.0.failed())
-        {
-            return write!(f, "could not {call}");
-        }
-        write_text(f, error, texts.said, None)?;
         match (error, self.0.failed()) {
-            (VerbError::Store(_), _) => Ok(()),
-            (error, Some(call)) if error.is_about(call.path.as_str()) => {
-                let why = call.error;
-                write!(f, ": {why}")
+            (
+                VerbError::Store(
+                    StoreError {
+                        fault: Fault::Write(_),
+                        ..
+                    },
+                ),
+                Some(call),
+            ) => {
+                write_site(f, error)?;
+                write!(f, "could not {call}")
             }
-            (_, Some(call)) => write!(f, ": {call}"),
-            (_, None) => f.write_str(texts.found),
+            (VerbError::Store(_), _) => write_text(f, error, texts.said, None),
+            (_, Some(call)) => {
+                write_text(f, error, texts.said, None)?;
+                if error.is_about(call.path.as_str()) {
+                    let why = call.error;
+                    write!(f, ": {why}")
+                } else {
+                    write!(f, ": {call}")
+                }
+            }
+            (_, None) => {
+                write_text(f, error, texts.said, None)?;
+                f.write_str(texts.found)
+            }
         }
     }
 
@@ -140,18 +178,13 @@ impl ErrorWords<'_> {
         f: &mut fmt::Formatter<W>,
         why: Unread<'_>,
     ) -> fmt::Result {
-        match (why, self.0.error) {
-            (
-                Unread::Failed(_),
-                VerbError::Store(
-                    StoreError {
-                        site: Some(site),
-                        ..
-                    },
-                ),
-            ) => { write!(f, "site {site}: {why}") }
-            (_, error) => {
-                write_text(f, error, "{2}", None)?;
+        match why {
+            Unread::Failed(_) => {
+                write_site(f, self.0.error)?;
+                write!(f, "{why}")
+            }
+            _ => {
+                write_text(f, self.0.error, "{2}", None)?;
                 write!(f, ": {why}")
             }
         }
@@ -163,7 +196,11 @@ impl fmt::Display for ErrorWords<'_> {
         let error = self.0.error;
         if let VerbError::Sites(error) = error {
             let words = SitesWords(error);
-            return write!(f, "{words}");
+            write!(f, "{words}")?;
+            return match self.0.failed() {
+                Some(call) => write!(f, ": could not {call}"),
+                None => Ok(()),
+            };
         }
         if let Some(away) = self.0.missed() {
             let (site, folder) = (away.site, away.folder.as_str());

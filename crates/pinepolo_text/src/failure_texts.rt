@@ -40,7 +40,7 @@ pub fn failure_text(failure: &Failure) -> ErrorTexts {
         Failure::ReadCatalog => again(
             "could not read the catalog at {0}",
             ": not a regular file, or longer than 1 MiB",
-            "check that {0} is a store, and that its catalog is a regular file of at most 1 MiB",
+            "check that {0} is a store whose disk is mounted, and that its catalog is a regular file of at most 1 MiB",
         ),
         Failure::ReadManifest => again(
             "could not read {0}",

@@ -14,12 +14,12 @@ use serde_json::Value;
 use std::alloc::{AllocError, Global};
 use std::fmt;
 
-/// What `show --json` prints of a file.
-pub fn file_object(alloc: Global, view: &FileView) -> Result<Value, AllocError> {
+/// The object with what `show --json` prints of a file.
+pub fn file_object(alloc: Global, object: Object, view: &FileView) -> Result<Value, AllocError> {
     let name = view.name;
     let path = name.path();
     let site = site_of(&view.catalog, name.projection(), name.segment());
-    let object = Object::of_verb(alloc, "show")
+    let object = object
         .text("path", path.as_str())
         .member("site", Ok(number_or_null(site)))
         .number("bytes", view.report.length as u64);

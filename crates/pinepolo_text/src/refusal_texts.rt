@@ -96,7 +96,7 @@ pub fn refusal_texts(refusal: &Refusal) -> (&'static str, &'static str) {
         ),
         Refusal::BrokenLink(_) => (
             "{0}/{4} is a link that leads nowhere, or to a file of another name",
-            "bring its disk back, or name the folder of each site in a file: --sites FILE",
+            "mount its disk, then run it again\nif that cannot be done: recover its site into a new folder, and put the files in place",
         ),
     }
 }

@@ -1,7 +1,7 @@
 //! What the system said of the call by which a verb failed.
 use cs_file_system::{FailedCall, FailedCalls, Operation};
 use cs_store::Fault;
-use pinepolo_places::{Failure, StoreError, Subject, VerbError};
+use pinepolo_places::{Failure, RESTORING, Refusal, SitesError, StoreError, Subject, VerbError};
 use std::io::ErrorKind;
 
 /// The call that failed at what a failure is about, if the system said anything of it. That nothing is there counts if it was
@@ -46,6 +46,14 @@ pub fn failed_call<'a>(error: &VerbError, calls: &'a FailedCalls) -> Option<&'a 
                 ..
             },
         ) => { calls.last() }
+        VerbError::Refused(Refusal::Unknown(_), _) => calls.last_of_file(RESTORING),
+        VerbError::Refused(Refusal::Incomplete(_, name), _) => {
+            calls.last_of_file(name.path().as_str())
+        }
+        VerbError::Sites(SitesError::NotFree(path)) => match calls.last_below(path.as_str()) {
+            Some(call) => Some(call),
+            None => calls.missing_in(path.as_str(), ""),
+        },
         _ => None,
     }
 }

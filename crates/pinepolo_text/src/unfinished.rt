@@ -33,9 +33,8 @@ impl fmt::Display for Unfinished<'_> {
     }
 }
 
-/// The object with whether work was left unfinished, and its kind.
+/// The object with the kind of work that was left unfinished, or null.
 pub fn with_unfinished(object: Object, unfinished: Option<WorkKind>) -> Object {
-    let object = object.truth("restoring", unfinished.is_some());
     match unfinished {
         Some(WorkKind::Restore) => object.text("unfinished", "restore"),
         Some(WorkKind::Undo) => object.text("unfinished", "undo"),

@@ -75,7 +75,7 @@ impl fmt::Display for BadFileLine<'_> {
 /// What is to be mended before a file that could not be read is taken for lost. Its text has no end.
 #[derive(Clone, Copy)]
 pub enum Mend<'a> {
-    /// The disks of these sites are to be mounted.
+    /// The disks of these sites are to be mounted; of all if it names none.
     Mount(Loss),
     /// What this call failed at, by the text of the advice.
     Call(&'static str, &'a FailedCall),
@@ -134,11 +134,11 @@ impl<'a> Mend<'a> {
 impl fmt::Display for Mend<'_> {
     fn fmt<W: fmt::Write>(&self, f: &mut fmt::Formatter<W>) -> fmt::Result {
         match self {
-            Mend::Mount(sites) if sites.count() > 1 => write!(
-                f,
-                "mount the disks of sites {sites}"
-            ),
-            Mend::Mount(sites) => write!(f, "mount the disk of site {sites}"),
+            Mend::Mount(sites) => match sites.count() {
+                0 => f.write_str("mount the disks of its sites"),
+                1 => write!(f, "mount the disk of site {sites}"),
+                _ => write!(f, "mount the disks of sites {sites}"),
+            },
             Mend::Call(text, call) => fill(f, text, &[ShellWord(call.path.as_str())]),
         }
     }

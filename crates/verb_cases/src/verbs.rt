@@ -33,6 +33,8 @@ fn host_of<'a, R: AllocGlobal>(rt: &'a R, calls: &'a FailedCalls) -> Host<'a, R,
         sites: None,
         calls,
         prefix: "",
+        program: "pinepolo",
+        time: Some("2026-01-01T00:00:00Z"),
     }
 }
 
