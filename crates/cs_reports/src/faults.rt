@@ -49,7 +49,7 @@ fn unsafe_text(safety: Safety, takes_columns: bool) -> &'static str {
 fn fault_text(fault: &Fault) -> &'static str {
     match fault {
         Fault::Site => ", which has sites 1 to {0}",
-        Fault::Missing(_) | Fault::Damaged(_) | Fault::Read(_) => " ({0})",
+        Fault::Missing(_) | Fault::Damaged(_) | Fault::Read(_) | Fault::Write(Some(_)) => " ({0})",
         Fault::Twice => ": two rows have one key; the bad file may be on any site",
         Fault::Astray { .. } => {
             " ({0}): a join index leads from this row to no row; the bad file may be on another site"
@@ -70,9 +70,10 @@ fn fault_text(fault: &Fault) -> &'static str {
 /// The segment that a fault is about.
 fn segment_of(fault: &Fault) -> Option<(u16, u16)> {
     match fault {
-        Fault::Missing(name) | Fault::Damaged(name) | Fault::Read(name) => {
-            Some((name.projection(), name.segment()))
-        }
+        Fault::Missing(name)
+        | Fault::Damaged(name)
+        | Fault::Read(name)
+        | Fault::Write(Some(name)) => Some((name.projection(), name.segment())),
         Fault::Astray { p, s, .. } | Fault::Misled { p, s, .. } => Some((*p, *s)),
         Fault::Full { p, s } | Fault::Misplaced { p, s } => Some((*p, *s)),
         _ => None,

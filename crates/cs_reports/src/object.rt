@@ -19,11 +19,6 @@ impl Object {
         }
     }
 
-    /// What a verb answers, so far: the version of the form, which is 1, and the verb's name.
-    pub fn of_verb(alloc: Global, verb: &str) -> Self {
-        Self::new(alloc).number("version", 1).text("command", verb)
-    }
-
     /// The object with one more member, in the place of one that had its name.
     pub fn member(self, name: &str, value: Result<Value, AllocError>) -> Self {
         let Object { alloc, members } = self;
