@@ -64,7 +64,7 @@ fn host_of<'a, R: AllocGlobal, G>(
     }
 }
 
-/// The same over the folders of sites that were found.
+/// What a verb runs on, over a store whose sites have folders of their own, as they were found.
 fn with_sites<'a, R, G>(host: Host<'a, R, G>, sited: &'a SitedRequest<'_>) -> Host<'a, R, G> {
     Host {
         sites: sited.sites(),
